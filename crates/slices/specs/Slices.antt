@@ -1,5 +1,5 @@
 -- What calls leave in lent slices.
-use mathlib.Core.List.{List, _++_}
+use mathlib.Core.List.{List, [], _∷_, _++_}
 use lib.IntN.{ℤ, pos}
 use lib.ListN.{length, drop, replicate}
 
@@ -10,3 +10,8 @@ laid p o = p ++ drop (length p) o
 -- as many zeros as were lent
 abbrev pub zeros : List ℤ → List ℤ
 zeros xs = replicate (length xs) (pos 0)
+
+-- P holds of every element of l
+abbrev pub All : {A : Type 0} → (A → Type 0) → List A → Type 0
+All P [] = Unit {0}
+All P (x ∷ l) = P x × All P l

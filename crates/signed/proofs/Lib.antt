@@ -1,0 +1,7 @@
+pub mod Order
+pub mod Up
+pub mod Bits
+pub mod Ranges
+pub mod Sums
+pub mod Signs
+pub mod Quotients

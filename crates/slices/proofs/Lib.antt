@@ -1,0 +1,4 @@
+pub mod Lists
+pub mod Laid
+pub mod Parts
+pub mod Every

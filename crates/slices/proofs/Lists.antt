@@ -1,0 +1,52 @@
+-- Loops that write a slice from its start, over any element type, at the code's `i + 1`. Assumes nothing.
+--     fill-, copy-, mapped-     a store after i stores, and the end, where a slice is filled, copied over, or mapped in place
+use mathlib.Core.Path.{_≡_, refl, sym, ap, _∙_}
+use mathlib.Core.List.{List, [], _∷_, _++_, append-nil, map}
+use Prim.Native.Nat.{ℕ, zero, suc, _+_, _≤_, _<_}
+use native.Mathlib.Nat.{not-suc-le-zero, le-of-suc-le-suc}
+use native.Mathlib.Numerals.{add-one}
+use lib.ListN.{length, set, getD, take, drop, replicate, drop-of-length-le}
+use lib.Seq.{take-all}
+
+fill-suc : {A : Type 0} (n : ℕ) (v : A) (d : List A) → n < length d → set (replicate n v ++ drop n d) n v ≡ replicate (suc n) v ++ drop (suc n) d
+fill-suc n v [] l = absurd (not-suc-le-zero l)
+fill-suc zero v (x ∷ d) l = refl
+fill-suc (suc n) v (x ∷ d) l = ap (λ t. v ∷ t) (fill-suc n v d (le-of-suc-le-suc l))
+
+-- a store of v at n, after n stores of v
+pub fill-more : {A : Type 0} (n : ℕ) (v : A) (d : List A) → n < length d → set (replicate n v ++ drop n d) n v ≡ replicate (n + 1) v ++ drop (n + 1) d
+fill-more n v d l = rw add-one (fill-suc n v d l)
+
+-- stores to the end
+pub fill-all : {A : Type 0} (n : ℕ) (v : A) (d : List A) → length d ≡ n → replicate n v ++ drop n d ≡ replicate (length d) v
+fill-all n v d e = rw (drop-of-length-le d {i = n} (rw e (native.Mathlib.Nat.le-refl n)), append-nil, e)
+
+store-suc : {A : Type 0} (src dst : List A) (i : ℕ) (d : A) → i < length src → i < length dst → set (take i src ++ drop i dst) i (getD src i d) ≡ take (suc i) src ++ drop (suc i) dst
+store-suc [] dst i d h k = absurd (not-suc-le-zero h)
+store-suc (x ∷ xs) [] i d h k = absurd (not-suc-le-zero k)
+store-suc (x ∷ xs) (y ∷ ys) zero d h k = refl
+store-suc (x ∷ xs) (y ∷ ys) (suc i) d h k = ap (λ l. x ∷ l) (store-suc xs ys i d (le-of-suc-le-suc h) (le-of-suc-le-suc k))
+
+-- a store of src's element at i, after i such stores
+pub copy-more : {A : Type 0} (src dst : List A) (i : ℕ) (d : A) → i < length src → i < length dst → set (take i src ++ drop i dst) i (getD src i d) ≡ take (i + 1) src ++ drop (i + 1) dst
+copy-more src dst i d h k = rw add-one (store-suc src dst i d h k)
+
+pub copy-all : {A : Type 0} (src dst : List A) (i : ℕ) → i ≡ length src → take i src ++ drop i dst ≡ src ++ drop (length src) dst
+copy-all src dst i e = rw (e, take-all (length src) src (native.Mathlib.Nat.le-refl (length src)))
+
+-- ---- a loop that maps in place: after i turns, `map f (take i l) ++ drop i l`
+pub mapped-at : {A : Type 0} (f : A → A) (l : List A) (i : ℕ) (d : A) → i < length l → getD (map f (take i l) ++ drop i l) i d ≡ getD l i d
+mapped-at f [] i d h = absurd (not-suc-le-zero h)
+mapped-at f (x ∷ l) zero d h = refl
+mapped-at f (x ∷ l) (suc i) d h = mapped-at f l i d (le-of-suc-le-suc h)
+
+mapped-suc : {A : Type 0} (f : A → A) (l : List A) (i : ℕ) (d : A) → i < length l → set (map f (take i l) ++ drop i l) i (f (getD l i d)) ≡ map f (take (suc i) l) ++ drop (suc i) l
+mapped-suc f [] i d h = absurd (not-suc-le-zero h)
+mapped-suc f (x ∷ l) zero d h = refl
+mapped-suc f (x ∷ l) (suc i) d h = ap (λ t. f x ∷ t) (mapped-suc f l i d (le-of-suc-le-suc h))
+
+pub mapped-more : {A : Type 0} (f : A → A) (l : List A) (i : ℕ) (d : A) → i < length l → set (map f (take i l) ++ drop i l) i (f (getD l i d)) ≡ map f (take (i + 1) l) ++ drop (i + 1) l
+mapped-more f l i d h = rw add-one (mapped-suc f l i d h)
+
+pub mapped-all : {A : Type 0} (f : A → A) (l : List A) (i : ℕ) → i ≡ length l → map f (take i l) ++ drop i l ≡ map f l
+mapped-all f l i e = rw (e, take-all (length l) l (native.Mathlib.Nat.le-refl (length l)), drop-of-length-le l {i = length l} (native.Mathlib.Nat.le-refl (length l)), append-nil (map f l))

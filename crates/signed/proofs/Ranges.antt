@@ -1,5 +1,5 @@
 -- What `within` gives, by where the number lies; a magnitude with a sign as an i64. Assumes nothing.
-use mathlib.Core.Path.{_≡_, sym, ap, _∙_, subst}
+use mathlib.Core.Path.{_≡_, refl, sym, ap, _∙_, subst}
 use mathlib.Core.Bool.{Bool, true, false}
 use Prim.Native.Nat.{ℕ, zero, suc, _≤_, _<_, _^_}
 use native.Mathlib.Omega.{arith}
@@ -49,6 +49,14 @@ negated-is n f = ap (λ (z : ℤ). pos 0 -ℤ z) (toZ-pos w64 f) ∙ +ℤ-idl (n
 
 pub negated-fits : (n : ℕ) → n < 2 ^ 63 → SFits w64 (pos 0 -ℤ toZ w64 n)
 negated-fits n f = subst (λ (z : ℤ). SFits w64 z) (sym (negated-is n f)) (record { sfits = mag-neg-lt n (omega arith) })
+
+-- -n - 1, as it is made
+pub less-one : (n : ℕ) → n < 2 ^ 63 → read (pos 0 -ℤ toZ w64 n) -ℤ pos 1 ≡ negsuc n
+less-one n f = ap (λ (z : ℤ). z -ℤ pos 1) (reads (negated-fits n f) ∙ negated-is n f) ∙ one-less n
+  where
+    one-less : (n : ℕ) → negℤ (pos n) -ℤ pos 1 ≡ negsuc n
+    one-less zero = refl
+    one-less (suc n) = ap negsuc (omega arith)
 
 pub negated : (neg : Bool) (n : ℕ) → neg ≡ true → n < 2 ^ 63 → Is (read (pos 0 -ℤ toZ w64 n)) ≡ within (withSign neg n)
 negated neg n e f =

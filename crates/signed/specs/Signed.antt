@@ -1,8 +1,8 @@
 -- Integers that an i64 holds, equality of integers, and a magnitude with a sign.
-use Prim.Native.Nat.{ℕ, _<_, _^_}
+use Prim.Native.Nat.{ℕ, _*_, _<_, _^_}
 use mathlib.Core.Bool.{Bool, true, false}
 use lib.Dec.{eqb, ltb}
-use lib.IntN.{ℤ, pos, negsuc, negℤ}
+use lib.IntN.{ℤ, pos, negsuc, negℤ, _-ℤ_}
 use lib.Signed.{mag}
 use Rattle.choice.specs.Choice.{if_then_else_}
 use Rattle.signed.specs.declared.Held.{Held}
@@ -27,3 +27,7 @@ eqZ (negsuc a) (negsuc b) = eqb a b
 abbrev pub withSign : Bool → ℕ → ℤ
 withSign true n = negℤ (pos n)
 withSign false n = pos n
+
+-- the signed number that the bits of x are, where the numbers below 2 · half have that many bits
+unfoldable pub ofBits : ℕ → ℕ → ℤ
+ofBits half x = if ltb x half then pos x else pos x -ℤ pos (2 * half)

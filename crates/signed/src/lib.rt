@@ -4,7 +4,7 @@ ghost use mathlib.Core.Path.{_≡_};
 ghost use Prim.Native.Nat.{_<_, _^_};
 ghost use lib.IntN.{pos, negℤ, natAbs, _+ℤ_, _-ℤ_};
 ghost use lib.Signed.{ltZ, leZ, _≤ℤ_, mag};
-ghost use Rattle.signed.specs.Signed.{eqZ, within, withSign};
+ghost use Rattle.signed.specs.Signed.{eqZ, within, withSign, ofBits};
 ghost use Rattle.signed.specs.Rounded.{rounded};
 
 // A number, or none where an i64 doesn't hold it.
@@ -68,6 +68,26 @@ pub fn with_sign(neg: bool, m: u64) -> Held
         }
     }
     Held::Outside
+}
+
+// The number that 32 bits are: the Rust's `as i32 as i64`.
+pub fn of_bits32(x: u32) -> i64
+    ensures { λ r. ⌜ r ≡ ofBits (2 ^ 31) x ⌝ }
+{
+    if x < 0x8000_0000 {
+        return x as i64;
+    }
+    -((0xffff_ffff - x) as i64) - 1
+}
+
+// The number that 64 bits are: the Rust's `as i64`.
+pub fn of_bits64(x: u64) -> i64
+    ensures { λ r. ⌜ r ≡ ofBits (2 ^ 63) x ⌝ }
+{
+    if x < 0x8000_0000_0000_0000 {
+        return x as i64;
+    }
+    -((0xffff_ffff_ffff_ffff - x) as i64) - 1
 }
 
 // -x.

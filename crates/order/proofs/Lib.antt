@@ -1,0 +1,10 @@
+pub mod Lists
+pub mod Sorted
+pub mod Counts
+pub mod Settling
+pub mod Merging
+pub mod Joining
+pub mod Halves
+pub mod Runs
+pub mod Mode
+pub mod Examples

@@ -1,0 +1,3 @@
+pub mod Microseconds
+pub mod Nearness
+pub mod Edits

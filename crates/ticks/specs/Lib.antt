@@ -1,0 +1,4 @@
+pub mod Ticks
+pub mod Steps
+pub mod Nearest
+pub mod Examples

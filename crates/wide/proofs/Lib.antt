@@ -1,0 +1,4 @@
+pub mod Words
+pub mod Products
+pub mod Division
+pub mod Rooms

@@ -1,0 +1,11 @@
+use borrow.Author.Needs.{needs}
+use Rattle.wide.proofs.Division.{divided}
+use Rattle.wide.proofs.next_digit.Statement.{statement}
+use Rattle.wide.proofs.next_digit.Tie as tie
+
+returns : tie.Need-returns
+returns c = divided (c .args .rest) (c .args .digit) (c .args .d) (c .pre .0) (c .pre .1) (c .pre .2)
+
+pub next-digit-spec : {M : Type 1} → statement M
+next-digit-spec = tie.close (tie.spec
+    (λ c. search needs) (λ c. search needs) (λ c. search needs) (λ c. search needs) returns)

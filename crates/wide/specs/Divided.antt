@@ -1,0 +1,10 @@
+-- One step of a long division in base 2^32.
+use mathlib.Core.Path.{_≡_}
+use Prim.Native.Nat.{ℕ, _+_, _*_, _^_, _<_}
+use Rattle.wide.specs.declared.Digit.{Digit}
+
+-- the remainder so far and the next digit, divided by d: a digit of the quotient, and a remainder below d
+pub record Divided (rest digit d : ℕ) (r : Digit) : Type 0 where
+  pub is : r .quotient * d + r .rest ≡ rest * 2 ^ 32 + digit
+  pub left : r .rest < d
+  pub small : r .quotient < 2 ^ 32

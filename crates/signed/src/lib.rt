@@ -1,5 +1,5 @@
 // i64 numbers: equality, order, sums and differences that say where they leave the range, magnitude, negation.
-// Nothing else in the repository adds, negates or divides signed numbers.
+// The laws that let sums of signed numbers be told from sums of natural ones are in proofs/; other crates cite them.
 ghost use mathlib.Core.Path.{_≡_};
 ghost use Prim.Native.Nat.{_<_, _^_};
 ghost use lib.IntN.{pos, negℤ, natAbs, _+ℤ_, _-ℤ_};

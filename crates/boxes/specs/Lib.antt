@@ -1,0 +1,4 @@
+pub mod Bytes
+pub mod Boxes
+pub mod Places
+pub mod Tracks

@@ -1,0 +1,98 @@
+-- A part of the caller's own bytes, and what each search answers: a part's place, or this paper's number.
+use Prim.Native.Nat.{ℕ, _+_, _-_, _≤_}
+use mathlib.Core.List.{List, [], _∷_}
+use mathlib.Core.Bool.{Bool, false}
+use mathlib.Core.Path.{_≡_}
+use denote.Ref.{RefT, now}
+use lib.ListN.{length, take, drop}
+use lib.Dec.{ltb, eqb}
+use Rattle.choice.specs.Choice.{if_then_else_}
+use Rattle.boxes.specs.Bytes.{moov, udta, mtrm}
+use Rattle.boxes.specs.Boxes.{mostBytes, Boxes, clean, bad, box, boxesOf, searched, textual, firstOf}
+use Rattle.boxes.specs.declared.Place.{Place}
+use Rattle.boxes.specs.declared.Place.the-variants.{At, Refused}
+use Rattle.boxes.specs.declared.Walk.{Walk}
+use Rattle.boxes.specs.declared.Walk.the-variants.{Found, End, Bad as BadAt}
+
+-- the place of what a walk found, or a number
+abbrev pub placeOr : ℕ → Walk → Place
+placeOr n (Found start len) = At start len
+placeOr n End = Refused n
+placeOr n (BadAt at) = Refused n
+
+-- the bytes at a place; none where it is refused
+abbrev pub partOf : List ℕ → Place → List ℕ
+partOf s (At start len) = take len (drop start s)
+partOf s (Refused n) = []
+
+-- where a part starts; nothing starts at 0
+abbrev pub startOf : Place → ℕ
+startOf (At start len) = start
+startOf (Refused n) = 0
+
+-- the part at a place lies within so many bytes
+abbrev pub Within : ℕ → Place → Type 0
+Within l (At start len) = start + len ≤ l
+Within l (Refused n) = Unit {0}
+
+-- r is the part of s at a place: its bytes, and it lies in the memory of s, so far after the first byte of s
+pub record PartAt (s : RefT (List ℕ)) (p : Place) (r : RefT (List ℕ)) : Type 0 where
+  pub bytes : now r ≡ partOf (now s) p
+  pub place : r .ptr ≡ (s .ptr .0, s .ptr .1 + startOf p)
+
+-- a place in a part that starts at `by`, as a place in the whole
+abbrev pub moved : ℕ → Place → Place
+moved by (At start len) = At (by + start) len
+moved by (Refused n) = Refused n
+
+-- what a search in the part at a place answers, as a place in the whole
+abbrev pub inPart : List ℕ → Place → (List ℕ → Place) → Place
+inPart s (At start len) search = moved start (search (take len (drop start s)))
+inPart s (Refused n) search = Refused n
+
+-- the first box of a type among some bytes, with text types or without; 31 where there is none
+abbrev pub firstIn : ℕ → Bool → List ℕ → Place
+firstIn kind text s = placeOr 31 (firstOf kind (searched text (boxesOf s)))
+
+-- the payload of the first child of a type
+abbrev pub childIn : ℕ → List ℕ → Place
+childIn kind s = firstIn kind false s
+
+abbrev pub childOf : ℕ → List ℕ → List ℕ
+childOf kind s = partOf s (childIn kind s)
+
+-- `child`: 30, 31
+unfoldable pub childPlace : List ℕ → ℕ → Place
+childPlace payload kind =
+    if ltb mostBytes (length payload) then Refused 30
+    else childIn kind payload
+
+-- `find_box`, in the bytes from `start` to `end`: 30, 42, 31
+unfoldable pub findBoxPlace : List ℕ → ℕ → ℕ → ℕ → Bool → Place
+findBoxPlace bytes start end kind text =
+    if ltb mostBytes (length bytes) then Refused 30
+    else if ltb (length bytes) end then Refused 42
+    else if ltb end start then Refused 42
+    else inPart bytes (At start (end - start)) (firstIn kind text)
+
+-- the payloads of all boxes of a type
+unfoldable pub allOf : ℕ → Boxes → List Place
+allOf kind clean = []
+allOf kind (bad at) = []
+allOf kind (box at k start len rest) = if eqb k kind then At start len ∷ allOf kind rest else allOf kind rest
+
+-- the only one of some places: none is 40, more are 41
+abbrev pub onlyOf : List Place → Place
+onlyOf [] = Refused 40
+onlyOf (p ∷ []) = p
+onlyOf (p ∷ q ∷ l) = Refused 41
+
+-- the only MTRM of the first udta of a moov
+unfoldable pub tableOf : List ℕ → Place
+tableOf m = inPart m (placeOr 40 (firstOf udta (boxesOf m))) (λ u. onlyOf (allOf mtrm (boxesOf u)))
+
+-- `table_text`, in the first moov of a file, with text types: 30, 40, 41
+unfoldable pub tableTextPlace : List ℕ → Place
+tableTextPlace file =
+    if ltb mostBytes (length file) then Refused 30
+    else inPart file (placeOr 40 (firstOf moov (textual (boxesOf file)))) tableOf

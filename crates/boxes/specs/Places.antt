@@ -1,4 +1,4 @@
--- A part of the caller's own bytes, and what each search answers: a part's place, or this paper's number.
+-- A part of the caller's own bytes, and what each search answers: a part's place, or a refusal's number.
 use Prim.Native.Nat.{ℕ, _+_, _-_, _≤_}
 use mathlib.Core.List.{List, [], _∷_}
 use mathlib.Core.Bool.{Bool, false}

@@ -105,10 +105,8 @@ pub fn find_box_place(bytes: &[u8], start: usize, end: usize, kind: u32, text_ty
     if end < start {
         return Place::Refused(42);
     }
-    moved(
-        start,
-        place_or(31, find(&bytes[start..end], kind, text_types)),
-    )
+    let found = find(&bytes[start..end], kind, text_types);
+    moved(start, place_or(31, found))
 }
 
 // That payload, as that part of the caller's bytes; empty on a refusal.

@@ -1,0 +1,4 @@
+pub mod Lent
+pub mod Answers
+pub mod Laws
+pub mod Steps

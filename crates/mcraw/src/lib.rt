@@ -1,0 +1,147 @@
+// The frame times of a MotionCam recording, of its frames' timestamps in nanoseconds.
+ghost use mathlib.Core.Path.{_≡_};
+ghost use Prim.Native.Nat.{_-_, _≤_};
+ghost use lib.ListN.{length};
+ghost use Rattle.signed.specs.Signed.{I64};
+ghost use Rattle.slices.specs.Slices.{laid, All};
+ghost use Rattle.mcraw.specs.Mcraw.{gaps, startsOf, nominal, fallOf, timesOf, written, Answered};
+use choice::Refusal;
+use signed::Held;
+
+// The most timestamps, and the timescale of a recording.
+pub const MOST_TIMESTAMPS: usize = 16_777_216;
+
+pub const NANOSECONDS: u64 = 1_000_000_000;
+
+// The refusals: too many timestamps, no times to be had, too little room, a number outside i64, timestamps that fall.
+pub const TOO_MANY: u64 = 30;
+
+pub const NO_TIMES: u64 = 31;
+
+pub const NO_ROOM: u64 = 32;
+
+pub const OUT_OF_RANGE: u64 = 33;
+
+pub const FALLING: u64 = 34;
+
+// The times of a recording's frames, or a refusal's number and index.
+pub enum Times {
+    Timed {
+        frames: usize,
+        scale: u64,
+        nominal: i64,
+        end: i64,
+    },
+    Refused(u64, usize),
+}
+
+// The first timestamp that lies below the one before it.
+fn first_fall(ts: &[i64]) -> Refusal
+    ensures { λ r. ⌜ r ≡ fallOf (now (ts .entry)) ⌝ }
+{
+    let mut i: usize = 1;
+    while i < ts.len() {
+        let before = i - 1;
+        let x = ts[i];
+        let y = ts[before];
+        if x < y {
+            return Refusal::At(FALLING, i);
+        }
+        i += 1;
+    }
+    Refusal::Never
+}
+
+// Writes each timestamp less the one before it.
+fn write_intervals(ts: &[i64], out: &mut [i64])
+    requires { ⌜ (length (now out) ≡ length (now ts) - 1) × All I64 (gaps (now ts)) ⌝ }
+    ensures { λ _. ⌜ now (out .exit) ≡ gaps (now (ts .entry)) ⌝ }
+{
+    let mut i: usize = 1;
+    while i < ts.len() {
+        out[i - 1] = ts[i] - ts[i - 1];
+        i += 1;
+    }
+}
+
+// The lower middle one of the intervals, which are left in out.
+fn middle_interval(ts: &[i64], out: &mut [i64]) -> i64
+    requires { ⌜ (2 ≤ length (now ts)) × (length (now out) ≡ length (now ts) - 1) × All I64 (gaps (now ts)) ⌝ }
+    ensures { λ r. ⌜ r ≡ nominal (now (ts .entry)) ⌝ }
+{
+    write_intervals(ts, out);
+    order::kth(out, (ts.len() - 2) / 2)
+}
+
+// Writes each timestamp less the first over the start of starts.
+fn write_starts(ts: &[i64], starts: &mut [i64])
+    requires { ⌜ (length (now ts) ≤ length (now starts)) × All I64 (startsOf (now ts)) ⌝ }
+    ensures { λ _. ⌜ now (starts .exit) ≡ laid (startsOf (now (ts .entry))) (now (starts .entry)) ⌝ }
+{
+    let mut i: usize = 0;
+    while i < ts.len() {
+        starts[i] = ts[i] - ts[0];
+        i += 1;
+    }
+}
+
+// Answers with so much room in starts, and leaves the intervals in work.
+fn times_of(ts: &[i64], room: usize, work: &mut [i64]) -> Times
+    ensures { λ r. ⌜ r ≡ timesOf (now (ts .entry)) room (length (now (work .entry))) ⌝ }
+{
+    let n = ts.len();
+    if MOST_TIMESTAMPS < n {
+        return Times::Refused(TOO_MANY, 0);
+    }
+    if n < 2 {
+        return Times::Refused(NO_TIMES, 0);
+    }
+    if let Refusal::At(number, index) = first_fall(ts) {
+        return Times::Refused(number, index);
+    }
+    let Held::Is(span) = signed::difference(ts[n - 1], ts[0]) else {
+        return Times::Refused(OUT_OF_RANGE, 0);
+    };
+    if (room < n) | (work.len() < n) {
+        return Times::Refused(NO_ROOM, 0);
+    }
+    let nominal = middle_interval(ts, &mut work[..n - 1]);
+    if signed::same(nominal, 0) {
+        return Times::Refused(NO_TIMES, 0);
+    }
+    let Held::Is(end) = signed::sum(span, nominal) else {
+        return Times::Refused(OUT_OF_RANGE, 0);
+    };
+    Times::Timed {
+        frames: n,
+        scale: NANOSECONDS,
+        nominal,
+        end,
+    }
+}
+
+// The same, with the starts written where nothing is refused.
+fn write_times(ts: &[i64], starts: &mut [i64], work: &mut [i64]) -> Times
+    ensures { λ r. ⌜ (r ≡ timesOf (now (ts .entry)) (length (now (starts .entry))) (length (now (work .entry)))) × (now (starts .exit) ≡ laid (written r (now (ts .entry))) (now (starts .entry))) ⌝ }
+{
+    let r = times_of(ts, starts.len(), work);
+    if let Times::Timed {
+        frames: _,
+        scale: _,
+        nominal: _,
+        end: _,
+    } = r {
+        write_starts(ts, starts);
+    }
+    r
+}
+
+// The times of a recording's frames, from `mcraw_times` of the Rust: over starts where each frame starts, counted from
+// the first. The working slice is all zero afterwards.
+pub fn mcraw_times(timestamps: &[i64], starts: &mut [i64], work: &mut [i64]) -> Times
+    ensures { λ r. ⌜ Answered (now (timestamps .entry)) (now (starts .entry)) (now (work .entry)) r (now (starts .exit)) (now (work .exit)) ⌝ }
+{
+    let r = write_times(timestamps, starts, work);
+    slices::clear(work);
+    r
+}

@@ -19,7 +19,7 @@ use Rattle.rows.specs.declared.Row.{Row}
 use Rattle.rows.specs.Rows.{largest, total, okRow, WellFrom, cut, join, merge}
 use Rattle.rows.proofs.Demanded.{demanded}
 use Rattle.maps.specs.declared.Frames.the-variants as frames
-use Rattle.maps.specs.Lent.{rowAt, rows}
+use Rattle.rows.specs.Lent.{rowAt, rows}
 use Rattle.maps.specs.Answers.{mostRows, badRange, malformed, noRoom, tooLong, pastMap, sized, firstBad, mapRefusal, fits, roomRefusal, cutRefusal, joinRefusal, mergeRefusal, originRefusal}
 use Rattle.maps.specs.Steps.{Sound, counted}
 

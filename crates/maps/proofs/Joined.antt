@@ -12,10 +12,10 @@ use Rattle.slices.proofs.Laid.{length-laid, laid-laid}
 use Rattle.rows.specs.declared.Row.{Row}
 use Rattle.rows.specs.Rows.{total, moved, join}
 use Rattle.rows.proofs.Origins.{row-eq}
-use Rattle.maps.specs.Lent.{rowAt, rows, wordsOf, shiftsOf}
+use Rattle.rows.specs.Lent.{rowAt, rows, wordsOf, shiftsOf}
 use Rattle.maps.specs.Steps.{Room}
 use Rattle.maps.proofs.Chains.{Joinable}
-use Rattle.maps.proofs.Written.{words-append, shifts-append, length-words, length-shifts}
+use Rattle.rows.proofs.Flat.{words-append, shifts-append, length-words, length-shifts}
 
 -- the rows of a map, moved, as they are written
 abbrev pub later : List ℕ → List ℤ → ℕ → List Row

@@ -17,7 +17,7 @@ use Rattle.maps.specs.declared.Mapped.{Mapped}
 use Rattle.maps.specs.declared.Mapped.the-variants.{Rows, Refused}
 use Rattle.maps.specs.declared.Traced.{Traced}
 use Rattle.maps.specs.declared.Traced.the-variants as traced
-use Rattle.maps.specs.Lent.{rowAt, rows}
+use Rattle.rows.specs.Lent.{rowAt, rows}
 use Rattle.maps.specs.Answers.{mostRows, noRoom, pastMap, roomRefusal, cutRefusal, mergeRefusal, answered, told, tracedOf, Placed, placed-once, Cut, Join, Merge, Trace}
 use Rattle.maps.specs.Steps.{Sound}
 use Rattle.maps.specs.Laws.{LentMap, Wrote, Found, Laws}

@@ -1,54 +1,22 @@
 -- Rows that are written read back as they are, and what an accepted call wrote is a map that can be lent. Assumes nothing.
-use Prim.Native.Nat.{ℕ, suc, _+_, _*_, _≤_, _<_}
+use Prim.Native.Nat.{ℕ, _+_, _*_, _≤_, _<_}
 use native.Mathlib.Omega.{arith}
-use mathlib.Core.List.{List, [], _∷_, _++_, append-assoc}
+use mathlib.Core.List.{List, [], _∷_, _++_}
 use mathlib.Core.Path.{_≡_, refl, sym, _∙_, ap, ap₂}
-use lib.IntN.{ℤ, pos}
-use lib.ListN.{length, getD, take, drop, length-append}
-use lib.Seq.{getD-append-add, take-at, drop-at}
-use Rattle.choice.specs.Records.{run}
+use lib.IntN.{ℤ}
+use lib.ListN.{length, take, drop}
+use lib.Seq.{take-at, drop-at}
 use Rattle.choice.specs.declared.Refusal.{Refusal}
 use Rattle.choice.specs.declared.Refusal.the-variants.{Never, At}
 use Rattle.rows.specs.declared.Row.{Row}
 use Rattle.rows.specs.Rows.{total, WellFormed}
-use Rattle.rows.proofs.Origins.{row-eq}
 use Rattle.rows.proofs.Demanded.{demanded}
 use Rattle.maps.specs.declared.Mapped.{Mapped}
 use Rattle.maps.specs.declared.Mapped.the-variants.{Rows, Refused}
-use Rattle.maps.specs.Lent.{rowAt, rows, words, wordsOf, shiftsOf}
+use Rattle.rows.specs.Lent.{rows, words, wordsOf, shiftsOf}
 use Rattle.maps.specs.Answers.{mostRows, answered, after, Placed}
 use Rattle.maps.specs.Laws.{Wrote, AsLent}
-use Rattle.maps.proofs.Written.{length-words, length-shifts}
-
-at-word : (p q : List ℕ) (i j : ℕ) → length p ≡ 5 * i → getD (p ++ q) (5 * i + j) 0 ≡ getD q j 0
-at-word p q i j e = let k : 5 * i + j ≡ length p + j = omega arith in ap (λ (n : ℕ). getD (p ++ q) n 0) k ∙ getD-append-add p q j 0
-
-at-shift : (p q : List ℤ) (i : ℕ) → length p ≡ i → getD (p ++ q) i (pos 0) ≡ getD q 0 (pos 0)
-at-shift p q i e = let k : i ≡ length p + 0 = omega arith in ap (λ (n : ℕ). getD (p ++ q) n (pos 0)) k ∙ getD-append-add p q 0 (pos 0)
-
-read-row : (r : Row) (m : List Row) (pu : List ℕ) (ps : List ℤ) (i : ℕ) → length pu ≡ 5 * i → length ps ≡ i → rowAt (pu ++ wordsOf (r ∷ m)) (ps ++ shiftsOf (r ∷ m)) i ≡ r
-read-row r m pu ps i e f =
-    let q = wordsOf (r ∷ m) in
-    let z : 5 * i ≡ 5 * i + 0 = omega arith in
-    row-eq (rowAt (pu ++ q) (ps ++ shiftsOf (r ∷ m)) i) r
-    (ap (λ (n : ℕ). getD (pu ++ q) n 0) z ∙ at-word pu q i 0 e) (at-word pu q i 1 e) (at-word pu q i 2 e) (at-word pu q i 3 e) (at-word pu q i 4 e)
-    (at-shift ps (shiftsOf (r ∷ m)) i f)
-
-read-rows : (m : List Row) (pu : List ℕ) (ps : List ℤ) (i : ℕ) → length pu ≡ 5 * i → length ps ≡ i → run (rowAt (pu ++ wordsOf m) (ps ++ shiftsOf m)) i (length m) ≡ m
-unfolding run
-read-rows [] pu ps i e f = refl
-read-rows (r ∷ m) pu ps i e f =
-    let gu = length-append pu (words r) in
-    let gs = length-append ps (r .shift ∷ []) in
-    let ih = read-rows m (pu ++ words r) (ps ++ r .shift ∷ []) (suc i) (omega arith) (omega arith) in
-    let x : run (rowAt (pu ++ wordsOf (r ∷ m)) (ps ++ shiftsOf (r ∷ m))) (suc i) (length m) ≡ m =
-    ap (λ (l : List ℕ). run (rowAt l (ps ++ shiftsOf (r ∷ m))) (suc i) (length m)) (sym (append-assoc pu (words r) (wordsOf m)))
-    ∙ ap (λ (l : List ℤ). run (rowAt ((pu ++ words r) ++ wordsOf m) l) (suc i) (length m)) (sym (append-assoc ps (r .shift ∷ []) (shiftsOf m)))
-    ∙ ih in
-    cc (read-row r m pu ps i e f, x)
-
-rows-flat : (m : List Row) → rows (wordsOf m) (shiftsOf m) ≡ m
-rows-flat m = ap (λ (n : ℕ). run (rowAt (wordsOf m) (shiftsOf m)) 0 n) (length-shifts m) ∙ read-rows m [] [] 0 refl refl
+use Rattle.rows.proofs.Flat.{length-words, length-shifts, rows-flat}
 
 answered-rows : (x : Refusal) (m : List Row) (k : ℕ) → Rows k ≡ answered x m → (x ≡ Never) × (k ≡ length m)
 answered-rows Never m k e = (refl, cc)

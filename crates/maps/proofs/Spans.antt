@@ -20,7 +20,7 @@ use Rattle.rows.proofs.Demanded.{demanded}
 use Rattle.rows.proofs.Well.{Ok, ok-facts}
 use Rattle.choice.specs.declared.Refusal.the-variants.{Never}
 use Rattle.maps.specs.declared.Traced.the-variants.{From}
-use Rattle.maps.specs.Lent.{rowAt, rows}
+use Rattle.rows.specs.Lent.{rowAt, rows}
 use Rattle.maps.specs.Answers.{originRefusal, told, tracedOf}
 use Rattle.maps.specs.Steps.{Sound, Room, Holder, Span}
 use Rattle.maps.proofs.Chains.{Cuttable}

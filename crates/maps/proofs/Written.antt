@@ -1,5 +1,5 @@
 -- Loops over lent rows: judging, writing rows over what is lent, merging, a turn each. Assumes nothing.
-use Prim.Native.Nat.{ℕ, suc, _+_, _-_, _*_, _≤_, _<_}
+use Prim.Native.Nat.{ℕ, _+_, _-_, _*_, _≤_, _<_}
 use native.Mathlib.Omega.{arith}
 use native.Mathlib.Numerals.{add-one}
 use mathlib.Core.Bool.{true, false}
@@ -20,7 +20,8 @@ use Rattle.rows.specs.Rows.{largest, total, okRow, runsOn, glue, mergeInto, mer
 use Rattle.rows.proofs.Merging.{runs-on}
 use Rattle.maps.specs.declared.Mapped.the-variants.{Rows, Refused}
 use Rattle.maps.specs.declared.Frames.the-variants as frames
-use Rattle.maps.specs.Lent.{rowAt, rows, words, wordsOf, shiftsOf}
+use Rattle.rows.specs.Lent.{rowAt, rows, words, wordsOf, shiftsOf}
+use Rattle.rows.proofs.Flat.{words-append, shifts-append, length-words, length-shifts}
 use Rattle.maps.specs.Answers.{malformed, firstBad, Placed}
 use Rattle.maps.specs.Steps.{Room, counted}
 
@@ -52,23 +53,6 @@ judge-start u s =
     let e : length s - 0 ≡ length s = omega arith in
     let g : 0 + total (rows u s) ≡ total (rows u s) = omega arith in
     rw (e, g)
-
--- rows as words and shifts
-pub words-append : (x y : List Row) → wordsOf (x ++ y) ≡ wordsOf x ++ wordsOf y
-words-append [] y = refl
-words-append (r ∷ x) y = ap (λ (l : List ℕ). words r ++ l) (words-append x y)
-
-pub shifts-append : (x y : List Row) → shiftsOf (x ++ y) ≡ shiftsOf x ++ shiftsOf y
-shifts-append [] y = refl
-shifts-append (r ∷ x) y = ap (λ (l : List ℤ). r .shift ∷ l) (shifts-append x y)
-
-pub length-words : (m : List Row) → length (wordsOf m) ≡ 5 * length m
-length-words [] = refl
-length-words (r ∷ m) = let e = length-words m in omega arith
-
-pub length-shifts : (m : List Row) → length (shiftsOf m) ≡ length m
-length-shifts [] = refl
-length-shifts (r ∷ m) = ap suc (length-shifts m)
 
 -- of the rows C, those but rest have been written over what was lent
 pub record Written (C rest : List Row) (ou₀ : List ℕ) (os₀ : List ℤ) (ou : List ℕ) (os : List ℤ) (w : ℕ) : Type 0 where

@@ -17,7 +17,7 @@ use Rattle.maps.specs.declared.Mapped.{Mapped}
 use Rattle.maps.specs.declared.Mapped.the-variants.{Rows, Refused}
 use Rattle.maps.specs.declared.Traced.{Traced}
 use Rattle.maps.specs.declared.Traced.the-variants as traced
-use Rattle.maps.specs.Lent.{rows, wordsOf, shiftsOf}
+use Rattle.rows.specs.Lent.{rows, wordsOf, shiftsOf}
 
 -- ---- the limit and the numbers
 -- the rows that a map may have, in or out

@@ -13,7 +13,7 @@ use Rattle.maps.specs.declared.Mapped.{Mapped}
 use Rattle.maps.specs.declared.Mapped.the-variants.{Rows, Refused}
 use Rattle.maps.specs.declared.Traced.{Traced}
 use Rattle.maps.specs.declared.Traced.the-variants as traced
-use Rattle.maps.specs.Lent.{rowAt, rows}
+use Rattle.rows.specs.Lent.{rowAt, rows}
 use Rattle.maps.specs.Answers.{mostRows, noRoom, pastMap, Placed, Cut, Join, Merge, Trace}
 
 -- a lent map that no call refuses for itself (51, or 52 for its rows)

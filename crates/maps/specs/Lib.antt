@@ -1,4 +1,3 @@
-pub mod Lent
 pub mod Answers
 pub mod Laws
 pub mod Steps

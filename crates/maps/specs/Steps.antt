@@ -13,7 +13,7 @@ use Rattle.maps.specs.declared.Frames.{Frames}
 use Rattle.maps.specs.declared.Frames.the-variants as frames
 use Rattle.maps.specs.declared.Part.{Part}
 use Rattle.maps.specs.declared.Part.the-variants as part
-use Rattle.maps.specs.Lent.{rowAt, rows}
+use Rattle.rows.specs.Lent.{rowAt, rows}
 use Rattle.maps.specs.Answers.{cutRefusal}
 
 -- a lent map that 51 doesn't refuse

@@ -8,7 +8,7 @@ ghost use lib.Seq.{sets};
 ghost use Rattle.choice.specs.Records.{run};
 ghost use Rattle.slices.specs.Slices.{laid};
 ghost use Rattle.rows.specs.Rows.{largest, end, total, okRow, clip, cut, moved, join, runsOn, glue, merge};
-ghost use Rattle.maps.specs.Lent.{rowAt, rows, words, wordsOf, shiftsOf};
+ghost use Rattle.rows.specs.Lent.{rowAt, rows, words, wordsOf, shiftsOf};
 ghost use Rattle.maps.specs.Answers.{sized, fits, firstBad, mapRefusal, joinRefusal, mergeRefusal, Cut, Join, Merge, Trace};
 ghost use Rattle.maps.specs.Steps.{Sound, Room, Holder, counted, Span, Planned};
 

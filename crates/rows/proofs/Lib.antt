@@ -4,3 +4,4 @@ pub mod Merging
 pub mod Joining
 pub mod Well
 pub mod Demanded
+pub mod Flat

@@ -4,7 +4,7 @@ use lib.ListN.{length}
 use Rattle.choice.specs.declared.Refusal.the-variants.{Never}
 use Rattle.choice.proofs.Tests.{called}
 use Rattle.rows.specs.Rows.{total}
-use Rattle.maps.specs.Lent.{rows}
+use Rattle.rows.specs.Lent.{rows}
 use Rattle.maps.specs.Answers.{joinRefusal}
 use Rattle.maps.proofs.Chains.{counted-are, counted-refused, join-never}
 use Rattle.maps.proofs.Joined.{length-join, joined-room}

@@ -7,7 +7,7 @@ use Rattle.choice.specs.Records.{run}
 use Rattle.choice.proofs.Tests.{called}
 use Rattle.rows.specs.Rows.{total}
 use Rattle.rows.proofs.Well.{ok-facts}
-use Rattle.maps.specs.Lent.{rowAt, rows}
+use Rattle.rows.specs.Lent.{rowAt, rows}
 use Rattle.maps.specs.Answers.{firstBad}
 use Rattle.maps.specs.Steps.{counted}
 use Rattle.maps.proofs.Written.{judge-start, judge-bad, judge-ok, judge-end}

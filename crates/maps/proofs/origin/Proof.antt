@@ -7,7 +7,7 @@ use native.Mathlib.Omega.{arith}
 use Rattle.choice.specs.declared.Refusal.the-variants.{Never}
 use Rattle.choice.proofs.Tests.{called}
 use Rattle.rows.specs.Rows.{total}
-use Rattle.maps.specs.Lent.{rows}
+use Rattle.rows.specs.Lent.{rows}
 use Rattle.maps.specs.Answers.{mapRefusal}
 use Rattle.maps.proofs.Chains.{counted-are, counted-refused, sound, origin-malformed, origin-rows-in, origin-beyond, origin-accepted}
 use borrow.Author.Needs.{needs}

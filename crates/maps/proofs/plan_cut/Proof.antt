@@ -5,7 +5,7 @@ use borrow.Author.Tests.{not-true, not-false}
 use Rattle.choice.specs.declared.Refusal.the-variants.{Never}
 use Rattle.choice.proofs.Tests.{called}
 use Rattle.rows.specs.Rows.{total}
-use Rattle.maps.specs.Lent.{rows}
+use Rattle.rows.specs.Lent.{rows}
 use Rattle.maps.specs.Answers.{mapRefusal, roomRefusal}
 use Rattle.maps.specs.Steps.{Span}
 use Rattle.maps.proofs.Chains.{counted-are, counted-refused, sound, room-on, room-off, cut-malformed, cut-rows-in, cut-empty, cut-beyond, cut-room}

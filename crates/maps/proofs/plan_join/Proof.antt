@@ -5,7 +5,7 @@ use Rattle.choice.specs.Choice.{past}
 use Rattle.choice.specs.declared.Refusal.the-variants.{Never}
 use Rattle.choice.proofs.Tests.{called}
 use Rattle.rows.specs.Rows.{largest, total}
-use Rattle.maps.specs.Lent.{rows}
+use Rattle.rows.specs.Lent.{rows}
 use Rattle.maps.specs.Answers.{mapRefusal}
 use Rattle.maps.proofs.Chains.{counted-are, counted-refused, room-on, room-off, join-malformed, join-malformed-second, join-rows-in, join-rows-in-second, join-long, join-room}
 use Rattle.maps.proofs.Joined.{length-join}

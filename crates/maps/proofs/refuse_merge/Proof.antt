@@ -3,7 +3,7 @@ use Prim.Native.Nat.{ℕ}
 use Rattle.choice.specs.declared.Refusal.the-variants.{Never}
 use Rattle.choice.proofs.Tests.{called}
 use Rattle.rows.specs.Rows.{total}
-use Rattle.maps.specs.Lent.{rows}
+use Rattle.rows.specs.Lent.{rows}
 use Rattle.maps.specs.Answers.{mapRefusal, roomRefusal}
 use Rattle.maps.proofs.Chains.{counted-are, counted-refused, sound, room-on, room-off, merge-malformed, merge-rows-in, merge-room, merge-roomy}
 use borrow.Author.Needs.{needs}

@@ -4,7 +4,7 @@ use native.Mathlib.Omega.{arith}
 use Rattle.choice.specs.Records.{run}
 use Rattle.choice.proofs.Runs.{run-cons, run-nil}
 use Rattle.rows.specs.Rows.{clip, cut}
-use Rattle.maps.specs.Lent.{rowAt, rows}
+use Rattle.rows.specs.Lent.{rowAt, rows}
 use Rattle.maps.proofs.Spans.{span-clips, span-room}
 use Rattle.maps.proofs.Written.{Written, written-none, written-all, words-length, shifts-length, put-room, put-step, run-start}
 use Rattle.maps.proofs.write_cut.Statement.{statement}

@@ -5,7 +5,7 @@ use lib.ListN.{length}
 use Rattle.choice.specs.Records.{run}
 use Rattle.choice.proofs.Runs.{run-cons, run-nil}
 use Rattle.rows.specs.Rows.{moved}
-use Rattle.maps.specs.Lent.{rowAt}
+use Rattle.rows.specs.Lent.{rowAt}
 use Rattle.maps.proofs.Spans.{row-out}
 use Rattle.maps.proofs.Written.{Written, written-none, written-all, words-length, shifts-length, put-room, put-step, run-start, room-run}
 use Rattle.maps.proofs.write_moved.Statement.{statement}

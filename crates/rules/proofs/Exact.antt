@@ -1,0 +1,250 @@
+-- A check answers what the paper says: it refuses with the first condition that holds, in testing order, and accepts where none does. Assumes nothing.
+use Prim.Native.Nat.{ℕ, zero, suc, _+_, _<_, zero-le, suc-le-suc}
+use native.Mathlib.Nat.{add-zero, zero-add}
+use native.Mathlib.Omega.{arith}
+use mathlib.Core.Path.{_≡_, refl, sym, ap, _∙_, subst}
+use mathlib.Core.Bool.{Bool, true, false, not}
+use mathlib.Core.List.{List, [], _∷_, _++_, append-assoc}
+use mathlib.Core.Logic.{_↔_, inl, inr}
+use lib.ListN.{length, getD, take, drop}
+use lib.Dec.{eqb}
+use borrow.Author.Tests.{ne-eqb}
+use lib.IntN.{ℤ, pos, natAbs}
+use lib.Signed.{_<ℤ_}
+use Rattle.choice.specs.declared.Refusal.{Refusal}
+use Rattle.choice.specs.declared.Refusal.the-variants.{Never, At}
+use Rattle.choice.specs.Choice.{when}
+use Rattle.choice.specs.Records.{run, firstRefused, orRefused}
+use Rattle.choice.proofs.Tests.{tf, or-false}
+use Rattle.utc.specs.Utc.{utcSecond}
+use Rattle.rules.specs.declared.Ends.{Ends}
+use Rattle.rules.specs.declared.Checked.the-variants.{Frames, Refused}
+use Rattle.rules.specs.Limits.{maxSources, maxSegments, maxU64}
+use Rattle.rules.specs.Records.{Segment, Table, noSource, noSegment, source, segment, sourceOf, total}
+use Rattle.rules.specs.Rules.{negative, apart, badSource, badSegment, malformed, sourceRefusal, timesOf, judged, segmentRefusal, start, endsOf, ends, segmentsFrom, frontRefusal, refusal, answered, checkOf}
+use Rattle.rules.specs.Paper.{Test, given, Malformed, OverLimit, ofSource, ofSegment, each, tests, First, None, Rightly, FrameGap, TimeGap, Negative}
+use Rattle.rules.proofs.Turns.{judged-fit}
+use Rattle.rules.proofs.Walks.{not-refused}
+use Rattle.rules.proofs.Says.{Says, is, isnt, equal, less, most, passes, either, both, unless, three, some, below, late, gap, outside}
+
+-- ---- chains of tests and lists of conditions
+-- a chain's number, at an index, is that of the first condition that holds
+Number : ℕ → ℕ → List Test → Type 0
+Number i zero l = None l
+Number i (suc n) l = First l (suc n) i
+
+-- so is a refusal
+Agrees : Refusal → List Test → Type 0
+Agrees Never l = None l
+Agrees (At n i) l = First l n i
+
+-- one test more in front of a chain; what comes after it may use that it failed
+link : {b : Bool} {C : Type 0} (n i rest : ℕ) (l : List Test) → Says b C → ((C → ⊥) → Number i rest l) → Number i (when b (suc n) rest) (given C (suc n) i ∷ l)
+unfolding when Number
+link {b} {C} n i rest l s k = go b s
+  where
+    pass : (r : ℕ) → (C → ⊥) → Number i r l → Number i r (given C (suc n) i ∷ l)
+    pass zero f x = (f, x)
+    pass (suc r) f x = inr (f, x)
+
+    go : (b : Bool) → Says b C → Number i (when b (suc n) rest) (given C (suc n) i ∷ l)
+    go true s = inl (s .holds refl, refl, refl)
+    go false s = pass rest (s .fails refl) (k (s .fails refl))
+
+front : {b : Bool} {C : Type 0} (n i : ℕ) (rest : Refusal) (l : List Test) → Says b C → Agrees rest l → Agrees (when b (At n i) rest) (given C n i ∷ l)
+unfolding when Agrees
+front {b} {C} n i rest l s k = go b s rest k
+  where
+    go : (b : Bool) → Says b C → (r : Refusal) → Agrees r l → Agrees (when b (At n i) r) (given C n i ∷ l)
+    go true s r x = inl (s .holds refl, refl, refl)
+    go false s Never x = (s .fails refl, x)
+    go false s (At m j) x = inr (s .fails refl, x)
+
+first-append : (l m : List Test) (n i : ℕ) → First l n i → First (l ++ m) n i
+first-append [] m n i x = absurd x
+first-append (c ∷ l) m n i (inl x) = inl x
+first-append (c ∷ l) m n i (inr x) = inr (x .0, first-append l m n i (x .1))
+
+none-append : (l m : List Test) (r : Refusal) → None l → Agrees r m → Agrees r (l ++ m)
+unfolding Agrees
+none-append [] m r x y = y
+none-append (c ∷ l) m r x y = go r (none-append l m r (x .1) y)
+  where
+    go : (r : Refusal) → Agrees r (l ++ m) → Agrees r (c ∷ (l ++ m))
+    go Never z = (x .0, z)
+    go (At n i) z = inr (x .0, z)
+
+append : (r s : Refusal) (l m : List Test) → Agrees r l → Agrees s m → Agrees (orRefused r s) (l ++ m)
+unfolding orRefused Agrees
+append Never s l m x y = none-append l m s x y
+append (At n i) s l m x y = first-append l m n i x
+
+-- a record's number, and then the records after it
+record-first : (v i : ℕ) (rest : Refusal) (l m : List Test) → Number i v l → (v ≡ 0 → Agrees rest m) → Agrees (when (eqb v 0) rest (At v i)) (l ++ m)
+unfolding when Number Agrees
+record-first zero i rest l m x y = none-append l m rest x (y refl)
+record-first (suc v) i rest l m x y = rw (ne-eqb (suc v) 0 (λ z. omega arith)) (first-append l m (suc v) i x)
+
+first-agrees : {A : Type 0} (g : A → ℕ) (d : A) (h : ℕ → List Test) (i : ℕ) (l : List A)
+    → ((k : ℕ) → k < length l → Number (i + k) (g (getD l k d)) (h (i + k))) → Agrees (firstRefused g i l) (each h i (length l))
+unfolding firstRefused Agrees
+first-agrees g d h i [] q = tt
+first-agrees g d h i (a ∷ l) q =
+    record-first (g a) i _ (h i) (each h (suc i) (length l)) (subst (λ (j : ℕ). Number j (g a) (h j)) (add-zero i) (q 0 (suc-le-suc zero-le)))
+    (λ z. first-agrees g d h (suc i) l (λ k b. subst (λ (j : ℕ). Number j (g (getD l k d)) (h j)) (omega arith) (q (suc k) (suc-le-suc b))))
+
+-- a list is the run of its records
+as-run : {A : Type 0} (d : A) (l : List A) → run (λ k. getD l k d) 0 (length l) ≡ l
+unfolding run
+as-run {A} d l = go l 0 (λ k. getD l k d) (λ k. ap (λ (j : ℕ). getD l j d) (zero-add k))
+  where
+    go : (m : List A) (i : ℕ) (f : ℕ → A) → ((k : ℕ) → f (i + k) ≡ getD m k d) → run f i (length m) ≡ m
+    go [] i f q = refl
+    go (a ∷ m) i f q = λ j. head j ∷ go m (suc i) f (λ k. ap f (omega arith) ∙ q (suc k)) j
+      where
+        head : f i ≡ a
+        head = ap f (sym (add-zero i)) ∙ q 0
+
+-- ---- a source
+source-number : (t : Table) (k : ℕ) → Number k (sourceRefusal (t .log) (t .text) (source t k)) (ofSource t k)
+unfolding sourceRefusal Number
+source-number t k =
+    let s = source t k in
+    link 3 k _ _ (three (either (either (equal (s .frames) 0) (equal (s .num) 0)) (equal (s .den) 0)))
+    λ _. link 4 k _ _ (both (equal (s .dated) 1) (isnt (utcSecond (take (s .size) (drop (s .from) (t .text))))))
+    λ _. link 5 k _ _ (both (unless (equal (s .kind) 0)) (three (either (either (equal (s .ticks) 0) (equal (s .per) 0)) (both (equal (s .kind) 2) (equal (s .modulus) 0)))))
+    λ _. link 6 k _ _ (both (is (t .log)) (equal (s .kind) 0))
+    λ _. tt
+
+-- ---- a segment
+-- none of the six times is negative
+record Positive (e : Segment) : Type 0 where
+  srcstart : negative (e .stamps .srcstart) ≡ false
+  outstart : negative (e .stamps .outstart) ≡ false
+  duration : negative (e .stamps .duration) ≡ false
+  srccap : negative (e .stamps .srccap) ≡ false
+  outcap : negative (e .stamps .outcap) ≡ false
+  capdur : negative (e .stamps .capdur) ≡ false
+
+-- all its six tests, and 13
+negatives : (e : Segment) → Says (timesOf (e .stamps) .negative) (Negative e)
+unfolding timesOf
+negatives e =
+    let n : (z : ℤ) → Says (negative z) (z <ℤ pos 0) = λ z. below z (pos 0) in
+    three (either
+    (either (either (n (e .stamps .srcstart)) (n (e .stamps .outstart))) (either (n (e .stamps .duration)) (n (e .stamps .srccap))))
+    (either (n (e .stamps .outcap)) (n (e .stamps .capdur))))
+
+positive : (e : Segment) → timesOf (e .stamps) .negative ≡ false → Positive e
+unfolding timesOf
+positive e q =
+    let a = or-false _ _ q in
+    let b = or-false _ _ (a .0) in
+    let x = or-false _ _ (b .0) in
+    let y = or-false _ _ (b .1) in
+    let z = or-false _ _ (a .1) in
+    record { srcstart = x .0; outstart = x .1; duration = y .0; srccap = y .1; outcap = z .0; capdur = z .1 }
+
+untrue : (b : Bool) {C : Type 0} → Says b C → (C → ⊥) → b ≡ false
+untrue true s f = absurd (f (s .holds refl))
+untrue false s f = refl
+
+-- what the walk has come with to segment k
+Prev : Table → ℕ → Ends → Type 0
+Prev t zero prev = prev ≡ start
+Prev t (suc k) prev = (prev ≡ ends (segment t k)) × Positive (segment t k)
+
+frame-gap : (t : Table) (k : ℕ) (prev : Ends) → Prev t k prev → Says (not (eqb (segment t k .words .out) (prev .frame))) (FrameGap t k)
+unfolding Prev start ends endsOf
+frame-gap t zero prev p = rw p (unless (equal (segment t 0 .words .out) 0))
+frame-gap t (suc k) prev p = rw (p .0) (unless (equal (segment t (suc k) .words .out) (segment t k .words .out + segment t k .words .count)))
+
+time-gap : (t : Table) (k : ℕ) (prev : Ends) → Prev t k prev → Positive (segment t k)
+    → Says (apart (prev .some) (prev .time) (prev .capture) (natAbs (segment t k .stamps .outstart)) (natAbs (segment t k .stamps .outcap))) (TimeGap t k)
+unfolding Prev start ends endsOf timesOf
+time-gap t zero prev p q = rw p (record { holds = λ e. tf (sym e); fails = λ e x. x })
+time-gap t (suc k) prev p q =
+    rw (p .0)
+    (either
+    (gap (segment t k .stamps .outstart) (segment t k .stamps .duration) (segment t (suc k) .stamps .outstart) (p .1 .outstart) (p .1 .duration) (q .outstart))
+    (gap (segment t k .stamps .outcap) (segment t k .stamps .capdur) (segment t (suc k) .stamps .outcap) (p .1 .outcap) (p .1 .capdur) (q .outcap)))
+
+segment-number : (t : Table) (k : ℕ) (prev : Ends) → Prev t k prev → Number k (segmentRefusal (t .sources) prev (segment t k)) (ofSegment t k)
+unfolding segmentRefusal judged timesOf Number
+segment-number t k prev v =
+    let w = segment t k .words in
+    let e = segment t k .stamps in
+    let s = sourceOf (t .sources) (segment t k) in
+    link 8 k _ _ (most (length (t .sources)) (w .source))
+    λ _. link 9 k _ _ (equal (w .count) 0)
+    λ _. link 10 k _ _ (either (passes (w .out) (w .count) maxU64) (passes (w .first) (w .count) maxU64))
+    λ _. link 11 k _ _ (passes (w .first) (w .count) (s .frames))
+    λ _. link 12 k _ _ (negatives (segment t k))
+    λ f. let p = positive (segment t k) (untrue _ (negatives (segment t k)) f) in
+    link 13 k _ _ (either (late (e .srcstart) (e .duration) (p .srcstart) (p .duration)) (late (e .srccap) (e .capdur) (p .srccap) (p .capdur)))
+    λ _. link 14 k _ _ (frame-gap t k prev v)
+    λ _. link 15 k _ _ (time-gap t k prev v p)
+    λ _. link 13 k _ _ (either (late (e .outstart) (e .duration) (p .outstart) (p .duration)) (late (e .outcap) (e .capdur) (p .outcap) (p .capdur)))
+    λ _. link 16 k _ _ (three (either
+    (either (both (equal (s .kind) 0) (equal (w .flag) 1)) (both (unless (equal (s .kind) 0)) (equal (w .flag) 0)))
+    (both (equal (s .kind) 2) (outside (e .shift) (s .modulus)))))
+    λ _. tt
+
+segments-agree : (t : Table) (m i : ℕ) (prev : Ends) → Prev t i prev → Agrees (segmentsFrom (t .sources) i prev (run (segment t) i m)) (each (ofSegment t) i m)
+unfolding segmentsFrom run Agrees Prev
+segments-agree t zero i prev p = tt
+segments-agree t (suc m) i prev p =
+    record-first (segmentRefusal (t .sources) prev (segment t i)) i _ (ofSegment t i) (each (ofSegment t) (suc i) m) (segment-number t i prev p)
+    (λ z. segments-agree t m (suc i) (ends (segment t i)) (refl, positive (segment t i) (judged-fit _ _ _ _ (not-refused _ _ _ z .1) .positive)))
+
+-- ---- the whole
+malformed-says : (t : Table) → Says (malformed t) (Malformed t)
+unfolding malformed badSource badSegment
+malformed-says t =
+    three (either
+    (either (is (t .uneven)) (some _ _ noSource (t .sources)
+    (λ s. three (either (either (less 1 (s .dated)) (less 2 (s .kind))) (both (equal (s .dated) 1) (passes (s .from) (s .size) (length (t .text))))))))
+    (some _ _ noSegment (t .segments) (λ e. less 1 (e .words .flag))))
+
+agrees : (t : Table) → Agrees (refusal t) (tests t)
+unfolding refusal frontRefusal Prev Agrees
+agrees t =
+    let segs = rw (as-run noSegment (t .segments)) at (segments-agree t (length (t .segments)) 0 start refl) in
+    let none : Agrees Never [] = tt in
+    let srcs = first-agrees (sourceRefusal (t .log) (t .text)) noSource (ofSource t) 0 (t .sources) (λ k b. subst (λ (j : ℕ). Number j (sourceRefusal (t .log) (t .text) (source t k)) (ofSource t j)) (sym (zero-add k)) (source-number t k)) in
+    let eight = front 8 0 _ _ (equal (length (t .segments)) 0) none in
+    let head = front 1 0 _ _ (malformed-says t)
+    (front 2 0 _ _ (either (less maxSources (length (t .sources))) (less maxSegments (length (t .segments))))
+    (front 3 0 _ _ (equal (length (t .sources)) 0)
+    (append _ _ _ _ srcs eight))) in
+    subst (λ (l : List Test). Agrees (refusal t) (given (Malformed t) 1 0 ∷ given (OverLimit t) 2 0 ∷ given (length (t .sources) ≡ 0) 3 0 ∷ l))
+    (append-assoc (each (ofSource t) 0 (length (t .sources))) (given (length (t .segments) ≡ 0) 8 0 ∷ []) (each (ofSegment t) 0 (length (t .segments))))
+    (append _ _ _ _ head segs)
+
+first-one : (l : List Test) (n i m j : ℕ) → First l n i → First l m j → (n ≡ m) × (i ≡ j)
+first-one [] n i m j x y = absurd x
+first-one (c ∷ l) n i m j (inl x) (inl y) = (x .1 ∙ sym (y .1), x .2 ∙ sym (y .2))
+first-one (c ∷ l) n i m j (inl x) (inr y) = absurd (y .0 (x .0))
+first-one (c ∷ l) n i m j (inr x) (inl y) = absurd (x .0 (y .0))
+first-one (c ∷ l) n i m j (inr x) (inr y) = first-one l n i m j (x .1) (y .1)
+
+none-first : (l : List Test) (n i : ℕ) → None l → First l n i → ⊥
+none-first [] n i x y = y
+none-first (c ∷ l) n i x (inl y) = x .0 (y .0)
+none-first (c ∷ l) n i x (inr y) = none-first l n i (x .1) (y .1)
+
+refuses : (r : Refusal) (l : List Test) (T : ℕ) → Agrees r l → (n i : ℕ) → (answered r T ≡ Refused n i) ↔ First l n i
+unfolding answered Agrees
+refuses Never l T a n i = (λ e. absurd (let z : _≡_ {A = ℕ} 0 1 = cc in omega arith), λ x. absurd (none-first l n i a x))
+refuses (At m j) l T a n i =
+    (λ e. let p : m ≡ n = cc in let q : j ≡ i = cc in rw p at (rw q at a), λ x. let o = first-one l m j n i a x in rw (o .0, o .1))
+
+accepts : (r : Refusal) (l : List Test) (T : ℕ) → Agrees r l → (N : ℕ) → (answered r T ≡ Frames N) ↔ (None l × (N ≡ T))
+unfolding answered Agrees
+accepts Never l T a N = (λ e. (a, cc), λ x. ap Frames (sym (x .1)))
+accepts (At m j) l T a N = (λ e. absurd (let z : _≡_ {A = ℕ} 0 1 = cc in omega arith), λ x. absurd (none-first l m j (x .0) a))
+
+-- of every table
+pub rightly : (t : Table) → Rightly t
+unfolding checkOf
+rightly t = record { refuses = refuses (refusal t) (tests t) (total (t .segments)) (agrees t); accepts = accepts (refusal t) (tests t) (total (t .segments)) (agrees t) }

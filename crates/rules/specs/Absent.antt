@@ -1,0 +1,58 @@
+-- Words of an absent thing are ignored: a table with these words set to 0 gets the same answers, so two tables that differ only in them do.
+use Prim.Native.Nat.{ℕ}
+use mathlib.Core.Path.{_≡_}
+use mathlib.Core.Bool.{_||_}
+use mathlib.Core.List.{map}
+use lib.Dec.{eqb}
+use lib.IntN.{ℤ, pos}
+use Rattle.choice.specs.Choice.{when}
+use Rattle.rules.specs.declared.Source.{Source}
+use Rattle.rules.specs.Records.{Segment, Table}
+use Rattle.rules.specs.Rules.{checkOf}
+use Rattle.rules.specs.Lookups.{segmentOfFrame, segmentOfTime, continuesAt}
+
+-- offset and length of an absent creation time; clock numbers of kind 0; modulus of kinds 0 and 1
+unfoldable pub cleanSource : Source → Source
+cleanSource s = record {
+  frames = s .frames;
+  num = s .num;
+  den = s .den;
+  dated = s .dated;
+  from = when (eqb (s .dated) 0) 0 (s .from);
+  size = when (eqb (s .dated) 0) 0 (s .size);
+  kind = s .kind;
+  ticks = when (eqb (s .kind) 0) 0 (s .ticks);
+  per = when (eqb (s .kind) 0) 0 (s .per);
+  modulus = when (eqb (s .kind) 0 || eqb (s .kind) 1) 0 (s .modulus);
+}
+
+-- the shift of an absent shift
+unfoldable pub cleanSegment : Segment → Segment
+cleanSegment e = record {
+  words = e .words;
+  stamps = record {
+    srcstart = e .stamps .srcstart;
+    outstart = e .stamps .outstart;
+    duration = e .stamps .duration;
+    srccap = e .stamps .srccap;
+    outcap = e .stamps .outcap;
+    capdur = e .stamps .capdur;
+    shift = when (eqb (e .words .flag) 0) (pos 0) (e .stamps .shift);
+  };
+}
+
+unfoldable pub clean : Table → Table
+clean t = record {
+  uneven = t .uneven;
+  log = t .log;
+  text = t .text;
+  sources = map cleanSource (t .sources);
+  segments = map cleanSegment (t .segments);
+}
+
+-- every answer is that of the clean table; `ignored`, in proofs/Ignored.antt, proves it of every table
+pub record Ignored (t : Table) : Type 0 where
+  pub check : checkOf t ≡ checkOf (clean t)
+  pub frame : (k : ℕ) → segmentOfFrame t k ≡ segmentOfFrame (clean t) k
+  pub time : (z : ℤ) → segmentOfTime t z ≡ segmentOfTime (clean t) z
+  pub continues : (r : ℕ) → continuesAt t r ≡ continuesAt (clean t) r

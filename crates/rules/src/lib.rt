@@ -1,0 +1,231 @@
+// Refusals 1 to 17 over records: no word here knows how a table is lent. The Rust's SegmentTable::check.
+ghost use mathlib.Core.Path.{_≡_};
+ghost use Rattle.rules.specs.Rules.{badWords, noRate, badDate, badClock, sourceRefusal, tooLate, apart, badShift, overLimit, judged};
+ghost use Rattle.rules.specs.Steps.{framesOr, timesOr, turned};
+
+// Limits of 2.
+const MAX_SOURCES: usize = 64;
+
+const MAX_SEGMENTS: usize = 512;
+
+// The largest u64 and i64.
+const MAX_U64: u64 = 0xffff_ffff_ffff_ffff;
+
+const MAX_I64: u64 = 0x7fff_ffff_ffff_ffff;
+
+// A source of the table; the Rust's TableSource.
+pub struct Source {
+    // Its frames.
+    pub frames: u64,
+    // Its fps numerator and denominator: fps.
+    pub num: u64,
+    pub den: u64,
+    // Whether it has a creation time (0, 1), and that time's offset and length in the lent text: creation_time.
+    pub dated: u64,
+    pub from: u64,
+    pub size: u64,
+    // Its clock's kind: 0 none, 1 no modulus, 2 modulus.
+    pub kind: u64,
+    // Its clock's rate, numerator and denominator, and modulus: clock.rate, clock.modulus.
+    pub ticks: u64,
+    pub per: u64,
+    pub modulus: u64,
+}
+
+// A segment's unsigned words; of the Rust's TrimSegment.
+pub struct Words {
+    // The source's number: source.
+    pub source: u64,
+    // Its first frame in the source: src_first_frame.
+    pub first: u64,
+    // How many frames it has: frame_count.
+    pub count: u64,
+    // Its first frame in the output: out_first_frame.
+    pub out: u64,
+    // Whether it has a shift (0, 1): clock_shift.
+    pub flag: u64,
+}
+
+// What a segment's signed words say: whether one of the six times is negative, and each one's magnitude.
+// The magnitudes of times are used only after 13, where none is negative.
+pub struct Times {
+    pub negative: bool,
+    // src_start_us.
+    pub srcstart: u64,
+    // out_start_us.
+    pub outstart: u64,
+    // duration_us.
+    pub duration: u64,
+    // src_capture_start_us.
+    pub srccap: u64,
+    // out_capture_start_us.
+    pub outcap: u64,
+    // capture_duration_us.
+    pub capdur: u64,
+    // Whether clock_shift is negative, and its magnitude.
+    pub back: bool,
+    pub shift: u64,
+}
+
+// Whether there is a segment before, and where it ends: the frame, the time and the capture time after its last.
+pub struct Ends {
+    pub some: bool,
+    pub frame: u64,
+    pub time: u64,
+    pub capture: u64,
+}
+
+// What a segment's tests say: a refusal, or where the segment ends.
+pub enum Turn {
+    Stop(u64),
+    Go(Ends),
+}
+
+// What a check answers: the frame total, or a refusal's number and index.
+pub enum Checked {
+    Frames(u64),
+    Refused(u64, usize),
+}
+
+// What a lookup answers: the segment's index, or the check's refusal.
+pub enum Found {
+    Index(usize),
+    NoIndex(u64, usize),
+}
+
+// What `continues` answers, or the check's refusal.
+pub enum Continued {
+    Answer(bool),
+    NoAnswer(u64, usize),
+}
+
+// 1, of a source's words, where n bytes of text are lent.
+pub fn bad_words(n: u64, dated: u64, from: u64, size: u64, kind: u64) -> bool
+    ensures { λ r. ⌜ r ≡ badWords n dated from size kind ⌝ }
+{
+    let leaves = choice::is_past(from, size, n);
+    ((dated > 1) | (kind > 2)) | ((dated == 1) & leaves)
+}
+
+// 2.
+pub fn over_limit(sources: usize, segments: usize) -> bool
+    ensures { λ r. ⌜ r ≡ overLimit sources segments ⌝ }
+{
+    (sources > MAX_SOURCES) | (segments > MAX_SEGMENTS)
+}
+
+// 4.
+fn no_rate(frames: u64, num: u64, den: u64) -> bool
+    ensures { λ r. ⌜ r ≡ noRate frames num den ⌝ }
+{
+    ((frames == 0) | (num == 0)) | (den == 0)
+}
+
+// 5. A range that leaves the text, which 1 has refused, is taken as far as the text goes.
+fn bad_date(text: &[u8], dated: u64, from: u64, size: u64) -> bool
+    ensures { λ r. ⌜ r ≡ badDate (now (text .entry)) dated from size ⌝ }
+{
+    let at = from as usize;
+    let len = size as usize;
+    if dated != 1 {
+        return false;
+    }
+    if at > text.len() {
+        return true;
+    }
+    if len > text.len() - at {
+        return !utc::is_utc_second(&text[at..]);
+    }
+    let end = at + len;
+    !utc::is_utc_second(&text[at..end])
+}
+
+// 6.
+fn bad_clock(kind: u64, ticks: u64, per: u64, modulus: u64) -> bool
+    ensures { λ r. ⌜ r ≡ badClock kind ticks per modulus ⌝ }
+{
+    (kind != 0) & (((ticks == 0) | (per == 0)) | ((kind == 2) & (modulus == 0)))
+}
+
+// 4 to 7 of a source: a number, or 0 where none refuses it.
+pub fn source_refusal(log: bool, text: &[u8], s: Source) -> u64
+    ensures { λ r. ⌜ r ≡ sourceRefusal log (now (text .entry)) s ⌝ }
+{
+    let rate = no_rate(s.frames, s.num, s.den);
+    let date = bad_date(text, s.dated, s.from, s.size);
+    let clock = bad_clock(s.kind, s.ticks, s.per, s.modulus);
+    let last = choice::first_of(clock, 6, choice::first_of(log & (s.kind == 0), 7, 0));
+    choice::first_of(rate, 4, choice::first_of(date, 5, last))
+}
+
+// 10 to 12, else what the tests after them give.
+fn frames_or(frames: u64, first: u64, count: u64, out: u64, rest: u64) -> u64
+    ensures { λ r. ⌜ r ≡ framesOr frames first count out rest ⌝ }
+{
+    let wraps = choice::is_past(out, count, MAX_U64) | choice::is_past(first, count, MAX_U64);
+    let past = choice::is_past(first, count, frames);
+    choice::first_of(
+        count == 0,
+        10,
+        choice::first_of(wraps, 11, choice::first_of(past, 12, rest)),
+    )
+}
+
+// 14, of a start with its duration and of the capture pair.
+fn too_late(start: u64, duration: u64, cap: u64, capdur: u64) -> bool
+    ensures { λ r. ⌜ r ≡ tooLate start duration cap capdur ⌝ }
+{
+    choice::is_past(start, duration, MAX_I64) | choice::is_past(cap, capdur, MAX_I64)
+}
+
+// 16: the first segment is free.
+fn is_apart(some: bool, time: u64, capture: u64, outstart: u64, outcap: u64) -> bool
+    ensures { λ r. ⌜ r ≡ apart some time capture outstart outcap ⌝ }
+{
+    some & ((outstart != time) | (outcap != capture))
+}
+
+// 13 to 16, and 14 of the out pairs, else what the tests after them give.
+fn times_or(prev: Ends, out: u64, t: Times, rest: u64) -> u64
+    ensures { λ r. ⌜ r ≡ timesOr prev out t rest ⌝ }
+{
+    let early = too_late(t.srcstart, t.duration, t.srccap, t.capdur);
+    let apart = is_apart(prev.some, prev.time, prev.capture, t.outstart, t.outcap);
+    let late = too_late(t.outstart, t.duration, t.outcap, t.capdur);
+    let ends = choice::first_of(late, 14, rest);
+    let gaps = choice::first_of(out != prev.frame, 15, choice::first_of(apart, 16, ends));
+    choice::first_of(t.negative, 13, choice::first_of(early, 14, gaps))
+}
+
+// 17.
+fn bad_shift(kind: u64, modulus: u64, flag: u64, back: bool, shift: u64) -> bool
+    ensures { λ r. ⌜ r ≡ badShift kind modulus flag back shift ⌝ }
+{
+    (((kind == 0) & (flag == 1)) | ((kind != 0) & (flag == 0)))
+        | ((kind == 2) & (back | (modulus <= shift)))
+}
+
+// 10 to 17 of a segment of the source s, after one that ends at prev: a number, or 0.
+fn judge(s: Source, prev: Ends, w: Words, t: Times) -> u64
+    ensures { λ r. ⌜ r ≡ judged s prev w t ⌝ }
+{
+    let shift = choice::first_of(bad_shift(s.kind, s.modulus, w.flag, t.back, t.shift), 17, 0);
+    let times = times_or(prev, w.out, t, shift);
+    frames_or(s.frames, w.first, w.count, w.out, times)
+}
+
+// 10 to 17 of a segment: a refusal, or where it ends.
+pub fn turn_of(s: Source, prev: Ends, w: Words, t: Times) -> Turn
+    ensures { λ r. ⌜ r ≡ turned s prev w t ⌝ }
+{
+    let n = judge(s, prev, w, t);
+    if n != 0 {
+        return Turn::Stop(n);
+    }
+    Turn::Go(Ends {
+        some: true,
+        frame: w.out + w.count,
+        time: t.outstart + t.duration,
+        capture: t.outcap + t.capdur,
+    })
+}

@@ -1,0 +1,131 @@
+-- The words and shifts that `rows_of_table` writes are those of the rows. Assumes nothing.
+use Prim.Native.Nat.{ℕ, zero, suc, _+_, _-_, _*_, _/_, _≤_, _<_}
+use native.Mathlib.Nat.{add-zero, zero-add, not-suc-le-zero, le-of-suc-le-suc}
+use native.Mathlib.Numerals.{add-one}
+use native.Mathlib.Omega.{arith}
+use mathlib.Core.Path.{_≡_, refl, sym, ap, _∙_}
+use mathlib.Core.Bool.{Bool, true, false, not, _||_}
+use mathlib.Core.List.{List, [], _∷_, _++_, append-nil, append-assoc, map}
+use lib.ListN.{length, getD, drop, length-map, List·getD-map, drop-of-length-le}
+use lib.Seq.{drop-cons}
+use lib.IntN.{ℤ, pos}
+use lib.Dec.{ltb}
+use borrow.Author.Tests.{ltb-false}
+use Rattle.choice.specs.declared.Refusal.{Refusal}
+use Rattle.choice.specs.declared.Refusal.the-variants.{Never, At}
+use Rattle.choice.specs.Choice.{when}
+use Rattle.choice.specs.Records.{run, orRefused}
+use Rattle.choice.proofs.Tests.{or-false}
+use Rattle.choice.proofs.Runs.{getD-run}
+use Rattle.slices.specs.Slices.{laid}
+use Rattle.rows.specs.declared.Row.{Row}
+use Rattle.rows.specs.Lent.{wordsOf, shiftsOf}
+use Rattle.rules.specs.declared.Checked.the-variants.{Frames, Refused}
+use Rattle.rules.specs.Records.{Segment, Table, noSegment}
+use Rattle.rules.specs.Rules.{refusal, answered, checkOf}
+use Rattle.table.specs.declared.Filled.the-variants.{Rows, NoRows}
+use Rattle.table.specs.Layout.{segmentWords, wordsAt, segmentAt, segmentsOf, tableOf}
+use Rattle.table.specs.Rows.{rowOf, rowsOf, tooSmall, rowsRefusal, filled, after, Rowed}
+use Rattle.table.proofs.Lent.{length-segments}
+use Rattle.table.proofs.Asked.{lengths}
+
+-- ---- words
+next : (u : List ℕ) (i j : ℕ) → i < length u → suc i ≡ j → drop i u ≡ getD u i 0 ∷ drop j u
+next u i j h e = drop-cons u i 0 h ∙ ap (λ (k : ℕ). getD u i 0 ∷ drop k u) e
+
+-- five words from b on
+five : (u : List ℕ) (b : ℕ) → b + 5 ≤ length u
+    → drop b u ≡ getD u b 0 ∷ getD u (b + 1) 0 ∷ getD u (b + 2) 0 ∷ getD u (b + 3) 0 ∷ getD u (b + 4) 0 ∷ drop (b + 5) u
+five u b h =
+    next u b (b + 1) (omega arith) (omega arith)
+    ∙ ap (λ (l : List ℕ). getD u b 0 ∷ l) (next u (b + 1) (b + 2) (omega arith) (omega arith)
+    ∙ ap (λ (l : List ℕ). getD u (b + 1) 0 ∷ l) (next u (b + 2) (b + 3) (omega arith) (omega arith)
+    ∙ ap (λ (l : List ℕ). getD u (b + 2) 0 ∷ l) (next u (b + 3) (b + 4) (omega arith) (omega arith)
+    ∙ ap (λ (l : List ℕ). getD u (b + 3) 0 ∷ l) (next u (b + 4) (b + 5) (omega arith) (omega arith)))))
+
+-- the words of the rows of m segments from the i-th on, and then what lies behind them
+words-run : (u : List ℕ) (t : List ℤ) (m i : ℕ) → (i + m) * 5 ≤ length u → wordsOf (map rowOf (run (segmentAt u t) i m)) ++ drop ((i + m) * 5) u ≡ drop (i * 5) u
+unfolding run rowOf
+words-run u t zero i h = ap (λ (k : ℕ). drop (k * 5) u) (add-zero i)
+words-run u t (suc m) i h =
+    let w = wordsAt u i in
+    let rest = wordsOf (map rowOf (run (segmentAt u t) (suc i) m)) in
+    let e : i + suc m ≡ suc i + m = omega arith in
+    let n : suc i * 5 ≡ i * 5 + 5 = omega arith in
+    ap (λ (l : List ℕ). w .source ∷ w .first ∷ w .count ∷ w .out ∷ w .flag ∷ l)
+    (ap (λ (k : ℕ). rest ++ drop (k * 5) u) e ∙ words-run u t m (suc i) (omega arith) ∙ ap (λ (k : ℕ). drop k u) n)
+    ∙ sym (five u (i * 5) (omega arith))
+
+-- of all of them
+words-all : (u : List ℕ) (t : List ℤ) → length u ≡ length u / 5 * 5 → u ≡ wordsOf (map rowOf (segmentsOf u t))
+unfolding segmentsOf
+words-all u t h =
+    let n = length u / 5 in
+    let w = wordsOf (map rowOf (run (segmentAt u t) 0 n)) in
+    sym (words-run u t n 0 (omega arith)) ∙ ap (λ (l : List ℕ). w ++ l) (drop-of-length-le u {i = (0 + n) * 5} (omega arith)) ∙ append-nil w
+
+-- ---- shifts
+length-shifts : (l : List Segment) → length (shiftsOf (map rowOf l)) ≡ length l
+length-shifts [] = refl
+length-shifts (e ∷ l) = ap suc (length-shifts l)
+
+shifts-at : (l : List Segment) (k : ℕ) → k < length l → getD (shiftsOf (map rowOf l)) k (pos 0) ≡ rowOf (getD l k noSegment) .shift
+shifts-at [] k h = absurd (not-suc-le-zero h)
+shifts-at (e ∷ l) zero h = refl
+shifts-at (e ∷ l) (suc k) h = shifts-at l k (le-of-suc-le-suc h)
+
+module _ (u : List ℕ) (t : List ℤ) where
+  pub shift-lent : (k : ℕ) → k < length u / 5 → getD (shiftsOf (map rowOf (segmentsOf u t))) k (pos 0) ≡ rowOf (segmentAt u t k) .shift
+  unfolding segmentsOf
+  shift-lent k h =
+      shifts-at (segmentsOf u t) k (rw (length-segments u t) h)
+      ∙ ap (λ (e : Segment). rowOf e .shift) (getD-run (segmentAt u t) 0 (length u / 5) k noSegment h ∙ ap (segmentAt u t) (zero-add k))
+
+  pub length-lent : length (shiftsOf (map rowOf (segmentsOf u t))) ≡ length u / 5
+  length-lent = length-shifts (segmentsOf u t) ∙ length-segments u t
+
+-- ---- the answer
+pub has-room : (n nu ns : ℕ) → tooSmall n nu ns ≡ false → (n * 5 ≤ nu) × (n ≤ ns)
+has-room n nu ns e = let p = or-false (ltb nu (n * 5)) (ltb ns n) e in (ltb-false nu (n * 5) (p .0), ltb-false ns n (p .1))
+
+refused-is : (r : Refusal) (T n i : ℕ) → answered r T ≡ Refused n i → r ≡ At n i
+unfolding answered
+refused-is Never T n i e = absurd (let z : _≡_ {A = ℕ} 0 1 = cc in omega arith)
+refused-is (At m j) T n i e = let p : m ≡ n = cc in let q : j ≡ i = cc in rw (p, q)
+
+accepted-is : (r : Refusal) (T N : ℕ) → answered r T ≡ Frames N → r ≡ Never
+unfolding answered
+accepted-is Never T N e = refl
+accepted-is (At m j) T N e = absurd (let z : _≡_ {A = ℕ} 0 1 = cc in omega arith)
+
+module _ (s u : List ℕ) (t : List ℤ) (log : Bool) (text : List ℕ) (ou : List ℕ) (os : List ℤ) where
+  at : Refusal → Type 0
+  at r = rowsRefusal (tableOf s u t log text) (length ou) (length os) ≡ r
+
+  refusal-first : {n i : ℕ} → checkOf (tableOf s u t log text) ≡ Refused n i → at (At n i)
+  unfolding at rowsRefusal orRefused checkOf
+  refusal-first e = rw (refused-is _ _ _ _ e)
+
+  then-room : {N : ℕ} {b : Bool} → checkOf (tableOf s u t log text) ≡ Frames N → tooSmall (length u / 5) (length ou) (length os) ≡ b → at (when b (At 32 0) Never)
+  unfolding at rowsRefusal orRefused checkOf tableOf
+  then-room e h = rw (accepted-is _ _ _ e, length-segments u t, h)
+
+  pub rows-refused : {n i : ℕ} → checkOf (tableOf s u t log text) ≡ Refused n i → Rowed (tableOf s u t log text) ou os (NoRows n i) ou os
+  unfolding at filled after
+  rows-refused e = let q = refusal-first e in record { answer = rw q; words = rw q; shifts = rw q }
+
+  pub rows-small : {N : ℕ} → checkOf (tableOf s u t log text) ≡ Frames N → tooSmall (length u / 5) (length ou) (length os) ≡ true
+      → Rowed (tableOf s u t log text) ou os (NoRows 32 0) ou os
+  unfolding at filled after when
+  rows-small e h = let q = then-room e h in record { answer = rw q; words = rw q; shifts = rw q }
+
+  pub rows-written : {N : ℕ} {ou′ : List ℕ} {os′ : List ℤ} → checkOf (tableOf s u t log text) ≡ Frames N
+      → tooSmall (length u / 5) (length ou) (length os) ≡ false → ou′ ≡ laid u ou → os′ ≡ laid (shiftsOf (map rowOf (segmentsOf u t))) os
+      → Rowed (tableOf s u t log text) ou os (Rows (length u / 5)) ou′ os′
+  unfolding at filled after when rowsOf tableOf
+  rows-written e h w v =
+      let q = then-room e h in record {
+        answer = rw (q, length-segments u t);
+        words = rw q (w ∙ ap (λ (l : List ℕ). laid l ou) (words-all u t (lengths s u t log text e .words)));
+        shifts = rw q v;
+      }

@@ -1,0 +1,460 @@
+// A table lent as rows of words: its check, both lookups, `continues`, and the rows of an accepted table. The Rust's SegmentTable.
+use choice::Refusal;
+use rules::Checked;
+use rules::Continued;
+use rules::Ends;
+use rules::Found;
+use rules::Source;
+use rules::Times;
+use rules::Turn;
+use rules::Words;
+ghost use mathlib.Core.Path.{_≡_};
+ghost use mathlib.Core.List.{List, map};
+ghost use Prim.Native.Nat.{_+_, _-_, _*_, _/_, _≤_, _<_, min};
+ghost use lib.ListN.{length, getD};
+ghost use lib.IntN.{ℤ, pos, natAbs};
+ghost use Rattle.choice.specs.Records.{any, firstRefused};
+ghost use Rattle.rules.specs.Limits.{maxU64, maxI64};
+ghost use Rattle.rules.specs.Rules.{negative, badSource, badSegment, sourceRefusal, timesOf, frontRefusal, checkOf};
+ghost use Rattle.rules.specs.Lookups.{segmentOfFrame, segmentOfTime, sameShift, runsOn, continuesAt};
+ghost use Rattle.rules.specs.Steps.{turnOf, walked, endedBy, Ordered};
+ghost use Rattle.table.specs.Layout.{sourceWords, segmentWords, segmentStamps, sourceAt, wordsAt, stampsAt, segmentAt, sourcesOf, segmentsOf, badLengths, tableOf};
+ghost use Rattle.slices.specs.Slices.{laid};
+ghost use Rattle.rows.specs.Lent.{shiftsOf};
+ghost use Rattle.table.specs.Rows.{rowOf, Rowed};
+ghost use Rattle.table.specs.Steps.{endAt, endUsAt};
+
+// Words of a source, unsigned words of a segment, signed words of a segment.
+const SOURCE: usize = 10;
+
+const WORDS: usize = 5;
+
+const STAMPS: usize = 7;
+
+// Source k.
+fn source_at(s: &[u64], k: usize) -> Source
+    requires { ⌜ k * sourceWords + sourceWords ≤ length (now s) ⌝ }
+    ensures { λ r. ⌜ r ≡ sourceAt (now (s .entry)) k ⌝ }
+{
+    let b = k * SOURCE;
+    Source {
+        frames: s[b],
+        num: s[b + 1],
+        den: s[b + 2],
+        dated: s[b + 3],
+        from: s[b + 4],
+        size: s[b + 5],
+        kind: s[b + 6],
+        ticks: s[b + 7],
+        per: s[b + 8],
+        modulus: s[b + 9],
+    }
+}
+
+// The unsigned words of segment k.
+fn words_at(u: &[u64], k: usize) -> Words
+    requires { ⌜ k * segmentWords + segmentWords ≤ length (now u) ⌝ }
+    ensures { λ r. ⌜ r ≡ wordsAt (now (u .entry)) k ⌝ }
+{
+    let b = k * WORDS;
+    Words {
+        source: u[b],
+        first: u[b + 1],
+        count: u[b + 2],
+        out: u[b + 3],
+        flag: u[b + 4],
+    }
+}
+
+// Whether a signed word is negative.
+fn negative_at(t: &[i64], i: usize) -> bool
+    requires { ⌜ i < length (now t) ⌝ }
+    ensures { λ r. ⌜ r ≡ negative (getD (now (t .entry)) i (pos 0)) ⌝ }
+{
+    signed::negative(t[i])
+}
+
+// The magnitude of a signed word.
+fn magnitude_at(t: &[i64], i: usize) -> u64
+    requires { ⌜ i < length (now t) ⌝ }
+    ensures { λ r. ⌜ r ≡ natAbs (getD (now (t .entry)) i (pos 0)) ⌝ }
+{
+    signed::magnitude(t[i])
+}
+
+// What the signed words of segment k say.
+fn times_at(t: &[i64], k: usize) -> Times
+    requires { ⌜ k * segmentStamps + segmentStamps ≤ length (now t) ⌝ }
+    ensures { λ r. ⌜ r ≡ timesOf (stampsAt (now (t .entry)) k) ⌝ }
+{
+    let d = k * STAMPS;
+    let a = negative_at(t, d) | negative_at(t, d + 1);
+    let b = negative_at(t, d + 2) | negative_at(t, d + 3);
+    let c = negative_at(t, d + 4) | negative_at(t, d + 5);
+    Times {
+        negative: (a | b) | c,
+        srcstart: magnitude_at(t, d),
+        outstart: magnitude_at(t, d + 1),
+        duration: magnitude_at(t, d + 2),
+        srccap: magnitude_at(t, d + 3),
+        outcap: magnitude_at(t, d + 4),
+        capdur: magnitude_at(t, d + 5),
+        back: negative_at(t, d + 6),
+        shift: magnitude_at(t, d + 6),
+    }
+}
+
+// 1, of lengths.
+fn bad_lengths(s: usize, u: usize, t: usize) -> bool
+    ensures { λ r. ⌜ r ≡ badLengths s u t ⌝ }
+{
+    ((s % SOURCE != 0) | (u % WORDS != 0)) | ((t % STAMPS != 0) | (u / WORDS != t / STAMPS))
+}
+
+// 1, of source k, where n bytes of text are lent.
+fn bad_source_at(s: &[u64], n: u64, k: usize) -> bool
+    requires { ⌜ k * sourceWords + sourceWords ≤ length (now s) ⌝ }
+    ensures { λ r. ⌜ r ≡ badSource n (sourceAt (now (s .entry)) k) ⌝ }
+{
+    let e = source_at(s, k);
+    rules::bad_words(n, e.dated, e.from, e.size, e.kind)
+}
+
+// 1, of all sources.
+fn bad_sources(s: &[u64], n: u64) -> bool
+    ensures { λ r. ⌜ r ≡ any (badSource n) (sourcesOf (now (s .entry))) ⌝ }
+{
+    let m = s.len() / SOURCE;
+    let mut k = 0;
+    while k < m {
+        if bad_source_at(s, n, k) {
+            return true;
+        }
+        k += 1;
+    }
+    false
+}
+
+// 1, of all segments, whose signed words have no say in it.
+fn bad_flags(u: &[u64]) -> bool
+    ensures { λ r. ⌜ ((t : List ℤ) → r ≡ any badSegment (segmentsOf (now (u .entry)) t)) ⌝ }
+{
+    let m = u.len() / WORDS;
+    let mut k = 0;
+    while k < m {
+        if u[k * WORDS + 4] > 1 {
+            return true;
+        }
+        k += 1;
+    }
+    false
+}
+
+// 4 to 7 of source k.
+fn source_refusal_at(s: &[u64], log: bool, text: &[u8], k: usize) -> u64
+    requires { ⌜ k * sourceWords + sourceWords ≤ length (now s) ⌝ }
+    ensures { λ r. ⌜ r ≡ sourceRefusal log (now (text .entry)) (sourceAt (now (s .entry)) k) ⌝ }
+{
+    rules::source_refusal(log, text, source_at(s, k))
+}
+
+// 4 to 7, source by source.
+fn first_source(s: &[u64], log: bool, text: &[u8]) -> Refusal
+    ensures { λ r. ⌜ r ≡ firstRefused (sourceRefusal log (now (text .entry))) 0 (sourcesOf (now (s .entry))) ⌝ }
+{
+    let m = s.len() / SOURCE;
+    let mut k = 0;
+    while k < m {
+        let n = source_refusal_at(s, log, text, k);
+        if n != 0 {
+            return Refusal::At(n, k);
+        }
+        k += 1;
+    }
+    Refusal::Never
+}
+
+// 1 to 8, whatever the segments' layout: n are lent, and `bad` says whether 1 holds.
+fn front(sources: &[u64], log: bool, text: &[u8], bad: bool, n: usize) -> Refusal
+    ensures { λ r. ⌜ r ≡ frontRefusal log (now (text .entry)) (sourcesOf (now (sources .entry))) bad n ⌝ }
+{
+    if bad {
+        return Refusal::At(1, 0);
+    }
+    if rules::over_limit(sources.len() / SOURCE, n) {
+        return Refusal::At(2, 0);
+    }
+    if sources.len() / SOURCE == 0 {
+        return Refusal::At(3, 0);
+    }
+    match first_source(sources, log, text) {
+        Refusal::At(n, i) => return Refusal::At(n, i),
+        Refusal::Never => {}
+    }
+    if n == 0 {
+        return Refusal::At(8, 0);
+    }
+    Refusal::Never
+}
+
+// 9 to 17 of segment k, after one that ends at prev.
+fn turn_at(sources: &[u64], u: &[u64], t: &[i64], prev: Ends, k: usize) -> Turn
+    requires { ⌜ (k * segmentWords + segmentWords ≤ length (now u)) × (k * segmentStamps + segmentStamps ≤ length (now t)) ⌝ }
+    ensures { λ r. ⌜ r ≡ turnOf (sourcesOf (now (sources .entry))) prev (segmentAt (now (u .entry)) (now (t .entry)) k) ⌝ }
+{
+    let w = words_at(u, k);
+    let from = w.source as usize;
+    if from >= sources.len() / SOURCE {
+        return Turn::Stop(9);
+    }
+    let s = source_at(sources, from);
+    rules::turn_of(s, prev, w, times_at(t, k))
+}
+
+// 9 to 17, segment by segment, then the frame total.
+fn segments(sources: &[u64], u: &[u64], t: &[i64]) -> Checked
+    requires { ⌜ length (now u) / segmentWords ≤ length (now t) / segmentStamps ⌝ }
+    ensures { λ r. ⌜ r ≡ walked (sourcesOf (now (sources .entry))) (segmentsOf (now (u .entry)) (now (t .entry))) ⌝ }
+{
+    let m = u.len() / WORDS;
+    let mut prev = Ends {
+        some: false,
+        frame: 0,
+        time: 0,
+        capture: 0,
+    };
+    let mut k = 0;
+    while k < m {
+        match turn_at(sources, u, t, prev, k) {
+            Turn::Stop(n) => return Checked::Refused(n, k),
+            Turn::Go(next) => prev = next,
+        }
+        k += 1;
+    }
+    Checked::Frames(prev.frame)
+}
+
+// Checks a table: its frame total, or a refusal's number and index. The Rust's check.
+pub fn check(sources: &[u64], u: &[u64], t: &[i64], log: bool, text: &[u8]) -> Checked
+    ensures { λ r. ⌜ r ≡ checkOf (tableOf (now (sources .entry)) (now (u .entry)) (now (t .entry)) log (now (text .entry))) ⌝ }
+{
+    let lengths = bad_lengths(sources.len(), u.len(), t.len());
+    let bad = (lengths | bad_sources(sources, text.len() as u64)) | bad_flags(u);
+    match front(sources, log, text, bad, u.len() / WORDS) {
+        Refusal::At(n, i) => Checked::Refused(n, i),
+        Refusal::Never => segments(sources, u, t),
+    }
+}
+
+// The smaller of two.
+fn at_most(a: usize, b: usize) -> usize
+    ensures { λ r. ⌜ r ≡ min a b ⌝ }
+{
+    if a <= b {
+        return a;
+    }
+    b
+}
+
+// The frame after the last of segment k.
+fn end_at(u: &[u64], k: usize) -> u64
+    requires { ⌜ (k * segmentWords + segmentWords ≤ length (now u)) × (endAt (now u) k ≤ maxU64) ⌝ }
+    ensures { λ r. ⌜ r ≡ endAt (now (u .entry)) k ⌝ }
+{
+    let b = k * WORDS;
+    u[b + 3] + u[b + 2]
+}
+
+// How many segments end at or before the frame, by halving.
+fn ended(u: &[u64], frame: u64) -> usize
+    requires { ⌜ Ordered (endAt (now u)) (length (now u) / segmentWords) maxU64 ⌝ }
+    ensures { λ r. ⌜ r ≡ endedBy (endAt (now (u .entry))) (length (now (u .entry)) / segmentWords) frame ⌝ }
+{
+    let mut lo = 0;
+    let mut hi = u.len() / WORDS;
+    while lo < hi {
+        let mid = lo + (hi - lo) / 2;
+        if end_at(u, mid) <= frame {
+            lo = mid + 1;
+        } else {
+            hi = mid;
+        }
+    }
+    lo
+}
+
+// The end time of segment k.
+fn end_us_at(t: &[i64], k: usize) -> u64
+    requires { ⌜ (k * segmentStamps + segmentStamps ≤ length (now t)) × (endUsAt (now t) k ≤ maxI64) ⌝ }
+    ensures { λ r. ⌜ r ≡ endUsAt (now (t .entry)) k ⌝ }
+{
+    let d = k * STAMPS;
+    magnitude_at(t, d + 1) + magnitude_at(t, d + 2)
+}
+
+// How many of n segments end at or before the time, by halving.
+fn ended_us(t: &[i64], n: usize, time: u64) -> usize
+    requires { ⌜ (n ≤ length (now t) / segmentStamps) × Ordered (endUsAt (now t)) n maxI64 ⌝ }
+    ensures { λ r. ⌜ r ≡ endedBy (endUsAt (now (t .entry))) n time ⌝ }
+{
+    let mut lo = 0;
+    let mut hi = n;
+    while lo < hi {
+        let mid = lo + (hi - lo) / 2;
+        if end_us_at(t, mid) <= time {
+            lo = mid + 1;
+        } else {
+            hi = mid;
+        }
+    }
+    lo
+}
+
+// The segment that has a frame; past the last frame, the last segment. The Rust's segment_of_frame.
+pub fn segment_of_frame(
+    sources: &[u64],
+    u: &[u64],
+    t: &[i64],
+    log: bool,
+    text: &[u8],
+    frame: u64,
+) -> Found
+    ensures { λ r. ⌜ r ≡ segmentOfFrame (tableOf (now (sources .entry)) (now (u .entry)) (now (t .entry)) log (now (text .entry))) frame ⌝ }
+{
+    match check(sources, u, t, log, text) {
+        Checked::Refused(n, i) => Found::NoIndex(n, i),
+        Checked::Frames(_) => Found::Index(at_most(ended(u, frame), u.len() / WORDS - 1)),
+    }
+}
+
+// The segment that presents a time: before the first one, the first; past the last, the last. The Rust's segment_of_time_us.
+pub fn segment_of_time_us(
+    sources: &[u64],
+    u: &[u64],
+    t: &[i64],
+    log: bool,
+    text: &[u8],
+    time: i64,
+) -> Found
+    ensures { λ r. ⌜ r ≡ segmentOfTime (tableOf (now (sources .entry)) (now (u .entry)) (now (t .entry)) log (now (text .entry))) time ⌝ }
+{
+    match check(sources, u, t, log, text) {
+        Checked::Refused(n, i) => return Found::NoIndex(n, i),
+        Checked::Frames(_) => {}
+    }
+    if signed::negative(time) {
+        return Found::Index(0);
+    }
+    let n = u.len() / WORDS;
+    Found::Index(at_most(ended_us(t, n, signed::magnitude(time)), n - 1))
+}
+
+// Whether two shifts are equal; both absent counts as equal.
+fn same_shift(flag: u64, shift: i64, other: u64, second: i64) -> bool
+    ensures { λ r. ⌜ r ≡ sameShift flag shift other second ⌝ }
+{
+    (flag == other) & ((flag == 0) | signed::same(shift, second))
+}
+
+// Whether segment r continues the one before it.
+fn runs_on(u: &[u64], t: &[i64], r: usize) -> bool
+    requires { ⌜ (0 < r) × (r * segmentWords + segmentWords ≤ length (now u)) × (r * segmentStamps + segmentStamps ≤ length (now t)) × (wordsAt (now u) (r - 1) .first + wordsAt (now u) (r - 1) .count ≤ maxU64) ⌝ }
+    ensures { λ b. ⌜ b ≡ runsOn (segmentAt (now (u .entry)) (now (t .entry)) (r - 1)) (segmentAt (now (u .entry)) (now (t .entry)) r) ⌝ }
+{
+    let p = words_at(u, r - 1);
+    let e = words_at(u, r);
+    let shifts = same_shift(p.flag, t[(r - 1) * STAMPS + 6], e.flag, t[r * STAMPS + 6]);
+    ((p.source == e.source) & (p.first + p.count == e.first)) & shifts
+}
+
+// Whether segment r continues the one before it in their source, as one run of it. The Rust's continues.
+pub fn continues(
+    sources: &[u64],
+    u: &[u64],
+    t: &[i64],
+    log: bool,
+    text: &[u8],
+    r: usize,
+) -> Continued
+    ensures { λ a. ⌜ a ≡ continuesAt (tableOf (now (sources .entry)) (now (u .entry)) (now (t .entry)) log (now (text .entry))) r ⌝ }
+{
+    match check(sources, u, t, log, text) {
+        Checked::Refused(n, i) => return Continued::NoAnswer(n, i),
+        Checked::Frames(_) => {}
+    }
+    if r < 1 {
+        return Continued::Answer(false);
+    }
+    if r >= u.len() / WORDS {
+        return Continued::Answer(false);
+    }
+    Continued::Answer(runs_on(u, t, r))
+}
+
+// What `rows_of_table` answers: how many rows it wrote, or a refusal's number and index.
+pub enum Filled {
+    Rows(usize),
+    NoRows(u64, usize),
+}
+
+// The shift of segment k, an absent one as 0.
+fn shift_at(u: &[u64], t: &[i64], k: usize) -> i64
+    requires { ⌜ (k * segmentWords + segmentWords ≤ length (now u)) × (k * segmentStamps + segmentStamps ≤ length (now t)) ⌝ }
+    ensures { λ r. ⌜ r ≡ rowOf (segmentAt (now (u .entry)) (now (t .entry)) k) .shift ⌝ }
+{
+    if u[k * WORDS + 4] == 0 {
+        return 0;
+    }
+    t[k * STAMPS + 6]
+}
+
+// A segment's unsigned words are its row's: all are copied.
+fn write_words(u: &[u64], ou: &mut [u64])
+    requires { ⌜ length (now u) ≤ length (now ou) ⌝ }
+    ensures { λ _. ⌜ now (ou .exit) ≡ laid (now (u .entry)) (now (ou .entry)) ⌝ }
+{
+    let mut i = 0;
+    while i < u.len() {
+        ou[i] = u[i];
+        i += 1;
+    }
+}
+
+// The shifts of the rows.
+fn write_shifts(u: &[u64], t: &[i64], os: &mut [i64])
+    requires { ⌜ (length (now u) / segmentWords ≤ length (now t) / segmentStamps) × (length (now u) / segmentWords ≤ length (now os)) ⌝ }
+    ensures { λ _. ⌜ now (os .exit) ≡ laid (shiftsOf (map rowOf (segmentsOf (now (u .entry)) (now (t .entry))))) (now (os .entry)) ⌝ }
+{
+    let n = u.len() / WORDS;
+    let mut k = 0;
+    while k < n {
+        let shift = shift_at(u, t, k);
+        os[k] = shift;
+        k += 1;
+    }
+}
+
+// The rows of an accepted table, one a segment, into lent room: five words and a shift a row. The map that document 01 adds to the Rust.
+pub fn rows_of_table(
+    sources: &[u64],
+    u: &[u64],
+    t: &[i64],
+    log: bool,
+    text: &[u8],
+    ou: &mut [u64],
+    os: &mut [i64],
+) -> Filled
+    ensures { λ r. ⌜ Rowed (tableOf (now (sources .entry)) (now (u .entry)) (now (t .entry)) log (now (text .entry))) (now (ou .entry)) (now (os .entry)) r (now (ou .exit)) (now (os .exit)) ⌝ }
+{
+    match check(sources, u, t, log, text) {
+        Checked::Refused(n, i) => return Filled::NoRows(n, i),
+        Checked::Frames(_) => {}
+    }
+    let n = u.len() / WORDS;
+    if (ou.len() < n * WORDS) | (os.len() < n) {
+        return Filled::NoRows(32, 0);
+    }
+    write_words(u, ou);
+    write_shifts(u, t, os);
+    Filled::Rows(n)
+}

@@ -7,9 +7,11 @@ use mathlib.Core.Bool.{Bool, true, false}
 use mathlib.Core.List.{List, [], _∷_, _++_}
 use mathlib.Core.Logic.{inl, inr}
 use lib.ListN.{length, getD, take, drop}
+use lib.Dec.{ltb, leb}
 use lib.IntN.{ℤ, pos, negsuc, natAbs, _+ℤ_}
 use lib.Signed.{_<ℤ_, _≤ℤ_}
-use Rattle.choice.proofs.Tests.{decide}
+use borrow.Author.Tests.{ltb-false, leb-false}
+use Rattle.choice.proofs.Tests.{decide, tf}
 use Rattle.signed.specs.Signed.{eqZ}
 use Rattle.signed.proofs.Order.{eqZ-true, eqZ-yes}
 use Rattle.utc.specs.Utc.{utcSecond}
@@ -97,10 +99,10 @@ holds : {b : Bool} {C : Type 0} → Says b C → ((C → ⊥) → ⊥) → C
 holds {b} {C} s f = decide b (s .holds) (λ e. absurd (f (s .fails e)))
 
 same : (a b : ℤ) → ((a ≡ b → ⊥) → ⊥) → a ≡ b
-same a b f = decide (eqZ a b) (eqZ-true a b) (λ e. absurd (f (λ q. Rattle.choice.proofs.Tests.tf (sym (eqZ-yes q) ∙ e))))
+same a b f = decide (eqZ a b) (eqZ-true a b) (λ e. absurd (f (λ q. tf (sym (eqZ-yes q) ∙ e))))
 
 within : (m n : ℕ) → ((pos m <ℤ pos n) → ⊥) → n ≤ m
-within m n f = decide (lib.Dec.ltb m n) (λ e. absurd (f (below (pos m) (pos n) .holds e))) (borrow.Author.Tests.ltb-false m n)
+within m n f = decide (ltb m n) (λ e. absurd (f (below (pos m) (pos n) .holds e))) (ltb-false m n)
 
 timely : (a b : ℤ) → ((a <ℤ pos 0) → ⊥) → ((b <ℤ pos 0) → ⊥) → ((pos maxI64 <ℤ (a +ℤ b)) → ⊥) → Timely a b
 timely (pos m) (pos n) p q r = record { start = refl; duration = refl; sum = refl; fits = within maxI64 (m + n) r }
@@ -108,7 +110,7 @@ timely (pos m) (negsuc n) p q r = absurd (q (record { lt = tt }))
 timely (negsuc m) b p q r = absurd (p (record { lt = tt }))
 
 in-modulus : (z : ℤ) (m : ℕ) → ((z <ℤ pos 0) → ⊥) → ((pos m ≤ℤ z) → ⊥) → (z ≡ pos (natAbs z)) × (natAbs z < m)
-in-modulus (pos n) m p q = (refl, decide (lib.Dec.leb m n) (λ e. absurd (q (atmost (pos m) (pos n) .holds e))) (borrow.Author.Tests.leb-false m n))
+in-modulus (pos n) m p q = (refl, decide (leb m n) (λ e. absurd (q (atmost (pos m) (pos n) .holds e))) (leb-false m n))
 in-modulus (negsuc n) m p q = absurd (p (record { lt = tt }))
 
 nonzero : (n : ℕ) → (n ≡ 0 → ⊥) → 0 < n

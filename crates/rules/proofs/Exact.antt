@@ -94,7 +94,7 @@ first-agrees g d h i (a ∷ l) q =
     (λ z. first-agrees g d h (suc i) l (λ k b. subst (λ (j : ℕ). Number j (g (getD l k d)) (h j)) (omega arith) (q (suc k) (suc-le-suc b))))
 
 -- a list is the run of its records
-as-run : {A : Type 0} (d : A) (l : List A) → run (λ k. getD l k d) 0 (length l) ≡ l
+pub as-run : {A : Type 0} (d : A) (l : List A) → run (λ k. getD l k d) 0 (length l) ≡ l
 unfolding run
 as-run {A} d l = go l 0 (λ k. getD l k d) (λ k. ap (λ (j : ℕ). getD l j d) (zero-add k))
   where

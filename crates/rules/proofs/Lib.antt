@@ -3,6 +3,7 @@ pub mod Turns
 pub mod Walks
 pub mod Says
 pub mod Exact
+pub mod Holder
 pub mod Accepted
 pub mod Search
 pub mod Ignored

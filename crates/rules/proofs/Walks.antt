@@ -11,12 +11,13 @@ use borrow.Author.Tests.{eq-eqb, ne-eqb, le-leb, lt-leb, leb-false}
 use Rattle.choice.specs.declared.Refusal.the-variants.{Never, At}
 use Rattle.choice.specs.Choice.{when}
 use Rattle.choice.specs.Records.{run, orRefused}
+use Rattle.choice.proofs.Chains.{when-zero}
 use Rattle.choice.proofs.Runs.{run-cons, run-nil, length-run, getD-run}
 use Rattle.rules.specs.declared.Source.{Source}
 use Rattle.rules.specs.declared.Ends.{Ends}
 use Rattle.rules.specs.declared.Turn.the-variants.{Stop, Go}
 use Rattle.rules.specs.declared.Checked.the-variants.{Frames, Refused}
-use Rattle.rules.specs.Records.{Segment, Table, noSource, total}
+use Rattle.rules.specs.Records.{Segment, Table, noSource, sourceOf, total}
 use Rattle.rules.specs.Rules.{timesOf, judged, segmentRefusal, start, endsOf, ends, segmentsFrom, malformed, frontRefusal, refusal, answered, checkOf}
 use Rattle.rules.specs.Steps.{stopOr, turned, turnOf, walked}
 use Rattle.rules.proofs.Turns.{judged-fit}
@@ -34,10 +35,10 @@ turn-stop (suc m) n x e = (cc, λ z. omega arith)
 
 -- no refusal of 9 to 17: the source is there, and 10 to 17 don't refuse
 pub not-refused : (srcs : List Source) (prev : Ends) (e : Segment) → segmentRefusal srcs prev e ≡ 0
-    → (e .words .source < length srcs) × (judged (lib.ListN.getD srcs (e .words .source) noSource) prev (e .words) (timesOf (e .stamps)) ≡ 0)
+    → (e .words .source < length srcs) × (judged (sourceOf srcs e) prev (e .words) (timesOf (e .stamps)) ≡ 0)
 unfolding segmentRefusal
 not-refused srcs prev e q =
-    let s = Rattle.choice.proofs.Chains.when-zero _ _ _ (λ z. let y : _≡_ {A = ℕ} 9 0 = z in omega arith) q in
+    let s = when-zero _ _ _ (λ z. let y : _≡_ {A = ℕ} 9 0 = z in omega arith) q in
     (leb-false (length srcs) (e .words .source) (s .0), s .1)
 
 -- the segment begins where the one before ends

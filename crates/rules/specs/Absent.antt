@@ -41,6 +41,7 @@ cleanSegment e = record {
   };
 }
 
+-- a table with the words of what is absent set to 0
 unfoldable pub clean : Table → Table
 clean t = record {
   uneven = t .uneven;

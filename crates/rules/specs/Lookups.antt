@@ -26,12 +26,14 @@ count p (a ∷ l) = when (p a) (suc (count p l)) (count p l)
 unfoldable pub ended : (Segment → Bool) → List Segment → ℕ
 ended p l = min (count p l) (length l - 1)
 
+-- a segment has ended where a frame is reached, and where a time is
 abbrev pub overBy : ℕ → Segment → Bool
 overBy frame e = leb (outEnd e) frame
 
 abbrev pub overByUs : ℤ → Segment → Bool
 overByUs time e = leZ (outEndUs e) time
 
+-- segment k, where the table is accepted
 unfoldable pub found : Checked → ℕ → Found
 found (Frames n) k = Index k
 found (Refused n i) k = NoIndex n i
@@ -54,6 +56,7 @@ runsOn p e =
     (eqb (p .words .source) (e .words .source) && eqb (p .words .first + p .words .count) (e .words .first))
     && sameShift (p .words .flag) (p .stamps .shift) (e .words .flag) (e .stamps .shift)
 
+-- b, where the table is accepted
 unfoldable pub continued : Checked → Bool → Continued
 continued (Frames n) b = Answer b
 continued (Refused n i) b = NoAnswer n i

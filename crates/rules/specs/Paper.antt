@@ -93,6 +93,7 @@ pub record Test : Type 1 where
   pub number : ℕ
   pub index : ℕ
 
+-- condition C is refused with n at i
 abbrev pub given : Type 0 → ℕ → ℕ → Test
 given C n i = record { holds = C; number = n; index = i }
 

@@ -18,10 +18,12 @@ pub record Stamps : Type 0 where
   pub capdur : ℤ
   pub shift : ℤ
 
+-- a segment; the Rust's TrimSegment
 pub record Segment : Type 0 where
   pub words : Words
   pub stamps : Stamps
 
+-- a table; the Rust's SegmentTable
 pub record Table : Type 0 where
   -- the slices' lengths are no whole number of records, or disagree: when that is, the layout says
   pub uneven : Bool

@@ -25,6 +25,7 @@ use Rattle.rules.specs.Records.{Stamps, Segment, Table, sourceOf, total}
 abbrev pub badWords : ℕ → ℕ → ℕ → ℕ → ℕ → Bool
 badWords n dated from size kind = (ltb 1 dated || ltb 2 kind) || (eqb dated 1 && past from size n)
 
+-- 1 of a source, and of a segment
 unfoldable pub badSource : ℕ → Source → Bool
 badSource n s = badWords n (s .dated) (s .from) (s .size) (s .kind)
 
@@ -60,6 +61,7 @@ sourceRefusal log text s =
     (when (log && eqb (s .kind) 0) 7
     0)))
 
+-- below 0
 abbrev pub negative : ℤ → Bool
 negative z = ltZ z (pos 0)
 
@@ -118,6 +120,7 @@ segmentRefusal srcs prev e =
 unfoldable pub start : Ends
 start = record { some = false; frame = 0; time = 0; capture = 0 }
 
+-- where a segment with these words and times ends
 unfoldable pub endsOf : Words → Times → Ends
 endsOf w t = record { some = true; frame = w .out + w .count; time = t .outstart + t .duration; capture = t .outcap + t .capdur }
 
@@ -147,6 +150,7 @@ refusal t =
     orRefused (frontRefusal (t .log) (t .text) (t .sources) (malformed t) (length (t .segments)))
     (segmentsFrom (t .sources) 0 start (t .segments))
 
+-- a refusal, or the n frames of a table that has none
 unfoldable pub answered : Refusal → ℕ → Checked
 answered Never n = Frames n
 answered (At n i) _ = Refused n i

@@ -1,25 +1,21 @@
 -- Tables that differ only in words of absent things get the same answers. Assumes nothing.
 use Prim.Native.Nat.{ℕ}
-use mathlib.Core.Path.{_≡_, refl, sym, ap, _∙_, subst}
-use mathlib.Core.Bool.{Bool, true, false}
+use mathlib.Core.Path.{_≡_, refl, sym, ap, _∙_}
 use mathlib.Core.List.{List, [], _∷_, map}
 use lib.ListN.{length, length-map}
 use lib.Dec.{eqb}
-use lib.IntN.{ℤ, pos}
 use Rattle.choice.specs.declared.Refusal.the-variants.{Never, At}
 use Rattle.choice.specs.Choice.{when}
 use Rattle.choice.specs.Records.{orRefused}
 use Rattle.choice.proofs.Tests.{decide}
-use Rattle.rows.specs.declared.Row.{Row}
 use Rattle.rows.specs.Lent.{wordsOf, shiftsOf}
 use Rattle.rules.specs.Records.{Segment, Table}
-use Rattle.rules.specs.Rules.{refusal, answered, checkOf}
+use Rattle.rules.specs.Rules.{checkOf}
 use Rattle.rules.specs.Lookups.{segmentOfFrame, segmentOfTime, continuesAt}
 use Rattle.rules.specs.Absent.{cleanSegment, clean}
 use Rattle.rules.proofs.Ignored.{refusal-clean, ignored}
-use Rattle.table.specs.declared.Filled.{Filled}
-use Rattle.table.specs.Rows.{rowOf, rowsOf, tooSmall, rowsRefusal, filled, after, Rowed}
-use Rattle.table.specs.Same.{SameAnswers, AbsentIgnored}
+use Rattle.table.specs.Rows.{rowOf, rowsOf, tooSmall, rowsRefusal, filled, after}
+use Rattle.table.specs.Same.{AbsentIgnored}
 
 row-clean : (e : Segment) → rowOf (cleanSegment e) ≡ rowOf e
 unfolding rowOf cleanSegment when

@@ -3,26 +3,25 @@ use Prim.Native.Nat.{ℕ, _+_, _-_, _/_, _≤_, _<_, min}
 use native.Mathlib.Nat.{zero-add}
 use native.Mathlib.Omega.{arith}
 use mathlib.Core.Path.{_≡_, refl, sym, ap, _∙_}
-use mathlib.Core.Bool.{Bool, true, false, _&&_}
+use mathlib.Core.Bool.{Bool, true, false}
 use mathlib.Core.List.{List}
 use lib.ListN.{length}
-use lib.Dec.{leb, ltb}
+use lib.Dec.{leb}
 use lib.IntN.{ℤ, pos, negsuc, natAbs}
 use lib.Signed.{leZ}
 use borrow.Author.Tests.{le-leb, lt-leb, lt-ltb, le-ltb}
-use Rattle.choice.specs.Records.{run}
 use Rattle.choice.proofs.Tests.{tf, and-false}
 use Rattle.choice.proofs.Runs.{getD-run}
 use Rattle.rules.specs.declared.Checked.the-variants.{Frames, Refused}
 use Rattle.rules.specs.declared.Found.the-variants.{Index, NoIndex}
 use Rattle.rules.specs.declared.Continued.the-variants.{Answer, NoAnswer}
 use Rattle.rules.specs.Limits.{maxU64, maxI64}
-use Rattle.rules.specs.Records.{Segment, Table, noSegment, segment, outEnd, outEndUs}
+use Rattle.rules.specs.Records.{Segment, noSegment, segment, outEnd, outEndUs}
 use Rattle.rules.specs.Rules.{negative, checkOf}
 use Rattle.rules.specs.Lookups.{count, ended, overBy, overByUs, found, segmentOfFrame, segmentOfTime, runsOn, continued, continuesAt}
 use Rattle.rules.specs.Steps.{endedBy, Ordered}
 use Rattle.rules.proofs.Accepted.{Accepted, accepted}
-use Rattle.rules.proofs.Search.{count-none, count-ended, ordered-same, endUs, frames-ordered, times-ordered}
+use Rattle.rules.proofs.Search.{count-none, count-ended, ordered-same, frames-ordered, times-ordered}
 use Rattle.table.specs.Layout.{segmentAt, segmentsOf, tableOf}
 use Rattle.table.specs.Steps.{endAt, endUsAt}
 use Rattle.table.proofs.Lent.{length-segments, Even, even}

@@ -1,6 +1,7 @@
-pub mod Alike
 pub mod Lent
 pub mod Asked
-pub mod Examples
-pub mod Mapped
 pub mod Written
+pub mod Mapped
+pub mod Alike
+pub mod Told
+pub mod Examples

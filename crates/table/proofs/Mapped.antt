@@ -1,24 +1,19 @@
 -- The rows of an accepted table are a well-formed map of its frames. Assumes nothing.
-use Prim.Native.Nat.{ℕ, zero, suc, _+_, _≤_, _<_, zero-le, suc-le-suc}
+use Prim.Native.Nat.{ℕ, suc, _+_, _≤_, _<_, zero-le, suc-le-suc}
 use native.Mathlib.Omega.{arith}
-use mathlib.Core.Path.{_≡_, refl, sym, ap, _∙_}
-use mathlib.Core.Bool.{Bool, true, false, not, _||_, _&&_}
+use mathlib.Core.Path.{_≡_, refl, ap, _∙_}
+use mathlib.Core.Bool.{true, false}
 use mathlib.Core.List.{List, [], _∷_, map}
 use lib.ListN.{length, getD, length-map}
 use lib.Dec.{eqb}
-use lib.IntN.{ℤ, pos}
 use borrow.Author.Tests.{eq-eqb, ne-eqb, lt-ltb, le-ltb, eqb-true, eqb-false}
 use Rattle.choice.specs.Choice.{when, past}
 use Rattle.choice.proofs.Tests.{decide}
-use Rattle.signed.specs.Signed.{eqZ}
-use Rattle.rows.specs.declared.Row.{Row}
-use Rattle.rows.specs.Rows.{largest, okShift, okRow, WellFrom, WellFormed}
+use Rattle.rows.specs.Rows.{largest, okShift, okRow, WellFrom}
 use Rattle.rows.specs.Rows as rows
-use Rattle.rules.specs.declared.Checked.the-variants.{Frames}
-use Rattle.rules.specs.Limits.{maxU64}
+use Rattle.rows.proofs.Flat.{rows-flat}
 use Rattle.rules.specs.Records.{Segment, Table, noSegment, segment, outEnd, total}
-use Rattle.rules.specs.Rules.{checkOf}
-use Rattle.rules.proofs.Accepted.{Accepted, Sound, accepted}
+use Rattle.rules.proofs.Accepted.{Accepted, accepted}
 use Rattle.table.specs.Rows.{rowOf, rowsOf, Mapped}
 
 not-past : (a b m : ℕ) → a + b ≤ m → past a b m ≡ false
@@ -74,6 +69,7 @@ mapped t = record {
   well = λ N e. let a = accepted t N e in rows-ok 0 (t .segments) (good N a) (λ b. a .first) (λ k b. a .follows k b .frame);
   frames = λ N e. rows-total (t .segments) ∙ accepted t N e .sum;
   each = length-map (t .segments) rowOf;
+  read = rows-flat (map rowOf (t .segments));
 }
   where
     good : (N : ℕ) → Accepted t N → (k : ℕ) → k < length (t .segments) → Good (segment t k)

@@ -1,12 +1,11 @@
 -- The words and shifts that `rows_of_table` writes are those of the rows. Assumes nothing.
-use Prim.Native.Nat.{ℕ, zero, suc, _+_, _-_, _*_, _/_, _≤_, _<_}
+use Prim.Native.Nat.{ℕ, zero, suc, _+_, _*_, _/_, _≤_, _<_}
 use native.Mathlib.Nat.{add-zero, zero-add, not-suc-le-zero, le-of-suc-le-suc}
-use native.Mathlib.Numerals.{add-one}
 use native.Mathlib.Omega.{arith}
 use mathlib.Core.Path.{_≡_, refl, sym, ap, _∙_}
-use mathlib.Core.Bool.{Bool, true, false, not, _||_}
-use mathlib.Core.List.{List, [], _∷_, _++_, append-nil, append-assoc, map}
-use lib.ListN.{length, getD, drop, length-map, List·getD-map, drop-of-length-le}
+use mathlib.Core.Bool.{Bool, true, false}
+use mathlib.Core.List.{List, [], _∷_, _++_, append-nil, map}
+use lib.ListN.{length, getD, drop, drop-of-length-le, length-map}
 use lib.Seq.{drop-cons}
 use lib.IntN.{ℤ, pos}
 use lib.Dec.{ltb}
@@ -18,13 +17,13 @@ use Rattle.choice.specs.Records.{run, orRefused}
 use Rattle.choice.proofs.Tests.{or-false}
 use Rattle.choice.proofs.Runs.{getD-run}
 use Rattle.slices.specs.Slices.{laid}
-use Rattle.rows.specs.declared.Row.{Row}
 use Rattle.rows.specs.Lent.{wordsOf, shiftsOf}
+use Rattle.rows.proofs.Flat.{length-shifts}
 use Rattle.rules.specs.declared.Checked.the-variants.{Frames, Refused}
-use Rattle.rules.specs.Records.{Segment, Table, noSegment}
-use Rattle.rules.specs.Rules.{refusal, answered, checkOf}
+use Rattle.rules.specs.Records.{Segment, noSegment}
+use Rattle.rules.specs.Rules.{answered, checkOf}
 use Rattle.table.specs.declared.Filled.the-variants.{Rows, NoRows}
-use Rattle.table.specs.Layout.{segmentWords, wordsAt, segmentAt, segmentsOf, tableOf}
+use Rattle.table.specs.Layout.{wordsAt, segmentAt, segmentsOf, tableOf}
 use Rattle.table.specs.Rows.{rowOf, rowsOf, tooSmall, rowsRefusal, filled, after, Rowed}
 use Rattle.table.proofs.Lent.{length-segments}
 use Rattle.table.proofs.Asked.{lengths}
@@ -65,10 +64,6 @@ words-all u t h =
     sym (words-run u t n 0 (omega arith)) ∙ ap (λ (l : List ℕ). w ++ l) (drop-of-length-le u {i = (0 + n) * 5} (omega arith)) ∙ append-nil w
 
 -- ---- shifts
-length-shifts : (l : List Segment) → length (shiftsOf (map rowOf l)) ≡ length l
-length-shifts [] = refl
-length-shifts (e ∷ l) = ap suc (length-shifts l)
-
 shifts-at : (l : List Segment) (k : ℕ) → k < length l → getD (shiftsOf (map rowOf l)) k (pos 0) ≡ rowOf (getD l k noSegment) .shift
 shifts-at [] k h = absurd (not-suc-le-zero h)
 shifts-at (e ∷ l) zero h = refl
@@ -82,7 +77,7 @@ module _ (u : List ℕ) (t : List ℤ) where
       ∙ ap (λ (e : Segment). rowOf e .shift) (getD-run (segmentAt u t) 0 (length u / 5) k noSegment h ∙ ap (segmentAt u t) (zero-add k))
 
   pub length-lent : length (shiftsOf (map rowOf (segmentsOf u t))) ≡ length u / 5
-  length-lent = length-shifts (segmentsOf u t) ∙ length-segments u t
+  length-lent = length-shifts (map rowOf (segmentsOf u t)) ∙ length-map (segmentsOf u t) rowOf ∙ length-segments u t
 
 -- ---- the answer
 pub has-room : (n nu ns : ℕ) → tooSmall n nu ns ≡ false → (n * 5 ≤ nu) × (n ≤ ns)

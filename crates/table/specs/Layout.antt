@@ -59,6 +59,7 @@ stampsAt t k = record {
 abbrev pub segmentAt : List ℕ → List ℤ → ℕ → Segment
 segmentAt u t k = record { words = wordsAt u k; stamps = stampsAt t k }
 
+-- all sources, and all segments
 unfoldable pub sourcesOf : List ℕ → List Source
 sourcesOf s = run (sourceAt s) 0 (length s / sourceWords)
 

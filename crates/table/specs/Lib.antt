@@ -1,4 +1,5 @@
 pub mod Layout
+pub mod Answers
 pub mod Rows
 pub mod Same
 pub mod Steps

@@ -13,6 +13,7 @@ use Rattle.choice.specs.Records.{orRefused}
 use Rattle.slices.specs.Slices.{laid}
 use Rattle.rows.specs.declared.Row.{Row}
 use Rattle.rows.specs.Lent.{wordsOf, shiftsOf}
+use Rattle.rows.specs.Lent as lent
 use Rattle.rows.specs.Rows.{WellFormed}
 use Rattle.rows.specs.Rows as rows
 use Rattle.rules.specs.declared.Checked.the-variants.{Frames}
@@ -74,3 +75,5 @@ pub record Mapped (t : Table) : Type 0 where
   pub well : (N : ℕ) → checkOf t ≡ Frames N → WellFormed (rowsOf t)
   pub frames : (N : ℕ) → checkOf t ≡ Frames N → rows.total (rowsOf t) ≡ N
   pub each : length (rowsOf t) ≡ length (t .segments)
+  -- the words and shifts that are written, lent as a map again, are these rows
+  pub read : lent.rows (wordsOf (rowsOf t)) (shiftsOf (rowsOf t)) ≡ rowsOf t

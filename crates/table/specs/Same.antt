@@ -11,6 +11,7 @@ use Rattle.rules.specs.Absent.{clean}
 use Rattle.table.specs.declared.Filled.{Filled}
 use Rattle.table.specs.Rows.{Rowed}
 
+-- every call answers for b what it answers for a
 pub record SameAnswers (a b : Table) : Type 0 where
   pub check : checkOf a ≡ checkOf b
   pub frame : (k : ℕ) → segmentOfFrame a k ≡ segmentOfFrame b k
@@ -18,5 +19,6 @@ pub record SameAnswers (a b : Table) : Type 0 where
   pub continues : (r : ℕ) → continuesAt a r ≡ continuesAt b r
   pub rows : (ou : List ℕ) (os : List ℤ) (r : Filled) (ou′ : List ℕ) (os′ : List ℤ) → Rowed a ou os r ou′ os′ → Rowed b ou os r ou′ os′
 
+-- of all such tables
 abbrev pub AbsentIgnored : Type 0
 AbsentIgnored = (a b : Table) → clean a ≡ clean b → SameAnswers a b

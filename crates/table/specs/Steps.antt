@@ -4,6 +4,7 @@ use mathlib.Core.List.{List}
 use lib.IntN.{ℤ, natAbs}
 use Rattle.table.specs.Layout.{wordsAt, stampsAt}
 
+-- the frame after its last
 abbrev pub endAt : List ℕ → ℕ → ℕ
 endAt u k = wordsAt u k .out + wordsAt u k .count
 

@@ -223,13 +223,13 @@ fn segments(sources: &[u64], u: &[u64], t: &[i64]) -> Checked
         time: 0,
         capture: 0,
     };
-    let mut k = 0;
-    while k < m {
-        match turn_at(sources, u, t, prev, k) {
-            Turn::Stop(n) => return Checked::Refused(n, k),
+    let mut e = 0;
+    while e < m {
+        match turn_at(sources, u, t, prev, e) {
+            Turn::Stop(n) => return Checked::Refused(n, e),
             Turn::Go(next) => prev = next,
         }
-        k += 1;
+        e += 1;
     }
     Checked::Frames(prev.frame)
 }

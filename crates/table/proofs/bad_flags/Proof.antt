@@ -6,7 +6,6 @@ use native.Mathlib.Omega.{arith}
 use lib.IntN.{ℤ}
 use borrow.Author.Needs.{needs}
 use borrow.Author.Tests.{lt-ltb, le-ltb}
-use denote.Ref.{now}
 use Rattle.table.specs.Layout.{segmentAt, segmentsOf}
 use Rattle.choice.specs.Records.{run}
 use Rattle.choice.specs.Records.{any}

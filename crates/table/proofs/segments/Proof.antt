@@ -8,10 +8,10 @@ use Rattle.table.proofs.segments.Statement.{statement}
 use Rattle.table.proofs.segments.Tie as tie
 
 abbrev Inv-loop : tie.InvT-loop
-Inv-loop sources u t m prev₀ k₀ prev k = Walk (sourcesOf sources) (segmentAt u t) m k prev
+Inv-loop sources u t m prev₀ e₀ prev e = Walk (sourcesOf sources) (segmentAt u t) m e prev
 
 abbrev μ-loop : tie.MeasureT-loop
-μ-loop sources u t m prev₀ k₀ prev k = m - k
+μ-loop sources u t m prev₀ e₀ prev e = m - e
 
 loop-holds : tie.Need-loop-holds Inv-loop μ-loop
 unfolding start

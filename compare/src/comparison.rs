@@ -1,0 +1,131 @@
+//! The comparison of a case, and its count.
+
+use std::{ collections::BTreeMap, time::{ Duration, Instant } };
+use crate::{ case::{ Answer, Call, Case, Outcome, outcome }, generate, ours, random::Random, reference, rust::{ self, Said }, shrink, text };
+
+/// How a case differs
+#[derive(Debug)]
+pub enum Difference {
+    /// The reading of document 01 and the Rust
+    Reading { rust: Said, reading: Answer },
+    /// The library and what is expected of it
+    Library { expected: Box<Outcome>, library: Box<Outcome> },
+    /// The library wrote where it may only read
+    Written,
+}
+
+/// Numbers outside the domain of demand 2, the room for an answer aside
+const OUTSIDE: [u64; 6] = [1, 2, 20, 30, 34, 42];
+
+/// Compares one case; what is expected, or the difference
+pub fn compare(case: &Case) -> Result<Answer, Difference> {
+    let reading = reference::answer(case);
+    let rust = rust::says(case);
+    let agrees = match &rust {
+        Said::Answer(answer) => *answer == reading || reading.number == 32,
+        Said::Panicked => reading.number == 33 || reading.number == 32,
+        Said::Outside => OUTSIDE.contains(&reading.number),
+        Said::Silent => true,
+    };
+    if !agrees { return Err(Difference::Reading { rust, reading }); }
+    if let Some(mut lent) = ours::Lent::of(case) {
+        let before = case.fingerprint();
+        let number = lent.call(case);
+        if case.fingerprint() != before { return Err(Difference::Written); }
+        let library = lent.outcome(case, number);
+        let expected = outcome(case, &reading);
+        if library != expected { return Err(Difference::Library { expected: Box::new(expected), library: Box::new(library) }); }
+    }
+    Ok(reading)
+}
+
+/// What was seen of one call
+#[derive(Default)]
+pub struct Tally {
+    pub cases: u64,
+    /// How often each number was answered, 0 where accepted
+    pub numbers: BTreeMap<u64, u64>,
+    pub differences: u64,
+}
+
+/// What is to be run
+pub struct Plan {
+    pub seed: u64,
+    pub only: Option<Call>,
+    pub time: Duration,
+    pub least: u64,
+}
+
+pub struct Run {
+    pub tallies: BTreeMap<Call, Tally>,
+    pub rounds: u64,
+}
+
+/// How many differences of a call are made small and shown
+const SHOWN: u64 = 2;
+
+impl Run {
+    fn take(&mut self, case: Case) {
+        let tally = self.tallies.entry(case.call()).or_default();
+        tally.cases += 1;
+        match compare(&case) {
+            Ok(answer) => *tally.numbers.entry(answer.number).or_default() += 1,
+            Err(_) => {
+                tally.differences += 1;
+                if tally.differences <= SHOWN { show(&shrink::smallest(case, |case| compare(case).is_err())); }
+            }
+        }
+    }
+
+    pub fn differences(&self) -> u64 { self.tallies.values().map(|t| t.differences).sum() }
+    fn cases(&self) -> u64 { self.tallies.values().map(|t| t.cases).sum() }
+}
+
+/// Prints a case and what each side says of it; whether they agree
+pub fn show(case: &Case) -> bool {
+    println!("{}", text::case_line(case));
+    match compare(case) {
+        Err(Difference::Reading { rust, reading }) => println!("  differs: the Rust says      {rust:?}\n           document 01 says   {reading:?}"),
+        Err(Difference::Library { expected, library }) => println!("  differs: expected           {expected:?}\n           the library says   {library:?}"),
+        Err(Difference::Written) => println!("  differs: the library wrote into what it may only read"),
+        Ok(answer) => println!("  agreed: {answer:?}"),
+    }
+    compare(case).is_ok()
+}
+
+/// Runs the fixed cases, then round after round of random ones, until the time is over and there are enough
+pub fn run(plan: &Plan) -> Run {
+    let mut run = Run { tallies: BTreeMap::new(), rounds: 0 };
+    let calls: Vec<Call> = Call::ALL.into_iter().filter(|call| plan.only.is_none_or(|only| only == *call)).collect();
+    let began = Instant::now();
+    for call in &calls { generate::fixed(*call, &mut |case| run.take(case)); }
+    while began.elapsed() < plan.time || run.cases() < plan.least {
+        for call in &calls {
+            let mut r = Random::of(plan.seed, run.rounds, *call as u64);
+            for _ in 0..turns(*call) { generate::random(*call, &mut r, &mut |case| run.take(case)); }
+        }
+        run.rounds += 1;
+    }
+    run
+}
+
+/// How many turns a round gives a call: fewer where a turn costs more or makes several cases
+fn turns(call: Call) -> u64 {
+    match call {
+        Call::IsUtcSecond | Call::TicksToUs | Call::BoxSize | Call::VideoFrameTimesOfMoov => 20_000,
+        Call::Child | Call::FindBox | Call::TableText | Call::McrawTimes | Call::Check | Call::ValidateConstant | Call::ValidateTimes | Call::CheckMcraw => 10_000,
+        Call::Cut | Call::Join | Call::Merge | Call::Origin => 5_000,
+        _ => 2_000,
+    }
+}
+
+/// The table of a run
+pub fn print(run: &Run, plan: &Plan) {
+    println!("| call | cases | accepted | refused: number × times | differences |\n|---|---:|---:|---|---:|");
+    for (call, tally) in &run.tallies {
+        let accepted = tally.numbers.get(&0).copied().unwrap_or(0);
+        let refused: Vec<String> = tally.numbers.iter().filter(|(n, _)| **n != 0).map(|(n, times)| format!("{n} × {times}")).collect();
+        println!("| `{}` | {} | {accepted} | {} | {} |", call.name(), tally.cases, refused.join(", "), tally.differences);
+    }
+    println!("\nseed {}, rounds {}, cases {}, differences {}", plan.seed, run.rounds, run.cases(), run.differences());
+}

@@ -1,0 +1,80 @@
+//! Real files: the frame times of each, by the Rust, by the library, and by ffprobe.
+
+use std::{ fs, io, path::{ Path, PathBuf }, process::Command };
+use crate::{ case::{ Answer, Case }, comparison, generate::boxes::{ Form, boxed }, ours, reference::boxes::{ code, walk } };
+
+/// Compares every file of a folder and prints a table; whether the library and the Rust agree on all
+pub fn compare(folder: &Path) -> io::Result<bool> {
+    with_a_wide_moov(folder)?;
+    let mut files: Vec<PathBuf> = fs::read_dir(folder)?.collect::<io::Result<Vec<_>>>()?.into_iter().map(|e| e.path()).collect();
+    files.retain(|f| f.extension().is_some_and(|e| e == "mp4" || e == "mov"));
+    files.sort();
+    println!("| file | frames | timescale | nominal | end | {} | ffprobe's packets | ffprobe's frames |", if ours::LINKED { "library and Rust" } else { "Rust" });
+    println!("|---|---:|---:|---:|---:|---|---|---|");
+    let mut agreed = true;
+    for file in files { agreed &= line(&file)?; }
+    Ok(agreed)
+}
+
+/// One line of the table
+fn line(path: &Path) -> io::Result<bool> {
+    let name = path.file_name().unwrap_or_default().to_string_lossy().into_owned();
+    let (answer, agrees) = answered(&fs::read(path)?);
+    let said = if agrees { "same" } else { "differ" };
+    let (packets, frames) = (probe(path, PACKETS)?, probe(path, FRAMES)?);
+    if answer.number != 0 {
+        println!("| `{name}` | | | | | {said}, refused {} | {} packets | {} frames |", answer.number, packets.len(), frames.len());
+        return Ok(agrees);
+    }
+    let [count, scale, nominal, end] = answer.values;
+    println!("| `{name}` | {count} | {scale} | {nominal} | {end} | {said} | {} | {} |", beside(&answer.longs, &packets), beside(&answer.longs, &frames));
+    Ok(agrees)
+}
+
+/// The frame times of a file: what the Rust, the reading of document 01 and the library say of its moov, and whether they agree
+fn answered(file: &[u8]) -> (Answer, bool) {
+    let top = walk(file, 0, file.len());
+    let Some(moov) = top.iter().find(|b| b.kind == code(b"moov")) else { return (Answer::refused((31, 0)), true) };
+    let bytes = &file[moov.start..moov.end];
+    let room = [bytes.len(); 3];
+    let case = Case::VideoFrameTimesOfMoov { moov: bytes.to_vec(), room };
+    let found = Case::FindBox { bytes: file.to_vec(), from: 0, to: file.len() as u64, kind: code(b"moov"), text_types: true };
+    let place = comparison::compare(&found);
+    match comparison::compare(&case) {
+        Ok(answer) => (answer, place.is_ok_and(|p| p.values[..2] == [moov.start as i128, bytes.len() as i128])),
+        Err(_) => (Answer::default(), false),
+    }
+}
+
+/// How our starts stand beside ffprobe's times
+fn beside(starts: &[i64], times: &[i64]) -> String {
+    if starts == times { return "same".into(); }
+    let first = starts.iter().zip(times).position(|(a, b)| a != b);
+    match first {
+        None => format!("{} there, {} here", times.len(), starts.len()),
+        Some(k) if starts.len() == times.len() && starts.iter().zip(times).all(|(a, b)| a - b == starts[k] - times[k]) => format!("all later by {} there", times[k] - starts[k]),
+        Some(k) => format!("frame {k} at {} there, at {} here ({} there, {} here)", times[k], starts[k], times.len(), starts.len()),
+    }
+}
+
+const PACKETS: &str = "packet=pts,flags";
+const FRAMES: &str = "frame=pts";
+
+/// The presentation times of packets or frames, ascending; packets that are to be discarded are left out
+fn probe(path: &Path, entries: &str) -> io::Result<Vec<i64>> {
+    let out = Command::new("ffprobe").args(["-v", "error", "-select_streams", "v:0", "-of", "csv=p=0", "-show_entries", entries]).arg(path).output()?;
+    if !out.status.success() { return Err(io::Error::other(format!("ffprobe: {}", String::from_utf8_lossy(&out.stderr)))); }
+    let text = String::from_utf8_lossy(&out.stdout);
+    let lines = text.lines().filter(|l| !l.split(',').nth(1).is_some_and(|flags| flags.contains('D')));
+    let mut times: Vec<i64> = lines.filter_map(|l| l.split(',').next()?.parse().ok()).collect();
+    times.sort();
+    Ok(times)
+}
+
+/// Writes a copy of one file whose moov, its last box, has a 64-bit size
+fn with_a_wide_moov(folder: &Path) -> io::Result<()> {
+    let file = fs::read(folder.join("b-frames-edit-list.mp4"))?;
+    let last = *walk(&file, 0, file.len()).last().ok_or(io::ErrorKind::InvalidData)?;
+    let moov = boxed(Form::Long, b"moov", &file[last.start..last.end]);
+    fs::write(folder.join("moov-in-a-64-bit-box.mp4"), [&file[..last.start - 8], &moov].concat())
+}

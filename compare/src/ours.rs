@@ -1,0 +1,20 @@
+//! The library, called as C calls it.
+
+#[cfg(feature = "archive")]
+mod linked;
+#[cfg(feature = "archive")]
+pub use linked::Lent;
+
+/// Whether the library is there
+pub const LINKED: bool = cfg!(feature = "archive");
+
+/// Where the library isn't linked, nothing is ever lent to it
+#[cfg(not(feature = "archive"))]
+pub enum Lent {}
+
+#[cfg(not(feature = "archive"))]
+impl Lent {
+    pub fn of(_: &crate::case::Case) -> Option<Self> { None }
+    pub fn call(&mut self, _: &crate::case::Case) -> u64 { match *self {} }
+    pub fn outcome(self, _: &crate::case::Case, _: u64) -> crate::case::Outcome { match self {} }
+}

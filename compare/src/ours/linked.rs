@@ -1,0 +1,263 @@
+//! The declarations of include/segment_table.h, and one call of each for a case.
+
+use std::ptr::{ null, null_mut };
+use crate::case::{ Call, Case, LENT_VALUE, Outcome, Table, lent_longs, lent_words };
+
+/// A segment as the lookup over records takes it
+#[repr(C)]
+pub struct TrimSegment {
+    source: u64,
+    src_first_frame: u64,
+    frame_count: u64,
+    out_first_frame: u64,
+    src_start_us: i64,
+    out_start_us: i64,
+    duration_us: i64,
+    src_capture_start_us: i64,
+    out_capture_start_us: i64,
+    capture_duration_us: i64,
+    shift_present: bool,
+    clock_shift: i64,
+}
+
+type Words = *const u64;
+type Longs = *const i64;
+type Bytes = *const u8;
+type Word = *mut u64;
+type Long = *mut i64;
+
+/// Declares calls whose first parameters are a table, as slices and a flag
+macro_rules! of_table {
+    ($(fn $name:ident($($arg:ident: $kind:ty),*);)*) => {
+        unsafe extern "C" {
+            $(fn $name(
+                sources: Words, sources_len: usize, segments: Words, segments_len: usize, times: Longs, times_len: usize,
+                log: bool, text: Bytes, text_len: usize, $($arg: $kind),*
+            ) -> u64;)*
+        }
+    };
+}
+
+of_table! {
+    fn st_check(frames: Word, index: Word);
+    fn st_segment_of_frame(frame: u64, segment: Word, index: Word);
+    fn st_segment_of_time_us(time: i64, segment: Word, index: Word);
+    fn st_continues(segment: u64, answer: Word, index: Word);
+    fn st_rows_of_table(out_words: Word, out_words_len: usize, out_shifts: Long, out_shifts_len: usize, rows: Word, index: Word);
+    fn st_validate_no_video(index: Word);
+    fn st_validate_constant(video_frames: u64, num: u64, den: u64, frames: Word, index: Word);
+    fn st_validate_times(scale: u64, starts: Longs, starts_len: usize, end: i64, nominal: i64, frames: Word, index: Word);
+    fn st_check_mcraw(
+        timestamps: Longs, timestamps_len: usize, work_a: Long, work_a_len: usize, work_b: Long, work_b_len: usize, frames: Word, index: Word
+    );
+}
+
+unsafe extern "C" {
+    fn st_is_utc_second(bytes: Bytes, bytes_len: usize) -> bool;
+    fn st_ticks_to_us(ticks: i64, scale: u64, us: Long) -> u64;
+    fn st_box_size(data: Bytes, data_len: usize, remaining: u64, size: Word, header: Word) -> u64;
+    fn st_child(payload: Bytes, payload_len: usize, kind: u32, start: Word, length: Word) -> u64;
+    fn st_find_box(bytes: Bytes, bytes_len: usize, from: u64, to: u64, kind: u32, text_types: bool, start: Word, length: Word) -> u64;
+    fn st_table_text(file: Bytes, file_len: usize, start: Word, length: Word) -> u64;
+    fn st_video_frame_times_of_moov(
+        moov: Bytes, moov_len: usize, starts: Long, starts_len: usize, work_a: Long, work_a_len: usize, work_b: Long, work_b_len: usize,
+        frames: Word, scale: Word, nominal: Long, end: Long,
+    ) -> u64;
+    fn st_mcraw_times(
+        timestamps: Longs, timestamps_len: usize, starts: Long, starts_len: usize, work: Long, work_len: usize,
+        frames: Word, scale: Word, nominal: Long, end: Long, index: Word,
+    ) -> u64;
+    fn st_cut(
+        words: Words, words_len: usize, shifts: Longs, shifts_len: usize, a: u64, b: u64,
+        out_words: Word, out_words_len: usize, out_shifts: Long, out_shifts_len: usize, rows: Word, index: Word,
+    ) -> u64;
+    fn st_join(
+        words: Words, words_len: usize, shifts: Longs, shifts_len: usize, words_b: Words, words_b_len: usize, shifts_b: Longs, shifts_b_len: usize,
+        out_words: Word, out_words_len: usize, out_shifts: Long, out_shifts_len: usize, rows: Word, index: Word,
+    ) -> u64;
+    fn st_merge(
+        words: Words, words_len: usize, shifts: Longs, shifts_len: usize,
+        out_words: Word, out_words_len: usize, out_shifts: Long, out_shifts_len: usize, rows: Word, index: Word,
+    ) -> u64;
+    fn st_origin(
+        words: Words, words_len: usize, shifts: Longs, shifts_len: usize, frame: u64,
+        source: Word, source_frame: Word, flag: Word, shift: Long, index: Word,
+    ) -> u64;
+    fn st_segment_of_frame_records(
+        sources: Words, sources_len: usize, text: Bytes, text_len: usize, records: *const TrimSegment, records_len: usize, log: bool,
+        frame: u64, segment: Word, index: Word,
+    ) -> u64;
+}
+
+/// The pointer to a slice, null where it is empty
+fn ptr<T>(slice: &[T]) -> *const T { if slice.is_empty() { null() } else { slice.as_ptr() } }
+fn mut_ptr<T>(slice: &mut [T]) -> *mut T { if slice.is_empty() { null_mut() } else { slice.as_mut_ptr() } }
+
+/// Calls a function with a table's slices, then the arguments
+macro_rules! with_table {
+    ($name:ident, $table:expr, $($arg:expr),*) => {{
+        let t: &Table = &$table.table;
+        $name(
+            ptr(&t.sources), t.sources.len(), ptr(&t.segments), t.segments.len(), ptr(&t.times), t.times.len(),
+            t.log, ptr(&t.text), t.text.len(), $($arg),*
+        )
+    }};
+}
+
+/// Calls a function with a map's slices, then the arguments
+macro_rules! with_map {
+    ($name:ident, $map:expr, $($arg:expr),*) => {
+        $name(ptr(&$map.words), $map.words.len(), ptr(&$map.shifts), $map.shifts.len(), $($arg),*)
+    };
+}
+
+/// The segments of a table as records; none where they can't be lent so
+fn records(table: &Table) -> Option<Vec<TrimSegment>> {
+    if !table.has_records() { return None; }
+    Some(table.segments.chunks(5).zip(table.times.chunks(7)).map(|(w, t)| TrimSegment {
+        source: w[0],
+        src_first_frame: w[1],
+        frame_count: w[2],
+        out_first_frame: w[3],
+        src_start_us: t[0],
+        out_start_us: t[1],
+        duration_us: t[2],
+        src_capture_start_us: t[3],
+        out_capture_start_us: t[4],
+        capture_duration_us: t[5],
+        shift_present: w[4] == 1,
+        clock_shift: t[6],
+    }).collect())
+}
+
+/// The words and slices that are lent to a call
+pub struct Lent {
+    u: [u64; 3],
+    i: [i64; 2],
+    index: u64,
+    words: Vec<u64>,
+    longs: [Vec<i64>; 3],
+    records: Vec<TrimSegment>,
+}
+
+impl Lent {
+    /// What is lent for a case; none for a case that can't be put to the library
+    pub fn of(case: &Case) -> Option<Self> {
+        let (value, none) = (LENT_VALUE, [vec![], vec![], vec![]]);
+        let mut lent = Self { u: [value; 3], i: [value as i64; 2], index: value, words: vec![], longs: none, records: vec![] };
+        let rooms: &[usize] = match case {
+            Case::RowsOfTable { room, .. } | Case::Cut { room, .. } | Case::Join { room, .. } | Case::Merge { room, .. } => {
+                lent.words = lent_words(room[0]);
+                &room[1..]
+            }
+            Case::McrawTimes { room, .. } | Case::CheckMcraw { room, .. } => room,
+            Case::VideoFrameTimesOfMoov { room, .. } => room,
+            _ => &[],
+        };
+        for (slice, len) in lent.longs.iter_mut().zip(rooms) { *slice = lent_longs(*len); }
+        if let Case::SegmentOfFrameRecords { table, .. } = case { lent.records = records(&table.table)?; }
+        Some(lent)
+    }
+
+    /// Calls the library; the number
+    pub fn call(&mut self, case: &Case) -> u64 {
+        match case {
+            Case::Check { .. } | Case::SegmentOfFrame { .. } | Case::SegmentOfFrameRecords { .. } | Case::SegmentOfTimeUs { .. }
+                | Case::Continues { .. } | Case::RowsOfTable { .. } => self.call_table(case),
+            Case::ValidateNoVideo { .. } | Case::ValidateConstant { .. } | Case::ValidateTimes { .. } | Case::CheckMcraw { .. } => self.call_judge(case),
+            Case::Cut { .. } | Case::Join { .. } | Case::Merge { .. } | Case::Origin { .. } => self.call_maps(case),
+            _ => self.call_rest(case),
+        }
+    }
+
+    fn call_table(&mut self, case: &Case) -> u64 {
+        let (value, index) = (&mut self.u[0], &mut self.index);
+        let (words, shifts) = (&mut self.words, &mut self.longs[0]);
+        unsafe {
+            match case {
+                Case::Check { table } => with_table!(st_check, table, value, index),
+                Case::SegmentOfFrame { table, frame } => with_table!(st_segment_of_frame, table, *frame, value, index),
+                Case::SegmentOfTimeUs { table, time } => with_table!(st_segment_of_time_us, table, *time, value, index),
+                Case::Continues { table, segment } => with_table!(st_continues, table, *segment, value, index),
+                Case::RowsOfTable { table, .. } => with_table!(st_rows_of_table, table, mut_ptr(words), words.len(), mut_ptr(shifts), shifts.len(), value, index),
+                Case::SegmentOfFrameRecords { table, frame } => {
+                    let (t, records) = (&table.table, &self.records);
+                    st_segment_of_frame_records(ptr(&t.sources), t.sources.len(), ptr(&t.text), t.text.len(), ptr(records), records.len(), t.log, *frame, value, index)
+                }
+                _ => unreachable!(),
+            }
+        }
+    }
+
+    fn call_judge(&mut self, case: &Case) -> u64 {
+        let (value, index) = (&mut self.u[0], &mut self.index);
+        let [a, b, _] = &mut self.longs;
+        unsafe {
+            match case {
+                Case::ValidateNoVideo { table } => with_table!(st_validate_no_video, table, index),
+                Case::ValidateConstant { table, frames, num, den } => with_table!(st_validate_constant, table, *frames, *num, *den, value, index),
+                Case::ValidateTimes { table, scale, starts, end, nominal } => with_table!(st_validate_times, table, *scale, ptr(starts), starts.len(), *end, *nominal, value, index),
+                Case::CheckMcraw { table, timestamps, .. } => {
+                    with_table!(st_check_mcraw, table, ptr(timestamps), timestamps.len(), mut_ptr(a), a.len(), mut_ptr(b), b.len(), value, index)
+                }
+                _ => unreachable!(),
+            }
+        }
+    }
+
+    fn call_maps(&mut self, case: &Case) -> u64 {
+        let ([value, source_frame, flag], [shift, _], index) = (&mut self.u, &mut self.i, &mut self.index);
+        let (words, shifts) = (&mut self.words, &mut self.longs[0]);
+        let (room, more) = (words.len(), shifts.len());
+        let (words, shifts) = (mut_ptr(words), mut_ptr(shifts));
+        unsafe {
+            match case {
+                Case::Cut { map, a, b, .. } => with_map!(st_cut, map, *a, *b, words, room, shifts, more, value, index),
+                Case::Join { first, second, .. } => {
+                    with_map!(st_join, first, ptr(&second.words), second.words.len(), ptr(&second.shifts), second.shifts.len(), words, room, shifts, more, value, index)
+                }
+                Case::Merge { map, .. } => with_map!(st_merge, map, words, room, shifts, more, value, index),
+                Case::Origin { map, frame } => with_map!(st_origin, map, *frame, value, source_frame, flag, shift, index),
+                _ => unreachable!(),
+            }
+        }
+    }
+
+    fn call_rest(&mut self, case: &Case) -> u64 {
+        let ([a, b, _], [c, d], [starts, one, two]) = (&mut self.u, &mut self.i, &mut self.longs);
+        let rooms = [starts.len(), one.len(), two.len()];
+        let (starts, one, two) = (mut_ptr(starts), mut_ptr(one), mut_ptr(two));
+        unsafe {
+            match case {
+                Case::IsUtcSecond { bytes } => { *a = st_is_utc_second(ptr(bytes), bytes.len()) as u64; 0 }
+                Case::TicksToUs { ticks, scale } => st_ticks_to_us(*ticks, *scale, c),
+                Case::BoxSize { data, remaining } => st_box_size(ptr(data), data.len(), *remaining, a, b),
+                Case::Child { payload, kind } => st_child(ptr(payload), payload.len(), *kind, a, b),
+                Case::FindBox { bytes, from, to, kind, text_types } => st_find_box(ptr(bytes), bytes.len(), *from, *to, *kind, *text_types, a, b),
+                Case::TableText { file } => st_table_text(ptr(file), file.len(), a, b),
+                Case::VideoFrameTimesOfMoov { moov, .. } => {
+                    st_video_frame_times_of_moov(ptr(moov), moov.len(), starts, rooms[0], one, rooms[1], two, rooms[2], a, b, c, d)
+                }
+                Case::McrawTimes { timestamps, .. } => {
+                    st_mcraw_times(ptr(timestamps), timestamps.len(), starts, rooms[0], one, rooms[1], a, b, c, d, &mut self.index)
+                }
+                _ => unreachable!(),
+            }
+        }
+    }
+
+    /// What the caller sees after a call that answered `number`
+    pub fn outcome(self, case: &Case, number: u64) -> Outcome {
+        let call = case.call();
+        let (u, i) = (self.u.map(|u| u as i128), self.i.map(|i| i as i128));
+        let values = match call {
+            Call::TicksToUs => [i[0], 0, 0, 0],
+            Call::VideoFrameTimesOfMoov | Call::McrawTimes => [u[0], u[1], i[0], i[1]],
+            Call::Origin => [u[0], u[1], u[2], i[0]],
+            _ => [u[0], u[1], u[2], 0],
+        };
+        let mut after = Outcome { number, index: if call.has_index() { self.index } else { 0 }, words: self.words, longs: self.longs, ..Outcome::default() };
+        after.values[..call.values()].copy_from_slice(&values[..call.values()]);
+        after
+    }
+}

@@ -1,0 +1,8 @@
+pub mod Choices
+pub mod Nearness
+pub mod FrameLaws
+pub mod KeepLaws
+pub mod ShowLaws
+pub mod TrackLaws
+pub mod Once
+pub mod Examples

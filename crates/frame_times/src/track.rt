@@ -1,0 +1,133 @@
+// From the moov to the tables of its first video track, in the order of the Rust.
+use crate::FrameTimes;
+use crate::times::{present, refused};
+use crate::{NO_ROOM, NO_TIMES, TOO_LONG};
+use boxes::MOST_BYTES;
+use boxes::Walk;
+use boxes::part::{inner_child, payload};
+use boxes::read::code;
+use boxes::search::find_child;
+use boxes::track::find_video_track;
+use tracks::Edited;
+use tracks::Rows;
+use tracks::edits::edit_of;
+use tracks::tables::{count_rows, lay, optional_rows, scale};
+ghost use mathlib.Core.Path.{_≡_};
+ghost use mathlib.Core.List.{map};
+ghost use Prim.Native.Nat.{_-_, _*_, _≤_, _<_, _^_, min};
+ghost use lib.ListN.{length};
+ghost use lib.IntN.{pos};
+ghost use Rattle.tracks.specs.Tables.{entriesOf, total, durations, optionalRows};
+ghost use Rattle.frame_times.specs.Times.{Answered, room, ofOffsets, ofTables, ofMedia, ofTrack, timesOf};
+
+// The smaller of two.
+fn smaller(x: usize, y: usize) -> usize
+    ensures { λ r. ⌜ r ≡ min x y ⌝ }
+{
+    if x < y { x } else { y }
+}
+
+// The room that three slices have.
+fn least_length(x: &[i64], y: &[i64], z: &[i64]) -> usize
+    ensures { λ r. ⌜ r ≡ room (now (x .entry)) (now (y .entry)) (now (z .entry)) ⌝ }
+{
+    let n = smaller(x.len(), y.len());
+    smaller(n, z.len())
+}
+
+// Answers past the room test: the offsets, then the edit. b has the durations.
+fn past_room(stts: &[u8], n: usize, ctts: &[u8], edts: &[u8], scale: u64, movie: u64, starts: &mut [i64], a: &mut [i64], b: &mut [i64]) -> FrameTimes
+    requires { ⌜ (n * 8 ≤ length (now stts) - 8) × (length (now a) ≡ total (entriesOf n (now stts))) × (length (now a) ≤ 16777216) × (length (now a) ≤ length (now starts)) ⌝ }
+    requires { ⌜ (now b ≡ map pos (durations n (now stts))) × (scale < 2 ^ 32) × (0 < movie) × (movie < 2 ^ 32) ⌝ }
+    ensures { λ r. ⌜ Answered (ofOffsets (optionalRows (now (ctts .entry))) (now (ctts .entry)) (now (edts .entry)) scale movie (durations n (now (stts .entry)))) r (now (starts .entry)) (now (starts .exit)) ⌝ }
+{
+    let Rows::Whole(m) = optional_rows(ctts) else {
+        return refused(NO_TIMES);
+    };
+    let Edited::By(e) = edit_of(edts, scale, movie) else {
+        return refused(NO_TIMES);
+    };
+    present(stts, n, ctts, m, e, scale, starts, a, b)
+}
+
+// Answers with the stbl and the edts of a track, whose timescale and movie's timescale aren't 0.
+fn of_tables(bytes: usize, movie: u64, scale: u64, edts: &[u8], stbl: &[u8], starts: &mut [i64], a: &mut [i64], b: &mut [i64]) -> FrameTimes
+    requires { ⌜ (bytes ≤ 16777216) × (scale < 2 ^ 32) × (0 < movie) × (movie < 2 ^ 32) ⌝ }
+    ensures { λ r. ⌜ Answered (ofTables bytes (room (now (starts .entry)) (now (a .entry)) (now (b .entry))) movie scale (now (edts .entry)) (now (stbl .entry))) r (now (starts .entry)) (now (starts .exit)) ⌝ }
+{
+    let w = find_child(stbl, code(b"stts"));
+    let Walk::Found { start: _, len: _ } = w else {
+        return refused(NO_TIMES);
+    };
+    let stts = payload(stbl, w);
+    let Rows::Whole(n) = count_rows(stts) else {
+        return refused(NO_TIMES);
+    };
+    let f = lay(stts, n, bytes, b);
+    if bytes < f {
+        return refused(NO_TIMES);
+    }
+    if least_length(starts, a, b) < f {
+        return refused(NO_ROOM);
+    }
+    let ctts = inner_child(stbl, code(b"ctts"));
+    past_room(stts, n, ctts, edts, scale, movie, starts, &mut a[..f], &mut b[..f])
+}
+
+// Answers with the mdia of a video track, which has its timescale and, two boxes below, its stbl.
+fn of_media(bytes: usize, movie: u64, edts: &[u8], mdia: &[u8], starts: &mut [i64], a: &mut [i64], b: &mut [i64]) -> FrameTimes
+    requires { ⌜ (bytes ≤ 16777216) × (movie < 2 ^ 32) ⌝ }
+    ensures { λ r. ⌜ Answered (ofMedia bytes (room (now (starts .entry)) (now (a .entry)) (now (b .entry))) movie (now (edts .entry)) (now (mdia .entry))) r (now (starts .entry)) (now (starts .exit)) ⌝ }
+{
+    let h = find_child(mdia, code(b"mdhd"));
+    let Walk::Found { start: _, len: _ } = h else {
+        return refused(NO_TIMES);
+    };
+    let s = scale(payload(mdia, h)) as u64;
+    if (s == 0) | (movie == 0) {
+        return refused(NO_TIMES);
+    }
+    let i = find_child(mdia, code(b"minf"));
+    let Walk::Found { start: _, len: _ } = i else {
+        return refused(NO_TIMES);
+    };
+    let minf = payload(mdia, i);
+    let t = find_child(minf, code(b"stbl"));
+    let Walk::Found { start: _, len: _ } = t else {
+        return refused(NO_TIMES);
+    };
+    of_tables(bytes, movie, s, edts, payload(minf, t), starts, a, b)
+}
+
+// Answers with a video track.
+fn of_track(bytes: usize, movie: u64, trak: &[u8], starts: &mut [i64], a: &mut [i64], b: &mut [i64]) -> FrameTimes
+    requires { ⌜ (bytes ≤ 16777216) × (movie < 2 ^ 32) ⌝ }
+    ensures { λ r. ⌜ Answered (ofTrack bytes (room (now (starts .entry)) (now (a .entry)) (now (b .entry))) movie (now (trak .entry))) r (now (starts .entry)) (now (starts .exit)) ⌝ }
+{
+    let w = find_child(trak, code(b"mdia"));
+    let Walk::Found { start: _, len: _ } = w else {
+        return refused(NO_TIMES);
+    };
+    let edts = inner_child(trak, code(b"edts"));
+    of_media(bytes, movie, edts, payload(trak, w), starts, a, b)
+}
+
+// Answers with a moov, and leaves the working slices as they happen to be.
+pub(crate) fn of_moov(moov: &[u8], starts: &mut [i64], a: &mut [i64], b: &mut [i64]) -> FrameTimes
+    ensures { λ r. ⌜ Answered (timesOf (now (moov .entry)) (room (now (starts .entry)) (now (a .entry)) (now (b .entry)))) r (now (starts .entry)) (now (starts .exit)) ⌝ }
+{
+    let bytes = moov.len();
+    if MOST_BYTES < bytes {
+        return refused(TOO_LONG);
+    }
+    let h = find_child(moov, code(b"mvhd"));
+    let Walk::Found { start: _, len: _ } = h else {
+        return refused(NO_TIMES);
+    };
+    let movie = scale(payload(moov, h)) as u64;
+    let w = find_video_track(moov);
+    let Walk::Found { start: _, len: _ } = w else {
+        return refused(NO_TIMES);
+    };
+    of_track(bytes, movie, payload(moov, w), starts, a, b)
+}

@@ -32,7 +32,7 @@ const WORDS: usize = 5;
 const STAMPS: usize = 7;
 
 // Source k.
-fn source_at(s: &[u64], k: usize) -> Source
+pub fn source_at(s: &[u64], k: usize) -> Source
     requires { ⌜ k * sourceWords + sourceWords ≤ length (now s) ⌝ }
     ensures { λ r. ⌜ r ≡ sourceAt (now (s .entry)) k ⌝ }
 {
@@ -121,7 +121,7 @@ fn bad_source_at(s: &[u64], n: u64, k: usize) -> bool
 }
 
 // 1, of all sources.
-fn bad_sources(s: &[u64], n: u64) -> bool
+pub fn bad_sources(s: &[u64], n: u64) -> bool
     ensures { λ r. ⌜ r ≡ any (badSource n) (sourcesOf (now (s .entry))) ⌝ }
 {
     let m = s.len() / SOURCE;
@@ -175,7 +175,7 @@ fn first_source(s: &[u64], log: bool, text: &[u8]) -> Refusal
 }
 
 // 1 to 8, whatever the segments' layout: n are lent, and `bad` says whether 1 holds.
-fn front(sources: &[u64], log: bool, text: &[u8], bad: bool, n: usize) -> Refusal
+pub fn front(sources: &[u64], log: bool, text: &[u8], bad: bool, n: usize) -> Refusal
     ensures { λ r. ⌜ r ≡ frontRefusal log (now (text .entry)) (sourcesOf (now (sources .entry))) bad n ⌝ }
 {
     if bad {

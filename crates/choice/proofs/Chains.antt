@@ -3,8 +3,11 @@ use mathlib.Core.Path.{_≡_, refl}
 use mathlib.Core.Bool.{Bool, true, false}
 use Prim.Native.Nat.{ℕ, zero, suc, _+_, _≤_}
 use native.Mathlib.Omega.{arith}
-use borrow.Author.Tests.{ltb-false}
+use borrow.Author.Tests.{ltb-false, le-ltb}
+use Rattle.choice.specs.declared.Refusal.{Refusal}
+use Rattle.choice.specs.declared.Refusal.the-variants.{Never, At}
 use Rattle.choice.specs.Choice.{when, orElse, past}
+use Rattle.choice.specs.Records.{orRefused}
 
 pub orElse-kept : (n rest : ℕ) → (n ≡ 0 → ⊥) → n ≡ orElse n rest
 unfolding orElse
@@ -25,3 +28,18 @@ when-zero false n rest h e = (refl, e)
 pub past-not : (a b m : ℕ) → past a b m ≡ false → a + b ≤ m
 unfolding past
 past-not a b m e = ltb-false m (a + b) e
+
+pub not-past : (a b m : ℕ) → a + b ≤ m → past a b m ≡ false
+unfolding past
+not-past a b m h = le-ltb m (a + b) h
+
+-- a chain of refusals in which no test held
+pub when-never : (b : Bool) (n i : ℕ) (rest : Refusal) → when b (At n i) rest ≡ Never → (b ≡ false) × (rest ≡ Never)
+unfolding when
+when-never true n i rest e = let z : _≡_ {A = ℕ} 0 1 = cc in absurd (omega arith)
+when-never false n i rest e = (refl, e)
+
+pub or-never : (x y : Refusal) → orRefused x y ≡ Never → (x ≡ Never) × (y ≡ Never)
+unfolding orRefused
+or-never Never y e = (refl, e)
+or-never (At n i) y e = let z : _≡_ {A = ℕ} 0 1 = cc in absurd (omega arith)

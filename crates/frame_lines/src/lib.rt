@@ -13,15 +13,26 @@ ghost use Rattle.frame_lines.specs.Files.{fileTimes};
 
 // How many bytes a file may have; a longer one is refused with TOO_LONG.
 const FILE_BYTES: usize = 32_768;
+
 const TOO_LONG: u64 = 30;
 
 // The frame times of a file's first moov; 31 where there is none.
-fn times_of_file(file: &[u8], starts: &mut [i64], work_a: &mut [i64], work_b: &mut [i64]) -> FrameTimes
+fn times_of_file(
+    file: &[u8],
+    starts: &mut [i64],
+    work_a: &mut [i64],
+    work_b: &mut [i64],
+) -> FrameTimes
     ensures { λ r. ⌜ Answered (fileTimes (now (file .entry)) (room (now (starts .entry)) (now («work_a» .entry)) (now («work_b» .entry)))) r (now (starts .entry)) (now (starts .exit)) ⌝ }
 {
     let p = find_box_place(file, 0, file.len(), code(b"moov"), true);
     match p {
-        Place::At { start, len } => video_frame_times_of_moov(&file[start..start + len], starts, work_a, work_b),
+        Place::At { start, len } => video_frame_times_of_moov(
+            &file[start..start + len],
+            starts,
+            work_a,
+            work_b,
+        ),
         Place::Refused(number) => FrameTimes::Refused { number, index: 0 },
     }
 }

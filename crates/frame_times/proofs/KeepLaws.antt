@@ -94,7 +94,15 @@ pub keep-start : (e : Edit) (stts ctts : List ℕ) (n m : ℕ) (times : List ℤ
     → Keeping e stts ctts (kept e (framesFrom 0 (durations n stts) (offsets m ctts))) times times (atFirst n) (atFirst m) k 0 0
 keep-start e stts ctts n m times k z a b l =
     record {
-      to = omega arith; long = refl; ds-there = a; os-there = b; left = omega (arith, l, length-per-frame (entriesOf n stts)); small = omega arith; done = []; few = omega arith; is = refl;
+      to = omega arith;
+      long = refl;
+      ds-there = a;
+      os-there = b;
+      left = omega (arith, l, length-per-frame (entriesOf n stts));
+      small = omega arith;
+      done = [];
+      few = omega arith;
+      is = refl;
       told = record { count = z; front = ap (λ c. take c times) z; ends = tt; good = tt };
     }
 

@@ -2,7 +2,8 @@
 use crate::Kept;
 use tracks::Cursor;
 use tracks::Edit;
-use tracks::tables::{next, offset};
+use tracks::tables::next;
+use tracks::tables::offset;
 ghost use mathlib.Core.Path.{_≡_};
 ghost use Prim.Native.Nat.{_-_, _*_, _≤_};
 ghost use lib.ListN.{length};

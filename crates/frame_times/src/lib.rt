@@ -2,13 +2,17 @@
 mod frames;
 mod times;
 mod track;
+
 use track::of_moov;
 ghost use Rattle.frame_times.specs.Times.{Answers};
 
 // The refusals: over the most bytes; no times; too little room; a time outside i64.
 const TOO_LONG: u64 = 30;
+
 const NO_TIMES: u64 = 31;
+
 const NO_ROOM: u64 = 32;
+
 const OUTSIDE: u64 = 33;
 
 // What is answered: how many frames are presented, in which timescale, with which most frequent duration, and where they end; or a refusal.
@@ -35,7 +39,12 @@ pub struct Kept {
 
 // The frames that a moov's first video track presents, and over starts where each starts; on a refusal starts are as lent. Both working
 // slices are all zero afterwards, whatever was answered: the Rust's video_frame_times_of_moov. 30, 31, 32, 31, 33.
-pub fn video_frame_times_of_moov(moov: &[u8], starts: &mut [i64], work_a: &mut [i64], work_b: &mut [i64]) -> FrameTimes
+pub fn video_frame_times_of_moov(
+    moov: &[u8],
+    starts: &mut [i64],
+    work_a: &mut [i64],
+    work_b: &mut [i64],
+) -> FrameTimes
     ensures { λ r. ⌜ Answers (now (moov .entry)) (now (starts .entry)) (now («work_a» .entry)) (now («work_b» .entry)) r (now (starts .exit)) (now («work_a» .exit)) (now («work_b» .exit)) ⌝ }
 {
     let r = of_moov(moov, starts, work_a, work_b);

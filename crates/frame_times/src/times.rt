@@ -1,7 +1,8 @@
 // Starts and the end, from the composition times that are kept.
 use crate::FrameTimes;
+use crate::NO_TIMES;
+use crate::OUTSIDE;
 use crate::frames::keep;
-use crate::{NO_TIMES, OUTSIDE};
 use signed::Held;
 use tracks::Edit;
 ghost use mathlib.Core.Path.{_≡_};
@@ -68,7 +69,16 @@ fn place(times: &[i64], o: i64, d: i64, out: &mut [i64])
 }
 
 // Answers with the composition times that are kept, which are sorted on the way, and writes the starts. No start is past the end, so that the end alone is tested.
-fn show(times: &mut [i64], scratch: &mut [i64], first: i64, last: i64, e: Edit, nominal: i64, scale: u64, starts: &mut [i64]) -> FrameTimes
+fn show(
+    times: &mut [i64],
+    scratch: &mut [i64],
+    first: i64,
+    last: i64,
+    e: Edit,
+    nominal: i64,
+    scale: u64,
+    starts: &mut [i64],
+) -> FrameTimes
     requires { ⌜ Showable (now times) first last e × (0 < length (now times)) × (length (now times) ≤ length (now scratch)) × (length (now times) ≤ length (now starts)) ⌝ }
     ensures { λ r. ⌜ Answered (shown scale nominal e first last (sorted (now (times .entry)))) r (now (starts .entry)) (now (starts .exit)) ⌝ }
 {
@@ -88,7 +98,17 @@ fn show(times: &mut [i64], scratch: &mut [i64], first: i64, last: i64, e: Edit, 
 }
 
 // Answers with two whole tables and an edit. b has the durations: their sort takes both working slices, and so the stts is walked again beside the ctts.
-pub(crate) fn present(stts: &[u8], n: usize, ctts: &[u8], m: usize, e: Edit, scale: u64, starts: &mut [i64], a: &mut [i64], b: &mut [i64]) -> FrameTimes
+pub(crate) fn present(
+    stts: &[u8],
+    n: usize,
+    ctts: &[u8],
+    m: usize,
+    e: Edit,
+    scale: u64,
+    starts: &mut [i64],
+    a: &mut [i64],
+    b: &mut [i64],
+) -> FrameTimes
     requires { ⌜ (n * 8 ≤ length (now stts) - 8) × (m * 8 ≤ length (now ctts) - 8) × (length (now a) ≡ total (entriesOf n (now stts))) × (length (now a) ≤ 16777216) × (length (now a) ≤ length (now starts)) ⌝ }
     requires { ⌜ (now b ≡ map pos (durations n (now stts))) × Sound e ⌝ }
     ensures { λ r. ⌜ Answered (ofFrames scale e (durations n (now (stts .entry))) (offsets m (now (ctts .entry)))) r (now (starts .entry)) (now (starts .exit)) ⌝ }
@@ -107,5 +127,14 @@ pub(crate) fn present(stts: &[u8], n: usize, ctts: &[u8], m: usize, e: Edit, sca
         return refused(NO_TIMES);
     }
     let last = k.last + (k.lasts as i64);
-    show(&mut a[..count], b, k.first as i64, last, e, nominal, scale, starts)
+    show(
+        &mut a[..count],
+        b,
+        k.first as i64,
+        last,
+        e,
+        nominal,
+        scale,
+        starts,
+    )
 }

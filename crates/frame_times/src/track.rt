@@ -1,17 +1,24 @@
 // From the moov to the tables of its first video track, in the order of the Rust.
 use crate::FrameTimes;
-use crate::times::{present, refused};
-use crate::{NO_ROOM, NO_TIMES, TOO_LONG};
+use crate::NO_ROOM;
+use crate::NO_TIMES;
+use crate::TOO_LONG;
+use crate::times::present;
+use crate::times::refused;
 use boxes::MOST_BYTES;
 use boxes::Walk;
-use boxes::part::{inner_child, payload};
+use boxes::part::inner_child;
+use boxes::part::payload;
 use boxes::read::code;
 use boxes::search::find_child;
 use boxes::track::find_video_track;
 use tracks::Edited;
 use tracks::Rows;
 use tracks::edits::edit_of;
-use tracks::tables::{count_rows, lay, optional_rows, scale};
+use tracks::tables::count_rows;
+use tracks::tables::lay;
+use tracks::tables::optional_rows;
+use tracks::tables::scale;
 ghost use mathlib.Core.Path.{_≡_};
 ghost use mathlib.Core.List.{map};
 ghost use Prim.Native.Nat.{_-_, _*_, _≤_, _<_, _^_, min};
@@ -36,7 +43,17 @@ fn least_length(x: &[i64], y: &[i64], z: &[i64]) -> usize
 }
 
 // Answers past the room test: the offsets, then the edit. b has the durations.
-fn past_room(stts: &[u8], n: usize, ctts: &[u8], edts: &[u8], scale: u64, movie: u64, starts: &mut [i64], a: &mut [i64], b: &mut [i64]) -> FrameTimes
+fn past_room(
+    stts: &[u8],
+    n: usize,
+    ctts: &[u8],
+    edts: &[u8],
+    scale: u64,
+    movie: u64,
+    starts: &mut [i64],
+    a: &mut [i64],
+    b: &mut [i64],
+) -> FrameTimes
     requires { ⌜ (n * 8 ≤ length (now stts) - 8) × (length (now a) ≡ total (entriesOf n (now stts))) × (length (now a) ≤ 16777216) × (length (now a) ≤ length (now starts)) ⌝ }
     requires { ⌜ (now b ≡ map pos (durations n (now stts))) × (scale < 2 ^ 32) × (0 < movie) × (movie < 2 ^ 32) ⌝ }
     ensures { λ r. ⌜ Answered (ofOffsets (optionalRows (now (ctts .entry))) (now (ctts .entry)) (now (edts .entry)) scale movie (durations n (now (stts .entry)))) r (now (starts .entry)) (now (starts .exit)) ⌝ }
@@ -51,7 +68,16 @@ fn past_room(stts: &[u8], n: usize, ctts: &[u8], edts: &[u8], scale: u64, movie:
 }
 
 // Answers with the stbl and the edts of a track, whose timescale and movie's timescale aren't 0.
-fn of_tables(bytes: usize, movie: u64, scale: u64, edts: &[u8], stbl: &[u8], starts: &mut [i64], a: &mut [i64], b: &mut [i64]) -> FrameTimes
+fn of_tables(
+    bytes: usize,
+    movie: u64,
+    scale: u64,
+    edts: &[u8],
+    stbl: &[u8],
+    starts: &mut [i64],
+    a: &mut [i64],
+    b: &mut [i64],
+) -> FrameTimes
     requires { ⌜ (bytes ≤ 16777216) × (scale < 2 ^ 32) × (0 < movie) × (movie < 2 ^ 32) ⌝ }
     ensures { λ r. ⌜ Answered (ofTables bytes (room (now (starts .entry)) (now (a .entry)) (now (b .entry))) movie scale (now (edts .entry)) (now (stbl .entry))) r (now (starts .entry)) (now (starts .exit)) ⌝ }
 {
@@ -71,11 +97,29 @@ fn of_tables(bytes: usize, movie: u64, scale: u64, edts: &[u8], stbl: &[u8], sta
         return refused(NO_ROOM);
     }
     let ctts = inner_child(stbl, code(b"ctts"));
-    past_room(stts, n, ctts, edts, scale, movie, starts, &mut a[..f], &mut b[..f])
+    past_room(
+        stts,
+        n,
+        ctts,
+        edts,
+        scale,
+        movie,
+        starts,
+        &mut a[..f],
+        &mut b[..f],
+    )
 }
 
 // Answers with the mdia of a video track, which has its timescale and, two boxes below, its stbl.
-fn of_media(bytes: usize, movie: u64, edts: &[u8], mdia: &[u8], starts: &mut [i64], a: &mut [i64], b: &mut [i64]) -> FrameTimes
+fn of_media(
+    bytes: usize,
+    movie: u64,
+    edts: &[u8],
+    mdia: &[u8],
+    starts: &mut [i64],
+    a: &mut [i64],
+    b: &mut [i64],
+) -> FrameTimes
     requires { ⌜ (bytes ≤ 16777216) × (movie < 2 ^ 32) ⌝ }
     ensures { λ r. ⌜ Answered (ofMedia bytes (room (now (starts .entry)) (now (a .entry)) (now (b .entry))) movie (now (edts .entry)) (now (mdia .entry))) r (now (starts .entry)) (now (starts .exit)) ⌝ }
 {
@@ -100,7 +144,14 @@ fn of_media(bytes: usize, movie: u64, edts: &[u8], mdia: &[u8], starts: &mut [i6
 }
 
 // Answers with a video track.
-fn of_track(bytes: usize, movie: u64, trak: &[u8], starts: &mut [i64], a: &mut [i64], b: &mut [i64]) -> FrameTimes
+fn of_track(
+    bytes: usize,
+    movie: u64,
+    trak: &[u8],
+    starts: &mut [i64],
+    a: &mut [i64],
+    b: &mut [i64],
+) -> FrameTimes
     requires { ⌜ (bytes ≤ 16777216) × (movie < 2 ^ 32) ⌝ }
     ensures { λ r. ⌜ Answered (ofTrack bytes (room (now (starts .entry)) (now (a .entry)) (now (b .entry))) movie (now (trak .entry))) r (now (starts .entry)) (now (starts .exit)) ⌝ }
 {

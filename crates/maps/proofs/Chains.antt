@@ -13,7 +13,7 @@ use Rattle.choice.specs.Records.{orRefused}
 use Rattle.choice.specs.declared.Refusal.{Refusal}
 use Rattle.choice.specs.declared.Refusal.the-variants.{Never, At}
 use Rattle.choice.proofs.Tests.{and-left, and-right}
-use Rattle.choice.proofs.Chains.{past-not}
+use Rattle.choice.proofs.Chains.{past-not, not-past, when-never, or-never}
 use Rattle.choice.proofs.Runs.{length-run}
 use Rattle.rows.specs.declared.Row.{Row}
 use Rattle.rows.specs.Rows.{largest, total, okRow, WellFrom, cut, join, merge}
@@ -22,17 +22,6 @@ use Rattle.maps.specs.declared.Frames.the-variants as frames
 use Rattle.rows.specs.Lent.{rowAt, rows}
 use Rattle.maps.specs.Answers.{mostRows, badRange, malformed, noRoom, tooLong, pastMap, sized, firstBad, mapRefusal, fits, roomRefusal, cutRefusal, joinRefusal, mergeRefusal, originRefusal}
 use Rattle.maps.specs.Steps.{Sound, counted}
-
--- a chain in which no test held
-pub when-never : (b : Bool) (n i : ℕ) (rest : Refusal) → when b (At n i) rest ≡ Never → (b ≡ false) × (rest ≡ Never)
-unfolding when
-when-never true n i rest e = let z : _≡_ {A = ℕ} 0 1 = cc in absurd (omega arith)
-when-never false n i rest e = (refl, e)
-
-pub or-never : (x y : Refusal) → orRefused x y ≡ Never → (x ≡ Never) × (y ≡ Never)
-unfolding orRefused
-or-never Never y e = (refl, e)
-or-never (At n i) y e = let z : _≡_ {A = ℕ} 0 1 = cc in absurd (omega arith)
 
 -- what a count of frames says of the refusal that it stands for
 pub counted-are : (x : Refusal) (t d : ℕ) → counted x t ≡ frames.Are d → (x ≡ Never) × (d ≡ t)
@@ -202,10 +191,6 @@ merge-accepted u s nu ns o =
     merge-room u s nu ns (sound-map u s (o .sound)) (o .few) ∙ room-off (length (merge (rows u s))) nu ns (facts-fit (length (merge (rows u s))) nu ns (o .room))
 
 -- the chain of a join
-pub not-past : (a b m : ℕ) → a + b ≤ m → past a b m ≡ false
-unfolding past
-not-past a b m h = le-ltb m (a + b) h
-
 module _ (u : List ℕ) (s : List ℤ) (v : List ℕ) (t : List ℤ) (nu ns : ℕ) where
   pub join-malformed : {n i : ℕ} → mapRefusal u s ≡ At n i → joinRefusal u s v t nu ns ≡ At n i
   unfolding joinRefusal orRefused when

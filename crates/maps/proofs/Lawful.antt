@@ -21,7 +21,8 @@ use Rattle.rows.specs.Lent.{rowAt, rows}
 use Rattle.maps.specs.Answers.{mostRows, noRoom, pastMap, roomRefusal, cutRefusal, mergeRefusal, answered, told, tracedOf, Placed, placed-once, Cut, Join, Merge, Trace}
 use Rattle.maps.specs.Steps.{Sound}
 use Rattle.maps.specs.Laws.{LentMap, Wrote, Found, Laws}
-use Rattle.maps.proofs.Chains.{Fits, room-on, too-many, not-past, sound-map, cut-empty, cut-room, cut-never, cut-accepted, merge-room, merge-never, merge-accepted, join-room, join-never, join-accepted, origin-beyond, origin-accepted}
+use Rattle.choice.proofs.Chains.{not-past}
+use Rattle.maps.proofs.Chains.{Fits, room-on, too-many, sound-map, cut-empty, cut-room, cut-never, cut-accepted, merge-room, merge-never, merge-accepted, join-room, join-never, join-accepted, origin-beyond, origin-accepted}
 use Rattle.maps.proofs.Spans.{origin-held, row-holder}
 use Rattle.maps.proofs.Joined.{length-join}
 use Rattle.maps.proofs.ReadBack.{none, count, wrote, as-lent, frames-rows, rows-frames}

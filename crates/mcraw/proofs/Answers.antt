@@ -9,6 +9,7 @@ use lib.Dec.{ltb}
 use lib.IntN.{ℤ, pos}
 use lib.ListN.{length}
 use lib.Signed.{mag}
+use Rattle.choice.proofs.Chains.{when-never, or-never}
 use Rattle.choice.specs.declared.Refusal.{Refusal}
 use Rattle.choice.specs.declared.Refusal.the-variants.{Never, At}
 use Rattle.choice.specs.Choice.{when}
@@ -85,18 +86,9 @@ module _ (ts : List ℤ) (s w : ℕ) where
     timed e f = sym (answer ∙ rw (e, f))
 
 -- ---- no test held
-pub when-never : (b : Bool) (n i : ℕ) (rest : Refusal) → when b (At n i) rest ≡ Never → (b ≡ false) × (rest ≡ Never)
-unfolding when
-when-never true n i rest e = let z : _≡_ {A = ℕ} 0 1 = cc in absurd (omega arith)
-when-never false n i rest e = (refl, e)
-
-pub or-never : (r rest : Refusal) → orRefused r rest ≡ Never → (r ≡ Never) × (rest ≡ Never)
-unfolding orRefused
-or-never Never rest e = (refl, e)
-or-never (At n i) rest e = let z : _≡_ {A = ℕ} 0 1 = cc in absurd (omega arith)
-
 -- an answer with times: what it has, and the tests before it
 pub record Accepted (ts : List ℤ) (starts work n scale : ℕ) (m e : ℤ) : Type 0 where
+  pub unrefused : refusalOf ts starts work ≡ Never
   pub passed : Passed ts starts work
   pub moves : eqZ (nominal ts) (pos 0) ≡ false
   pub ends : outside (end ts) ≡ false
@@ -140,7 +132,7 @@ accepted ts s w n scale m e h =
     let r = timed-never ts (refusalOf ts s w) n scale m e h in
     let t : Timed (length ts) nanoseconds (nominal ts) (end ts) ≡ Timed n scale m e = r .1 in
     let p = never-passed ts s w (r .0) in
-    record { passed = p .0; moves = p .1; ends = p .2; frames = cc; ticks = cc; usual = cc; until = cc }
+    record { unrefused = r .0; passed = p .0; moves = p .1; ends = p .2; frames = cc; ticks = cc; usual = cc; until = cc }
 
 -- what is written with each answer
 pub wrote : (ts : List ℤ) (n scale : ℕ) (m e : ℤ) (r : Times) → r ≡ Timed n scale m e → startsOf ts ≡ written r ts

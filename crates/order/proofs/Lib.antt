@@ -1,4 +1,3 @@
-pub mod Lists
 pub mod Sorted
 pub mod Counts
 pub mod Settling

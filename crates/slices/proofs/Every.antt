@@ -2,7 +2,7 @@
 use mathlib.Core.List.{List, [], _∷_, _++_}
 use Prim.Native.Nat.{ℕ, zero, suc, _<_, zero-le, suc-le-suc}
 use native.Mathlib.Nat.{not-suc-le-zero, le-of-suc-le-suc}
-use lib.ListN.{length, getD, drop}
+use lib.ListN.{length, getD, take, drop}
 use Rattle.slices.specs.Slices.{All}
 
 pub all-at : {A : Type 0} (P : A → Type 0) (l : List A) (k : ℕ) (d : A) → All P l → k < length l → P (getD l k d)
@@ -26,3 +26,8 @@ pub all-drop : {A : Type 0} (P : A → Type 0) (n : ℕ) (l : List A) → All P 
 all-drop P zero l h = h
 all-drop P (suc n) [] h = h
 all-drop P (suc n) (x ∷ l) h = all-drop P n l (h .1)
+
+pub all-take : {A : Type 0} (P : A → Type 0) (n : ℕ) (l : List A) → All P l → All P (take n l)
+all-take P zero l h = tt
+all-take P (suc n) [] h = tt
+all-take P (suc n) (x ∷ l) h = (h .0, all-take P n l (h .1))

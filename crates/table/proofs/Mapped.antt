@@ -7,6 +7,7 @@ use mathlib.Core.List.{List, [], _∷_, map}
 use lib.ListN.{length, getD, length-map}
 use lib.Dec.{eqb}
 use borrow.Author.Tests.{eq-eqb, ne-eqb, lt-ltb, le-ltb, eqb-true, eqb-false}
+use Rattle.choice.proofs.Chains.{not-past}
 use Rattle.choice.specs.Choice.{when, past}
 use Rattle.choice.proofs.Tests.{decide}
 use Rattle.rows.specs.Rows.{largest, okShift, okRow, WellFrom}
@@ -15,10 +16,6 @@ use Rattle.rows.proofs.Flat.{rows-flat}
 use Rattle.rules.specs.Records.{Segment, Table, noSegment, segment, outEnd, total}
 use Rattle.rules.proofs.Accepted.{Accepted, accepted}
 use Rattle.table.specs.Rows.{rowOf, rowsOf, Mapped}
-
-not-past : (a b m : ℕ) → a + b ≤ m → past a b m ≡ false
-unfolding past
-not-past a b m h = le-ltb m (a + b) h
 
 shift-ok : (e : Segment) → e .words .flag ≤ 1 → okShift (rowOf e) ≡ true
 unfolding rowOf when

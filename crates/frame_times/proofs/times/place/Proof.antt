@@ -54,11 +54,13 @@ loop-again c =
     let o = s .args .o in
     let d = s .args .d in
     let x = getD (s .args .times .now) (l .i) (pos 0) in
-    let at : out-of c ≡ moved o d x = (λ i. read (read (back x (c .out .given) i -ℤ toZ-ofZ (s .fits .o) i) +ℤ toZ-ofZ (s .fits .d) i)) ∙ ap (λ z. read (z +ℤ d)) (back (x -ℤ o) (movable c .0)) ∙ back (moved o d x) (movable c .1) in
-    (omega arith, length-set (l .out) (l .i) (out-of c) ∙ l .inv .1,
-    ap (set (l .out) (l .i)) at
-    ∙ place-more (moved o d) (s .args .times .now) (s .args .out .now) (l .i) (l .out) (omega arith) (omega (arith, s .pre .0)) (l .inv .2 ∙ (λ i. laid (map (moved (toZ-ofZ (s .fits .o) i) (toZ-ofZ (s .fits .d) i)) (take (l .i) (s .args .times .now))) (s .args .out .now)))
-    ∙ sym (λ i. laid (map (moved (toZ-ofZ (s .fits .o) i) (toZ-ofZ (s .fits .d) i)) (take (l .i + 1) (s .args .times .now))) (s .args .out .now)))
+    let at : out-of c ≡ moved o d x = (λ i. read (read (back x (c .out .given) i -ℤ toZ-ofZ (s .fits .o) i) +ℤ toZ-ofZ (s .fits .d) i)) ∙ ap (λ z. read (z +ℤ d)) (back (x -ℤ o) (movable c .0)) ∙ back (moved o d x) (movable c .1) in (
+      omega arith,
+      length-set (l .out) (l .i) (out-of c) ∙ l .inv .1,
+      ap (set (l .out) (l .i)) at
+          ∙ place-more (moved o d) (s .args .times .now) (s .args .out .now) (l .i) (l .out) (omega arith) (omega (arith, s .pre .0)) (l .inv .2 ∙ (λ i. laid (map (moved (toZ-ofZ (s .fits .o) i) (toZ-ofZ (s .fits .d) i)) (take (l .i) (s .args .times .now))) (s .args .out .now)))
+          ∙ sym (λ i. laid (map (moved (toZ-ofZ (s .fits .o) i) (toZ-ofZ (s .fits .d) i)) (take (l .i + 1) (s .args .times .now))) (s .args .out .now)),
+    )
 
 same-length : tie.Need-same-length Inv-loop μ-loop
 same-length c = c .before .loop .inv .1

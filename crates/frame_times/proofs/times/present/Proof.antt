@@ -153,11 +153,12 @@ show-requires c κs =
     let s = first k in
     let long = front-long (fs s) (k .keep .result) (times k) (told k) in
     let within = front-within (fs s) (k .keep .result) (times k) (told k) in
-    let sort = frequent k .before .before .before .before .sort in
-    (showable-as (s .args .e) (told k .front) (first-read h) (last-read l) (showable (s .args .e) _ (fs s) refl (some-kept h) (told k .good) (s .pre .1 .1)),
-    omega (arith, long, told k .count, some-kept h),
-    omega (arith, long, within, k .keep .kept, sort .kept, a-long s),
-    omega (arith, long, within, k .keep .kept, sort .kept, s .pre .0 .4))
+    let sort = frequent k .before .before .before .before .sort in (
+      showable-as (s .args .e) (told k .front) (first-read h) (last-read l) (showable (s .args .e) _ (fs s) refl (some-kept h) (told k .good) (s .pre .1 .1)),
+      omega (arith, long, told k .count, some-kept h),
+      omega (arith, long, within, k .keep .kept, sort .kept, a-long s),
+      omega (arith, long, within, k .keep .kept, sort .kept, s .pre .0 .4),
+    )
 
 returns-4 : tie.Need-returns-4
 returns-4 c =

@@ -87,9 +87,10 @@ place-requires c κs =
     let e = c .before .before .before in
     let k = e .before .before .before in
     let s = start k in
-    let st = k .before .before .before .before .before .before .sort in
-    (omega (arith, st .kept .0, s .pre .3),
-    movable-as (org k) (read (k .before .before .origin-of .result)) (empty k) (read (empty k)) (ordered k) (st .last .0) (org-read k) (empty-read k) (st .ensures) (times-move (ordered k) (s .args .first) (s .args .last) (s .args .e) (able k) (some k) (ends e .1)))
+    let st = k .before .before .before .before .before .before .sort in (
+      omega (arith, st .kept .0, s .pre .3),
+      movable-as (org k) (read (k .before .before .origin-of .result)) (empty k) (read (empty k)) (ordered k) (st .last .0) (org-read k) (empty-read k) (st .ensures) (times-move (ordered k) (s .args .first) (s .args .last) (s .args .e) (able k) (some k) (ends e .1)),
+    )
 
 returns-2 : tie.Need-returns-2
 returns-2 c =

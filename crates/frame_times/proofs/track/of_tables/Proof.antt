@@ -67,7 +67,7 @@ module _ (c : tie.After-n) where
   by-n = reach at ∙ ap (by-rows (at .before .before .before .before .before .before .before .before) table) rows-are
 
 lay-requires : tie.Need-lay-requires
-lay-requires c κs = let n = c .before .before in (rows-there (table n) (n .n .given .0 .0) (rows-are n), at n  .before .before .before .before .before .before .before .before .pre .0)
+lay-requires c κs = let n = c .before .before in (rows-there (table n) (n .n .given .0 .0) (rows-are n), at n .before .before .before .before .before .before .before .before .pre .0)
 
 -- how many frames there are
 module _ (c : tie.After-lay) where
@@ -75,7 +75,7 @@ module _ (c : tie.After-lay) where
   counted = c .before .before .before
 
   abbrev start : tie.Start
-  start = at counted  .before .before .before .before .before .before .before .before
+  start = at counted .before .before .before .before .before .before .before .before
 
   abbrev count : ℕ
   count = total (entriesOf (counted .n .given .0 .0) (table counted))
@@ -146,9 +146,10 @@ past-room-requires c κs =
     let e = c .before .before .before .before .before .before in
     let l = done e in
     let n = counted l in
-    let s = start l in
-    ((rows-there (table n) (n .n .given .0 .0) (rows-are n), a-long e ∙ frames-are (tested e), omega (arith, a-long e, tested e .if1 .left, s .pre .0), omega (arith, a-long e, frames-are (tested e), roomy e)),
-    (b-front e, s .pre .1, s .pre .2, s .pre .3))
+    let s = start l in (
+      (rows-there (table n) (n .n .given .0 .0) (rows-are n), a-long e ∙ frames-are (tested e), omega (arith, a-long e, tested e .if1 .left, s .pre .0), omega (arith, a-long e, frames-are (tested e), roomy e)),
+      (b-front e, s .pre .1, s .pre .2, s .pre .3),
+    )
 
 returns-5 : tie.Need-returns-5
 returns-5 c =

@@ -1,0 +1,6 @@
+pub mod Lent
+pub mod Chains
+pub mod Ready
+pub mod Recordings
+pub mod Meaning
+pub mod Examples

@@ -1,0 +1,4 @@
+pub mod Video
+pub mod Judge
+pub mod Means
+pub mod Steps

@@ -1,6 +1,6 @@
 -- Choices whose tests are known. Assumes nothing.
 use mathlib.Core.Path.{_≡_, refl, _∙_}
-use mathlib.Core.Bool.{Bool, true, false}
+use mathlib.Core.Bool.{true, false}
 use Prim.Native.Nat.{ℕ, _≤_, _^_}
 use mathlib.Core.List.{[], _∷_}
 use types.Run.{OneOf}

@@ -1,12 +1,12 @@
 -- The frames of a track, those that are kept, and the last of them. Assumes nothing.
-use mathlib.Core.Path.{_≡_, refl, sym, ap, _∙_, subst}
-use mathlib.Core.Bool.{Bool, true, false}
+use mathlib.Core.Path.{_≡_, refl, sym, _∙_, subst}
+use mathlib.Core.Bool.{true, false}
 use mathlib.Core.List.{List, [], _∷_, _++_, map}
-use Prim.Native.Nat.{ℕ, _+_, _≤_, _<_, _^_}
+use Prim.Native.Nat.{ℕ, _+_, _<_}
 use native.Mathlib.Omega.{arith}
 use lib.ListN.{length, getD, drop}
 use lib.IntN.{ℤ, pos, _+ℤ_}
-use lib.Signed.{leZ, ltZ}
+use lib.Signed.{leZ}
 use Rattle.choice.specs.Choice.{if_then_else_}
 use Rattle.choice.proofs.Tests.{decide, either, tf}
 use Rattle.signed.specs.Signed.{ofBits}
@@ -15,10 +15,11 @@ use Rattle.slices.specs.Slices.{All}
 use Rattle.tracks.specs.declared.Edit.{Edit}
 use Rattle.tracks.specs.Tables.{offsetOf}
 use Rattle.tracks.specs.Steps.{Sound}
-use Rattle.order.specs.Order.{sorted}
+use Rattle.order.specs.Order.{sorted, mode}
+use Rattle.order.proofs.Mode.{mode-sorted}
 use Rattle.frame_times.specs.Frames.{Frame, framesFrom, inEdit, kept, ctsOf, lastOf, endOf}
-use Rattle.frame_times.specs.Steps.{Near, Ended, Good, Showable}
-use Rattle.frame_times.specs.Times.{Outcome, refused, shown, ofKept}
+use Rattle.frame_times.specs.Steps.{Near, Good, Showable}
+use Rattle.frame_times.specs.Times.{refused, shown, ofKept}
 use Rattle.frame_times.proofs.Choices.{in-ending, out-before}
 use Rattle.frame_times.proofs.Nearness.{ended, le-plus}
 
@@ -122,11 +123,16 @@ module _ (scale : ℕ) (nominal : ℤ) (e : Edit) where
   some-shown [] h k = absurd (omega arith)
   some-shown (f ∷ fs) h k = λ i. if k i then refused 31 else shown scale nominal e (first-of (f ∷ fs)) (end-of (f ∷ fs)) (sorted (ctsOf (f ∷ fs)))
 
--- no durations, no frames
-pub no-frames : (e : Edit) (ds : List ℕ) (os : List ℤ) → length ds ≡ 0 → length (kept e (framesFrom 0 ds os)) ≡ 0
-unfolding kept framesFrom
-no-frames e [] os h = refl
-no-frames e (d ∷ ds) os h = absurd (omega arith)
-
 pub showable-as : (e : Edit) {l l′ : List ℤ} {f f′ z z′ : ℤ} → l ≡ l′ → f ≡ f′ → z ≡ z′ → Showable l′ f′ z′ e → Showable l f z e
 showable-as e p q r m = rw (p, q, r) m
+
+-- the most frequent of no durations, and of sorted ones
+pub mode-none : (l : List ℤ) → length l ≡ 0 → pos 0 ≡ mode l
+unfolding mode
+mode-none [] h = refl
+mode-none (x ∷ l) h = absurd (omega arith)
+
+pub mode-of-sorted : (l : List ℤ) → mode (sorted l) ≡ mode l
+unfolding sorted
+mode-of-sorted [] = refl
+mode-of-sorted (x ∷ l) = mode-sorted (x ∷ l) (omega arith)

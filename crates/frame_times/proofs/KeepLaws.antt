@@ -9,7 +9,6 @@ use lib.ListN.{length, take, set, length-set, length-append, length-take, length
 use lib.Seq.{take-suc-set}
 use lib.IntN.{ℤ, pos, _+ℤ_}
 use lib.Signed.{leZ}
-use lib.Dec.{eqb}
 use borrow.Author.Tests.{eq-eqb, ne-eqb}
 use Rattle.choice.specs.Choice.{if_then_else_}
 use Rattle.choice.proofs.Tests.{decide}
@@ -22,7 +21,7 @@ use Rattle.tracks.specs.Steps.{rest, There, Next, atFirst}
 use Rattle.tracks.proofs.EntryLaws.{length-per-frame}
 use Rattle.frame_times.specs.declared.Kept.{Kept}
 use Rattle.frame_times.specs.Frames.{Frame, framesFrom, inEdit, kept, ctsOf, lastOf}
-use Rattle.frame_times.specs.Steps.{Good, keptWith, Ends, Told}
+use Rattle.frame_times.specs.Steps.{Good, keptWith, Told}
 use Rattle.frame_times.proofs.Nearness.{offset-small, composed-near, ended}
 use Rattle.frame_times.proofs.FrameLaws.{frames-step, kept-yes, kept-no, last-snoc, last-good, first-of, end-of}
 

@@ -1,21 +1,19 @@
 -- Why the test of the end is the test of every start: no kept time is above the end, and none is far from 0. Assumes nothing.
 use mathlib.Core.Path.{_≡_, refl, sym, ap, _∙_, subst}
-use mathlib.Core.Bool.{Bool, true, false, _||_}
+use mathlib.Core.Bool.{true, false, _||_}
 use mathlib.Core.List.{List, [], _∷_, _++_, map, map-append}
-use Prim.Native.Nat.{ℕ, suc, _+_, _-_, _≤_, _<_, _^_}
+use Prim.Native.Nat.{ℕ, _+_, _≤_, _<_, _^_}
 use native.Mathlib.Omega.{arith}
 use native.Mathlib.Numerals.{add-one}
-use lib.ListN.{length, getD, take, drop, set, length-map}
+use lib.ListN.{length, getD, take, set, length-map}
 use lib.Seq.{take-suc, take-all, length-take-le}
-use lib.IntN.{ℤ, pos, negsuc, _+ℤ_, _-ℤ_}
+use lib.IntN.{ℤ, pos, negsuc, _-ℤ_}
 use lib.Signed.{leZ, mag}
-use lib.Dec.{leb}
 use borrow.Author.Tests.{le-leb, lt-leb}
 use Rattle.choice.specs.Choice.{if_then_else_}
 use Rattle.choice.specs.Records.{any}
 use Rattle.choice.proofs.Tests.{decide}
 use Rattle.signed.specs.Signed.{I64}
-use Rattle.signed.proofs.Order.{le-refl}
 use Rattle.signed.proofs.Up.{up, up-top, le-up, gt-up, sums, Difference, difference}
 use Rattle.slices.specs.Slices.{All, laid}
 use Rattle.slices.proofs.Every.{all-at, all-of, all-weaken}

@@ -1,19 +1,17 @@
 -- The refusals and the answer, case by case, down from the moov. Assumes nothing.
 use mathlib.Core.Path.{_≡_, refl, sym, ap, _∙_, subst}
-use mathlib.Core.Bool.{Bool, true, false, _||_}
+use mathlib.Core.Bool.{false, _||_}
 use mathlib.Core.List.{List, [], _∷_}
 use mathlib.Core.Logic.{⊎-elim}
 use Prim.Native.Nat.{ℕ, zero, suc, _≤_, _<_}
 use native.Mathlib.Omega.{arith}
 use types.Run.{OneOf}
 use denote.Enum.Declared.{tagOf}
-use lib.ListN.{length}
 use lib.IntN.{ℤ}
 use lib.Dec.{ltb, eqb}
 use borrow.Author.Tests.{lt-ltb, le-ltb, eqb-false}
 use Rattle.choice.specs.Choice.{if_then_else_}
 use Rattle.choice.proofs.Tests.{or-false}
-use Rattle.boxes.specs.Boxes.{boxesOf, firstOf}
 use Rattle.boxes.specs.Places.{placeOr, partOf}
 use Rattle.boxes.specs.declared.Walk.{Walk}
 use Rattle.boxes.specs.declared.Walk.the-variants.{Found, End, Bad as BadAt}

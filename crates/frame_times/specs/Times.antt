@@ -1,7 +1,7 @@
 -- The frame times of a moov: what is answered, from its bytes down to its frames.
 use Prim.Native.Nat.{ℕ, _^_, min}
 use mathlib.Core.Path.{_≡_}
-use mathlib.Core.Bool.{Bool, true, false, _||_}
+use mathlib.Core.Bool.{Bool, _||_}
 use mathlib.Core.List.{List, [], _∷_, map}
 use lib.ListN.{length, getD}
 use lib.IntN.{ℤ, pos}

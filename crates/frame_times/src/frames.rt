@@ -1,7 +1,7 @@
 // The pass over the frames, in decode order.
 use crate::Kept;
-use tracks::Cursor;
 use tracks::Edit;
+use tracks::tables::at_first;
 use tracks::tables::next;
 use tracks::tables::offset;
 ghost use mathlib.Core.Path.{_≡_};
@@ -59,18 +59,8 @@ pub(crate) fn keep(stts: &[u8], n: usize, ctts: &[u8], m: usize, e: Edit, times:
     requires { ⌜ (n * 8 ≤ length (now stts) - 8) × (m * 8 ≤ length (now ctts) - 8) × (length (now times) ≡ total (entriesOf n (now stts))) × (length (now times) ≤ 16777216) ⌝ }
     ensures { λ r. ⌜ Told (kept e (framesFrom 0 (durations n (now (stts .entry))) (offsets m (now (ctts .entry))))) r (now (times .exit)) ⌝ }
 {
-    let mut ds = Cursor {
-        left: n,
-        at: 8,
-        count: 0,
-        value: 0,
-    };
-    let mut os = Cursor {
-        left: m,
-        at: 8,
-        count: 0,
-        value: 0,
-    };
+    let mut ds = at_first(n);
+    let mut os = at_first(m);
     let mut k = Kept {
         count: 0,
         first: 0,

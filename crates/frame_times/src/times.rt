@@ -11,10 +11,10 @@ ghost use Prim.Native.Nat.{_-_, _*_, _≤_, _<_};
 ghost use lib.ListN.{length};
 ghost use lib.IntN.{pos};
 ghost use Rattle.slices.specs.Slices.{All, laid};
-ghost use Rattle.order.specs.Order.{sorted};
+ghost use Rattle.order.specs.Order.{Asc, sorted, mode};
 ghost use Rattle.tracks.specs.Tables.{entriesOf, total, durations, offsets};
 ghost use Rattle.tracks.specs.Steps.{Sound};
-ghost use Rattle.frame_times.specs.Frames.{framesFrom, origin, capped, moved, maxZ};
+ghost use Rattle.frame_times.specs.Frames.{origin, capped, moved, maxZ};
 ghost use Rattle.frame_times.specs.Times.{Answered, shown, ofFrames};
 ghost use Rattle.frame_times.specs.Steps.{Movable, Showable};
 
@@ -97,6 +97,17 @@ fn show(
     }
 }
 
+// The most frequent of ascending durations, of several the smallest; 0 where there are none.
+fn nominal_of(durations: &[i64]) -> i64
+    requires { ⌜ Asc (now durations) ⌝ }
+    ensures { λ r. ⌜ r ≡ mode (now (durations .entry)) ⌝ }
+{
+    if durations.len() == 0 {
+        return 0;
+    }
+    order::most_frequent(durations)
+}
+
 // Answers with two whole tables and an edit. b has the durations: their sort takes both working slices, and so the stts is walked again beside the ctts.
 pub(crate) fn present(
     stts: &[u8],
@@ -113,11 +124,8 @@ pub(crate) fn present(
     requires { ⌜ (now b ≡ map pos (durations n (now stts))) × Sound e ⌝ }
     ensures { λ r. ⌜ Answered (ofFrames scale e (durations n (now (stts .entry))) (offsets m (now (ctts .entry)))) r (now (starts .entry)) (now (starts .exit)) ⌝ }
 {
-    if b.len() == 0 {
-        return refused(NO_TIMES);
-    }
     order::sort(b, a);
-    let nominal = order::most_frequent(b);
+    let nominal = nominal_of(b);
     if nominal <= 0 {
         return refused(NO_TIMES);
     }

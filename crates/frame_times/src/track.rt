@@ -24,8 +24,8 @@ ghost use mathlib.Core.List.{map};
 ghost use Prim.Native.Nat.{_-_, _*_, _≤_, _<_, _^_, min};
 ghost use lib.ListN.{length};
 ghost use lib.IntN.{pos};
-ghost use Rattle.tracks.specs.Tables.{entriesOf, total, durations, optionalRows};
-ghost use Rattle.frame_times.specs.Times.{Answered, room, ofOffsets, ofTables, ofMedia, ofTrack, timesOf};
+ghost use Rattle.tracks.specs.Tables.{rowsOf, optionalRows, entriesOf, total, durations};
+ghost use Rattle.frame_times.specs.Times.{Answered, room, ofOffsets, ofDurations, ofTables, ofMedia, ofTrack, timesOf};
 
 // The smaller of two.
 fn smaller(x: usize, y: usize) -> usize
@@ -67,7 +67,45 @@ fn past_room(
     present(stts, n, ctts, m, e, scale, starts, a, b)
 }
 
-// Answers with the stbl and the edts of a track, whose timescale and movie's timescale aren't 0.
+// Answers with the tables of a track, whose timescale and movie's timescale aren't 0: as many frames as bytes at most (31), and no more than there is room for (32).
+fn of_durations(
+    bytes: usize,
+    movie: u64,
+    scale: u64,
+    edts: &[u8],
+    ctts: &[u8],
+    stts: &[u8],
+    starts: &mut [i64],
+    a: &mut [i64],
+    b: &mut [i64],
+) -> FrameTimes
+    requires { ⌜ (bytes ≤ 16777216) × (scale < 2 ^ 32) × (0 < movie) × (movie < 2 ^ 32) ⌝ }
+    ensures { λ r. ⌜ Answered (ofDurations (rowsOf (now (stts .entry))) bytes (room (now (starts .entry)) (now (a .entry)) (now (b .entry))) movie scale (now (edts .entry)) (now (ctts .entry)) (now (stts .entry))) r (now (starts .entry)) (now (starts .exit)) ⌝ }
+{
+    let Rows::Whole(n) = count_rows(stts) else {
+        return refused(NO_TIMES);
+    };
+    let f = lay(stts, n, bytes, b);
+    if bytes < f {
+        return refused(NO_TIMES);
+    }
+    if least_length(starts, a, b) < f {
+        return refused(NO_ROOM);
+    }
+    past_room(
+        stts,
+        n,
+        ctts,
+        edts,
+        scale,
+        movie,
+        starts,
+        &mut a[..f],
+        &mut b[..f],
+    )
+}
+
+// Answers with the stbl and the edts of such a track.
 fn of_tables(
     bytes: usize,
     movie: u64,
@@ -85,28 +123,17 @@ fn of_tables(
     let Walk::Found { start: _, len: _ } = w else {
         return refused(NO_TIMES);
     };
-    let stts = payload(stbl, w);
-    let Rows::Whole(n) = count_rows(stts) else {
-        return refused(NO_TIMES);
-    };
-    let f = lay(stts, n, bytes, b);
-    if bytes < f {
-        return refused(NO_TIMES);
-    }
-    if least_length(starts, a, b) < f {
-        return refused(NO_ROOM);
-    }
     let ctts = inner_child(stbl, code(b"ctts"));
-    past_room(
-        stts,
-        n,
-        ctts,
-        edts,
-        scale,
+    of_durations(
+        bytes,
         movie,
+        scale,
+        edts,
+        ctts,
+        payload(stbl, w),
         starts,
-        &mut a[..f],
-        &mut b[..f],
+        a,
+        b,
     )
 }
 

@@ -6,7 +6,7 @@ ghost use mathlib.Core.Path.{_≡_};
 ghost use Prim.Native.Nat.{_+_, _-_, _*_, _≤_};
 ghost use lib.ListN.{length, replicate};
 ghost use Rattle.tracks.specs.Tables.{scaleAt, scaleOf, rowsOf, optionalRows, offsetOf};
-ghost use Rattle.tracks.specs.Steps.{Next, Spread};
+ghost use Rattle.tracks.specs.Steps.{atFirst, Next, Spread};
 
 // The timescale at at; 0 where it isn't whole.
 fn scale_at(p: &[u8], at: usize) -> u32
@@ -61,6 +61,18 @@ pub fn offset(x: u32) -> i64
     ensures { λ r. ⌜ r ≡ offsetOf x ⌝ }
 {
     signed::of_bits32(x)
+}
+
+// A walk over n entries, before the first.
+pub fn at_first(n: usize) -> Cursor
+    ensures { λ r. ⌜ r ≡ atFirst n ⌝ }
+{
+    Cursor {
+        left: n,
+        at: 8,
+        count: 0,
+        value: 0,
+    }
 }
 
 // A walk one frame on. Its value is that frame's, 0 where the entries are for no more frames.

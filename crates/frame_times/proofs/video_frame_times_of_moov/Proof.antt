@@ -1,4 +1,4 @@
-use mathlib.Core.Path.{_≡_, ap, _∙_}
+use mathlib.Core.Path.{ap, _∙_}
 use lib.ListN.{replicate}
 use lib.IntN.{pos}
 use borrow.Author.Needs.{needs}

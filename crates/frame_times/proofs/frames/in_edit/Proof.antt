@@ -1,8 +1,7 @@
-use mathlib.Core.Path.{_≡_, refl, sym, _∙_}
+use mathlib.Core.Path.{refl, sym, _∙_}
 use mathlib.Core.Bool.{true, false}
 use Rattle.signed.proofs.Bits.{le-read, lt-read}
 use Rattle.frame_times.proofs.Choices.{in-endless, in-ending, out-before}
-use borrow.Author.Needs.{needs}
 use Rattle.frame_times.proofs.frames.in_edit.Statement.{statement}
 use Rattle.frame_times.proofs.frames.in_edit.Tie as tie
 

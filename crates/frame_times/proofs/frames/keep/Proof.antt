@@ -1,5 +1,5 @@
 use mathlib.Core.Path.{_≡_, refl, sym, ap, _∙_, subst}
-use Prim.Native.Nat.{ℕ, _+_, _-_, _≤_, _<_, _^_}
+use Prim.Native.Nat.{ℕ, _+_, _-_, _<_, _^_}
 use native.Mathlib.Omega.{arith}
 use lib.ListN.{length, length-set}
 use Rattle.tracks.specs.Tables.{durations, offsets}
@@ -25,7 +25,7 @@ abbrev μ-loop : tie.MeasureT-loop
 μ-loop stts n ctts m e times₀ ds₀ os₀ k₀ t₀ i₀ times ds os k t i = length times - i
 
 loop-holds : tie.Need-loop-holds Inv-loop μ-loop
-loop-holds c = let s = c .before .before in keep-start _ _ _ _ _ _ _ refl (s .pre .0) (s .pre .1) (s .pre .2)
+loop-holds c = let s = c .before .before .before .before in rw (c .before .at-first .ensures, c .at-first2 .ensures) (keep-start _ _ _ _ _ _ _ refl (s .pre .0) (s .pre .1) (s .pre .2))
 
 next-requires : tie.Need-next-requires Inv-loop μ-loop
 next-requires c κs = c .before .loop .inv .ds-there
@@ -42,7 +42,7 @@ module _ (c : tie.After-offset Inv-loop μ-loop) where
   from = c .before .before .before .before .before
 
   abbrev start : tie.Start Inv-loop μ-loop
-  start = from .before .before .before
+  start = from .before .before .before .before .before
 
   abbrev duration : ℕ
   duration = c .before .before .before .next .result .value
@@ -109,4 +109,4 @@ returns c = keep-end _ _ _ _ _ _ _ _ _ _ _ (c .before .loop .inv) (omega (arith,
 
 pub keep-spec : {M : Type 1} → statement M
 keep-spec = tie.close (tie.spec
-    Inv-loop μ-loop loop-holds next-requires next-requires-2 (λ c. search needs) cast-c (λ c κs. search needs) add-c add-t (λ c. search needs) (λ c κs. search needs) (λ c. search needs) slice-set-from-c with-frame-requires loop-less loop-again (λ c. search needs) loop-again-2 same-length returns)
+    Inv-loop μ-loop (λ c κs. search needs) (λ c κs. search needs) loop-holds next-requires next-requires-2 (λ c. search needs) cast-c (λ c κs. search needs) add-c add-t (λ c. search needs) (λ c κs. search needs) (λ c. search needs) slice-set-from-c with-frame-requires loop-less loop-again (λ c. search needs) loop-again-2 same-length returns)

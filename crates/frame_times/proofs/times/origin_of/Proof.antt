@@ -1,4 +1,4 @@
-use mathlib.Core.Path.{_≡_, sym, _∙_}
+use mathlib.Core.Path.{sym, _∙_}
 use mir.Facts.{toZ-ofZ}
 use Rattle.signed.proofs.Bits.{back}
 use Rattle.frame_times.specs.Frames.{maxZ}

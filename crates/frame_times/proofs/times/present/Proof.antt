@@ -1,9 +1,9 @@
 use mathlib.Core.Path.{_≡_, refl, sym, ap, _∙_, subst}
-use mathlib.Core.Bool.{true, false}
+use mathlib.Core.Bool.{false}
 use mathlib.Core.List.{List, map}
-use Prim.Native.Nat.{ℕ, _≤_, _<_}
+use Prim.Native.Nat.{ℕ, _<_}
 use native.Mathlib.Omega.{arith}
-use lib.ListN.{length, take, length-map}
+use lib.ListN.{length, length-map}
 use lib.IntN.{ℤ, pos, _+ℤ_}
 use lib.Signed.{leZ}
 use mir.Syntax.{w64}
@@ -11,14 +11,13 @@ use mir.Val.{SFits, toZ}
 use mir.Facts.{toZ-pos}
 use Rattle.signed.proofs.Bits.{read, back}
 use Rattle.order.specs.Order.{Asc, sorted, mode}
-use Rattle.order.proofs.Sorted.{asc-sorted, length-sorted}
-use Rattle.order.proofs.Mode.{mode-sorted}
+use Rattle.order.proofs.Sorted.{asc-sorted}
 use Rattle.tracks.specs.Tables.{entriesOf, durations, offsets}
 use Rattle.tracks.proofs.EntryLaws.{length-per-frame}
-use Rattle.frame_times.specs.Frames.{Frame, framesFrom, kept, ctsOf}
+use Rattle.frame_times.specs.Frames.{Frame, framesFrom, kept}
 use Rattle.frame_times.specs.Steps.{Told}
 use Rattle.frame_times.specs.Times.{shown}
-use Rattle.frame_times.proofs.FrameLaws.{first-of, end-of, showable, showable-as, none-kept, low-nominal, some-shown, no-frames}
+use Rattle.frame_times.proofs.FrameLaws.{first-of, end-of, showable, showable-as, none-kept, low-nominal, some-shown, mode-of-sorted}
 use Rattle.frame_times.proofs.KeepLaws.{Bounded, told-bounded, told-first, told-last, front-long, front-within}
 use Rattle.frame_times.proofs.TrackLaws.{refuses, answered-as}
 use borrow.Author.Needs.{needs}
@@ -41,46 +40,36 @@ module _ (s : tie.Start) where
   a-long : length (s .args .b .now) ≡ length (s .args .a .now)
   a-long = b-long ∙ length-per-frame (entriesOf (s .args .n) (s .args .stts .now)) ∙ sym (s .pre .0 .2)
 
-returns : tie.Need-returns
-returns c =
-    let s = c .before .before .before .before in
-    refuses 31 (s .args .starts .now) (c .refused .ensures) (none-kept _ _ _ (fs s) (no-frames _ (ds s) _ (omega (arith, b-long s, c .before .if1 .taken))))
-
 sort-requires : tie.Need-sort-requires
-sort-requires c κs = omega (arith, a-long (c .before .before .before .before .before))
+sort-requires c κs = omega (arith, a-long (c .before .before .before .before))
 
 -- past the sort
 module _ (c : tie.After-sort) where
   abbrev start : tie.Start
-  start = c .before .before .before .before .before .before
-
-  some : 0 < length (map pos (ds start))
-  some = omega (arith, ap length (b-is start), c .before .before .before .if1 .left)
+  start = c .before .before .before .before .before
 
   sorted-is : c .sort .last .0 ≡ sorted (map pos (ds start))
   sorted-is = c .sort .ensures ∙ ap sorted (b-is start)
 
-most-frequent-requires : tie.Need-most-frequent-requires
-most-frequent-requires c κs =
-    let k = c .before .before .before in
-    subst (λ l. (0 < length l) × Asc l) (sym (sorted-is k)) (rw (length-sorted (map pos (ds (start k)))) (some k), asc-sorted (map pos (ds (start k))))
+nominal-of-requires : tie.Need-nominal-of-requires
+nominal-of-requires c κs = let k = c .before .before .before in subst Asc (sym (sorted-is k)) (asc-sorted (map pos (ds (start k))))
 
 -- the nominal duration
-named : (c : tie.After-most-frequent) → (let s = start (c .before .before .before .before) in read (c .most-frequent .result) ≡ mode (map pos (ds s)))
+named : (c : tie.After-nominal-of) → (let s = start (c .before .before .before .before) in read (c .nominal-of .result) ≡ mode (map pos (ds s)))
 named c =
     let k = c .before .before .before .before in
-    let m = c .most-frequent in
-    back (m .result) (m .ok) ∙ m .ensures ∙ ap mode (sorted-is k) ∙ mode-sorted (map pos (ds (start k))) (some k)
+    let m = c .nominal-of in
+    back (m .result) (m .ok) ∙ m .ensures ∙ ap mode (sorted-is k) ∙ mode-of-sorted (map pos (ds (start k)))
 
-returns-2 : tie.Need-returns-2
-returns-2 c =
+returns : tie.Need-returns
+returns c =
     let m = c .before .before in
     let s = start (m .before .before .before .before) in
-    refuses 31 (s .args .starts .now) (c .refused2 .ensures) (low-nominal _ _ _ (fs s) (ap (λ z. leZ z (pos 0)) (sym (named m)) ∙ c .before .if2 .taken))
+    refuses 31 (s .args .starts .now) (c .refused .ensures) (low-nominal _ _ _ (fs s) (ap (λ z. leZ z (pos 0)) (sym (named m)) ∙ c .before .if1 .taken))
 
 -- past the pass over the frames
 module _ (c : tie.After-keep) where
-  abbrev frequent : tie.After-most-frequent
+  abbrev frequent : tie.After-nominal-of
   frequent = c .before .before .before
 
   abbrev first : tie.Start
@@ -92,31 +81,31 @@ module _ (c : tie.After-keep) where
   told : Told (fs first) (c .keep .result) times
   told = c .keep .ensures
 
-returns-3 : tie.Need-returns-3
-returns-3 c =
+returns-2 : tie.Need-returns-2
+returns-2 c =
     let k = c .before .before .before in
-    refuses 31 (first k .args .starts .now) (c .refused3 .ensures) (none-kept _ _ _ (fs (first k)) (sym (told k .count) ∙ c .before .if3 .taken))
+    refuses 31 (first k .args .starts .now) (c .refused2 .ensures) (none-kept _ _ _ (fs (first k)) (sym (told k .count) ∙ c .before .if2 .taken))
 
 -- some are kept
-module _ (c : tie.Else3) where
+module _ (c : tie.Else2) where
   abbrev pass : tie.After-keep
   pass = c .before .before
 
   bounded : Bounded (pass .keep .result)
-  bounded = told-bounded (fs (first pass)) (pass .keep .result) (times pass) (told pass) (c .if3 .left)
+  bounded = told-bounded (fs (first pass)) (pass .keep .result) (times pass) (told pass) (c .if2 .left)
 
   some-kept : 0 < length (fs (first pass))
-  some-kept = omega (arith, told pass .count, c .if3 .left)
+  some-kept = omega (arith, told pass .count, c .if2 .left)
 
   first-read : toZ w64 (pass .keep .result .first) ≡ first-of (fs (first pass))
-  first-read = toZ-pos w64 {n = pass .keep .result .first} (omega (arith, bounded .first-small)) ∙ told-first (fs (first pass)) (pass .keep .result) (times pass) (told pass) (c .if3 .left)
+  first-read = toZ-pos w64 {n = pass .keep .result .first} (omega (arith, bounded .first-small)) ∙ told-first (fs (first pass)) (pass .keep .result) (times pass) (told pass) (c .if2 .left)
 
 cast-last : tie.Need-cast-last
 cast-last c = record { sfits = omega (arith, bounded (c .before) .lasts-small) }
 
 -- where the last one ends
 module _ (c : tie.After-struct-told) where
-  abbrev here : tie.Else3
+  abbrev here : tie.Else2
   here = c .before .before .before
 
   abbrev last-sum : ℤ
@@ -131,7 +120,7 @@ module _ (c : tie.After-struct-told) where
   sum-fits = subst (SFits w64) (sym sum-is) (record { sfits = bounded here .end-fits })
 
   last-read : read last-sum ≡ end-of (fs (first (pass here)))
-  last-read = back last-sum (sum-fits .sfits) ∙ sum-is ∙ told-last (fs (first (pass here))) (pass here .keep .result) (times (pass here)) (told (pass here)) (here .if3 .left)
+  last-read = back last-sum (sum-fits .sfits) ∙ sum-is ∙ told-last (fs (first (pass here))) (pass here .keep .result) (times (pass here)) (told (pass here)) (here .if2 .left)
 
 add-last : tie.Need-add-last
 add-last c = sum-fits c
@@ -160,16 +149,16 @@ show-requires c κs =
       omega (arith, long, within, k .keep .kept, sort .kept, s .pre .0 .4),
     )
 
-returns-4 : tie.Need-returns-4
-returns-4 c =
+returns-3 : tie.Need-returns-3
+returns-3 c =
     let w = c .before .before .before in
     let l = w .before .before .before .before .before in
     let h = here l in
     let k = pass h in
     let s = first k in
-    let high : leZ (mode (map pos (ds s))) (pos 0) ≡ false = ap (λ z. leZ z (pos 0)) (sym (named (frequent k))) ∙ k .before .before .if2 .left in
+    let high : leZ (mode (map pos (ds s))) (pos 0) ≡ false = ap (λ z. leZ z (pos 0)) (sym (named (frequent k))) ∙ k .before .before .if1 .left in
     answered-as (some-shown _ _ _ (fs s) (some-kept h) high ∙ sym (λ i. shown (s .args .scale) (named (frequent k) i) (s .args .e) (first-read h i) (last-read l i) (sorted (told k .front i)))) (w .show .ensures)
 
 pub present-spec : {M : Type 1} → statement M
 present-spec = tie.close (tie.spec
-    (λ c κs. search needs) returns sort-requires most-frequent-requires (λ c κs. search needs) (λ c. search needs) (λ c. search needs) returns-2 (λ c κs. search needs) (λ c κs. search needs) (λ c. search needs) (λ c. search needs) returns-3 cast-last add-last slice-relend-prefix-show slice-aggregate-show cast-show show-requires (λ c. search needs) (λ c. search needs) (λ c. search needs) returns-4)
+    sort-requires nominal-of-requires (λ c κs. search needs) (λ c. search needs) (λ c. search needs) returns (λ c κs. search needs) (λ c κs. search needs) (λ c. search needs) (λ c. search needs) returns-2 cast-last add-last slice-relend-prefix-show slice-aggregate-show cast-show show-requires (λ c. search needs) (λ c. search needs) (λ c. search needs) returns-3)

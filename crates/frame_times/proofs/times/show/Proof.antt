@@ -1,18 +1,18 @@
-use mathlib.Core.Path.{_≡_, refl, sym, ap, _∙_, subst}
+use mathlib.Core.Path.{_≡_, sym, ap, _∙_}
 use mathlib.Core.List.{List, map}
-use Prim.Native.Nat.{_≤_, _<_}
+use Prim.Native.Nat.{_<_}
 use native.Mathlib.Omega.{arith}
 use lib.ListN.{length, getD}
 use lib.IntN.{ℤ, pos, _+ℤ_, _-ℤ_}
 use mir.Facts.{toZ-ofZ}
 use Rattle.signed.specs.Signed.{I64, within}
 use Rattle.signed.proofs.Bits.{read, back}
-use Rattle.slices.specs.Slices.{All, laid}
+use Rattle.slices.specs.Slices.{laid}
 use Rattle.order.specs.Order.{sorted}
 use Rattle.order.proofs.Sorted.{length-sorted}
 use Rattle.frame_times.specs.declared.FrameTimes.the-variants.{Times}
 use Rattle.frame_times.specs.Frames.{capped, origin, moved}
-use Rattle.frame_times.specs.Steps.{Showable, Movable}
+use Rattle.frame_times.specs.Steps.{Showable}
 use Rattle.frame_times.specs.Times.{Outcome}
 use Rattle.frame_times.proofs.Choices.{held, not-held, outside-is}
 use Rattle.frame_times.proofs.ShowLaws.{from-0, showable-sorted, end-apart, shown-out, times-move, shown-in, movable-as}

@@ -1,33 +1,20 @@
 use mathlib.Core.Path.{_≡_, sym, ap, _∙_}
-use mathlib.Core.List.{List, map}
-use Prim.Native.Nat.{ℕ, _≤_, _<_}
-use native.Mathlib.Omega.{arith}
+use mathlib.Core.List.{List}
+use Prim.Native.Nat.{ℕ}
 use denote.Ref.{now}
-use lib.ListN.{length, take, drop, length-map}
-use lib.Seq.{take-at, length-take-le}
-use lib.IntN.{pos}
 use Rattle.boxes.specs.Boxes.{boxesOf, firstOf}
 use Rattle.boxes.specs.Places.{childOf}
 use Rattle.boxes.proofs.Within.{found-within}
-use Rattle.tracks.specs.declared.Rows.{Rows}
-use Rattle.tracks.specs.declared.Rows.the-variants.{Whole}
-use Rattle.tracks.specs.Tables.{rowsOf, optionalRows, entriesOf, total, durations}
-use Rattle.tracks.proofs.EntryLaws.{rows-there, length-per-frame}
-use Rattle.frame_times.specs.Times.{Outcome, stts, ctts, room, ofOffsets, ofDurations, ofTables}
-use Rattle.frame_times.proofs.TrackLaws.{refuses, answered-as, torn-is, missed, reached, many, no-room, past-room}
+use Rattle.tracks.specs.Tables.{rowsOf}
+use Rattle.frame_times.specs.Times.{Outcome, stts, ctts, room, ofDurations, ofTables}
+use Rattle.frame_times.proofs.TrackLaws.{refuses, answered-as, missed, reached}
 use borrow.Author.Needs.{needs}
 use Rattle.frame_times.proofs.track.of_tables.Statement.{statement}
 use Rattle.frame_times.proofs.track.of_tables.Tie as tie
 
-module _ (s : tie.Start) where
-  abbrev lent : ℕ
-  lent = room (s .args .starts .now) (s .args .a .now) (s .args .b .now)
-
-  abbrev by-rows : List ℕ → Rows → Outcome
-  by-rows d r = ofDurations r (s .args .bytes) lent (s .args .movie) (s .args .scale) (s .args .edts .now) (childOf ctts (s .args .stbl .now)) d
-
-  abbrev whole : Outcome
-  whole = ofTables (s .args .bytes) lent (s .args .movie) (s .args .scale) (s .args .edts .now) (s .args .stbl .now)
+-- by the ctts and the stts
+abbrev by-tables : tie.Start → List ℕ → List ℕ → Outcome
+by-tables s o d = ofDurations (rowsOf d) (s .args .bytes) (room (s .args .starts .now) (s .args .a .now) (s .args .b .now)) (s .args .movie) (s .args .scale) (s .args .edts .now) o d
 
 found : (c : tie.After-find-child) → c .find-child .result ≡ firstOf stts (boxesOf (c .before .before .before .before .before .args .stbl .now))
 found c = c .find-child .ensures ∙ ap (λ k. firstOf k (boxesOf (c .before .before .before .before .before .args .stbl .now))) (c .before .code .ensures)
@@ -36,131 +23,21 @@ returns : tie.Need-returns
 unfolding ofTables
 returns c =
     let s = c .before .before .before .before .before .before .before in
-    refuses 31 (s .args .starts .now) (c .refused .ensures) (missed (s .args .stbl .now) (λ d. by-rows s d (rowsOf d)) (found (c .before .before)) (c .before .match .keys2))
+    refuses 31 (s .args .starts .now) (c .refused .ensures) (missed (s .args .stbl .now) (by-tables s (childOf ctts (s .args .stbl .now))) (found (c .before .before)) (c .before .match .keys2))
 
 payload-requires : tie.Need-payload-requires
-payload-requires c κs = found-within _ _ _ (c .before .before .find-child .ensures)
-
--- the stts is reached
-reach : (c : tie.After-payload) → whole (c .before .before .before .before .before .before .before .before) ≡ by-rows (c .before .before .before .before .before .before .before .before) (now (c .payload .result)) (rowsOf (now (c .payload .result)))
-unfolding ofTables
-reach c = let s = c .before .before .before .before .before .before .before .before in reached (s .args .stbl .now) (λ d. by-rows s d (rowsOf d)) (found (c .before .before .before)) (c .before .before .match .keys1) (c .payload .ensures .bytes)
+payload-requires c κs = found-within _ _ _ (c .before .before .before .before .before .find-child .ensures)
 
 returns-2 : tie.Need-returns-2
+unfolding ofTables
 returns-2 c =
-    let p = c .before .before .before .before in
-    let s = p .before .before .before .before .before .before .before .before in
-    refuses 31 (s .args .starts .now) (c .refused2 .ensures) (reach p ∙ ap (by-rows s (now (p .payload .result))) (sym (c .before .before .before .count-rows .ensures) ∙ torn-is (c .before .before .before .count-rows .result) (c .before .before .match2 .keys2)))
-
--- it has n entries
-module _ (c : tie.After-n) where
-  abbrev at : tie.After-payload
-  at = c .before .before .before
-
-  abbrev table : List ℕ
-  table = now (at .payload .result)
-
-  rows-are : rowsOf table ≡ Whole (c .n .given .0 .0)
-  rows-are = sym (c .before .before .count-rows .ensures) ∙ c .n .given .1
-
-  by-n : whole (at .before .before .before .before .before .before .before .before) ≡ by-rows (at .before .before .before .before .before .before .before .before) table (Whole (c .n .given .0 .0))
-  by-n = reach at ∙ ap (by-rows (at .before .before .before .before .before .before .before .before) table) rows-are
-
-lay-requires : tie.Need-lay-requires
-lay-requires c κs = let n = c .before .before in (rows-there (table n) (n .n .given .0 .0) (rows-are n), at n .before .before .before .before .before .before .before .before .pre .0)
-
--- how many frames there are
-module _ (c : tie.After-lay) where
-  abbrev counted : tie.After-n
-  counted = c .before .before .before
-
-  abbrev start : tie.Start
-  start = at counted .before .before .before .before .before .before .before .before
-
-  abbrev count : ℕ
-  count = total (entriesOf (counted .n .given .0 .0) (table counted))
-
-  more : start .args .bytes < c .lay .result → start .args .bytes < count
-  more h = omega (arith, c .lay .ensures .frames)
-
-  same : c .lay .result ≤ start .args .bytes → c .lay .result ≡ count
-  same h = omega (arith, c .lay .ensures .frames)
-
-returns-3 : tie.Need-returns-3
-returns-3 c =
-    let l = c .before .before .before in
-    refuses 31 (start l .args .starts .now) (c .refused3 .ensures) (by-n (counted l) ∙ many _ _ _ _ _ _ _ _ (more l (c .before .if1 .taken)))
-
--- they are no more than the bytes
-module _ (c : tie.Else1) where
-  abbrev laid-at : tie.After-lay
-  laid-at = c .before .before
-
-  frames-are : laid-at .lay .result ≡ count laid-at
-  frames-are = same laid-at (c .if1 .left)
-
-  few : count laid-at ≤ start laid-at .args .bytes
-  few = omega (arith, frames-are, c .if1 .left)
-
-returns-4 : tie.Need-returns-4
-returns-4 c =
-    let e = c .before .before .before .before .before .before in
-    let l = laid-at e in
-    refuses 32 (start l .args .starts .now) (c .refused4 .ensures) (by-n (counted l) ∙ no-room _ _ _ _ _ _ _ _ (few e) (omega (arith, c .before .before .least-length .ensures, l .lay .kept, frames-are e, c .before .if2 .taken)))
-
--- and there is room for them
-module _ (c : tie.Else2) where
-  abbrev tested : tie.Else1
-  tested = c .before .before .before .before .before
-
-  abbrev done : tie.After-lay
-  done = laid-at tested
-
-  roomy : count done ≤ lent (start done)
-  roomy = omega (arith, c .before .least-length .ensures, done .lay .kept, frames-are tested, c .if2 .left)
-
-  a-long : length (take (done .lay .result) (start done .args .a .now)) ≡ done .lay .result
-  a-long = length-take-le (done .lay .result) (start done .args .a .now) (omega (arith, roomy, frames-are tested))
-
-  b-front : take (done .lay .result) (done .lay .last .1 .1 .1 .0) ≡ map pos (durations (counted done .n .given .0 .0) (table (counted done)))
-  b-front =
-      let ds = durations (counted done .n .given .0 .0) (table (counted done)) in
-      let n : length (map pos ds) ≡ done .lay .result = length-map ds pos ∙ length-per-frame (entriesOf (counted done .n .given .0 .0) (table (counted done))) ∙ sym (frames-are tested) in
-      ap (take (done .lay .result)) (done .lay .ensures .laid (tested .if1 .left) (omega (arith, roomy, frames-are tested)))
-      ∙ take-at (map pos ds) (drop (length (map pos ds)) (start done .args .b .now)) (done .lay .result) n
-
-slice-relend-prefix-past-room : tie.Need-slice-relend-prefix-past-room
-slice-relend-prefix-past-room c = let e = c .before .before .before .before in omega (arith, roomy e, frames-are (tested e))
-
-slice-aggregate-past-room : tie.Need-slice-aggregate-past-room
-slice-aggregate-past-room c = sym (a-long (c .before .before .before .before .before))
-
-slice-relend-prefix-past-room-2 : tie.Need-slice-relend-prefix-past-room-2
-slice-relend-prefix-past-room-2 c = let e = c .before .before .before .before .before in omega (arith, roomy e, frames-are (tested e), done e .lay .kept)
-
-slice-aggregate-past-room-2 : tie.Need-slice-aggregate-past-room-2
-slice-aggregate-past-room-2 c = let e = c .before .before .before .before .before .before in sym (length-take-le (done e .lay .result) (done e .lay .last .1 .1 .1 .0) (omega (arith, roomy e, frames-are (tested e), done e .lay .kept)))
-
-past-room-requires : tie.Need-past-room-requires
-past-room-requires c κs =
-    let e = c .before .before .before .before .before .before in
-    let l = done e in
-    let n = counted l in
-    let s = start l in (
-      (rows-there (table n) (n .n .given .0 .0) (rows-are n), a-long e ∙ frames-are (tested e), omega (arith, a-long e, tested e .if1 .left, s .pre .0), omega (arith, a-long e, frames-are (tested e), roomy e)),
-      (b-front e, s .pre .1, s .pre .2, s .pre .3),
-    )
-
-returns-5 : tie.Need-returns-5
-returns-5 c =
-    let e = c .before .before .before .before .before .before .before .before .before .before in
-    let l = done e in
-    let n = counted l in
-    let s = start l in
-    let i = c .before .before .before .before .before .before .before in
-    let ct = i .inner-child .ensures .bytes ∙ ap (λ k. childOf k (s .args .stbl .now)) (i .before .code2 .ensures) in
-    answered-as (by-n n ∙ past-room _ _ _ _ _ _ _ _ (few (tested e)) (roomy e) ∙ sym (ap (λ x. ofOffsets (optionalRows x) x (s .args .edts .now) (s .args .scale) (s .args .movie) (durations (n .n .given .0 .0) (table n))) ct)) (c .before .before .before .past-room .ensures)
+    let p = c .before .before .before .before .before .before .before in
+    let i = c .before .before .before .before .before .before .before .before in
+    let s = c .before .before .before .before .before .before .before .before .before .before .before .before .before .before .before .before .before .before in
+    let o = i .inner-child .ensures .bytes ∙ ap (λ k. childOf k (s .args .stbl .now)) (i .before .code2 .ensures) in
+    answered-as
+    (reached (s .args .stbl .now) (by-tables s (childOf ctts (s .args .stbl .now))) (found (c .before .before .before .before .before .before .before .before .before .before .before .before .before)) (c .before .before .before .before .before .before .before .before .before .before .before .before .match .keys1) (p .payload .ensures .bytes) ∙ sym (ap (λ x. by-tables s x (now (p .payload .result))) o)) (c .before .before .before .of-durations .ensures)
 
 pub of-tables-spec : {M : Type 1} → statement M
 of-tables-spec = tie.close (tie.spec
-    (λ c κs. search needs) (λ c κs. search needs) (λ c. search needs) (λ c κs. search needs) returns payload-requires (λ c κs. search needs) (λ c. search needs) (λ c. search needs) (λ c κs. search needs) returns-2 lay-requires (λ c κs. search needs) (λ c. search needs) returns-3 (λ c κs. search needs) (λ c κs. search needs) (λ c. search needs) (λ c. search needs) (λ c. search needs) returns-4 (λ c κs. search needs) (λ c κs. search needs) slice-relend-prefix-past-room slice-aggregate-past-room slice-relend-prefix-past-room-2 slice-aggregate-past-room-2 past-room-requires (λ c. search needs) (λ c. search needs) (λ c. search needs) returns-5)
+    (λ c κs. search needs) (λ c κs. search needs) (λ c. search needs) (λ c κs. search needs) returns (λ c κs. search needs) (λ c κs. search needs) payload-requires (λ c κs. search needs) (λ c. search needs) (λ c. search needs) (λ c. search needs) returns-2)

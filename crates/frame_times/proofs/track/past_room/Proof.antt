@@ -2,7 +2,7 @@ use mathlib.Core.Path.{_≡_, sym, ap, _∙_}
 use Rattle.tracks.specs.declared.Rows.{Rows}
 use Rattle.tracks.specs.declared.Rows.the-variants.{Whole, Torn}
 use Rattle.tracks.specs.declared.Edited.{Edited}
-use Rattle.tracks.specs.declared.Edited.the-variants.{By, Bad}
+use Rattle.tracks.specs.declared.Edited.the-variants.{By}
 use Rattle.tracks.specs.Tables.{optionalRows, durations, offsets}
 use Rattle.tracks.specs.Edits.{editOf}
 use Rattle.tracks.proofs.EntryLaws.{optional-there}

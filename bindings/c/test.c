@@ -1,0 +1,309 @@
+/* Lends what a careless caller may lend (wrong lengths, no bytes behind a null pointer, the largest numbers, file bytes at
+ * any address) and looks at numbers, indices, words and slices. Prints ok, or the line that fails. */
+#include <stdio.h>
+#include <stdlib.h>
+#include <string.h>
+#include "segment_table.h"
+
+#define COUNT(a) (sizeof(a) / sizeof((a)[0]))
+#define MOST UINT64_MAX
+#define LENT 77 /* what every lent word holds before a call */
+
+static int failed = 0;
+
+#define IS(condition)                                                           \
+    do {                                                                        \
+        if (!(condition)) {                                                     \
+            printf("test.c:%d: not so: %s\n", __LINE__, #condition);            \
+            failed = 1;                                                         \
+        }                                                                       \
+    } while (0)
+
+static uint64_t x, y, z, w, at; /* lent words; at is the index */
+static int64_t p, q;
+
+static void lend(void) {
+    x = y = z = w = at = LENT;
+    p = q = LENT;
+}
+
+/* A call that refuses with a number and leaves the value words as they were. */
+#define REFUSED(number, call)                                                   \
+    do {                                                                        \
+        lend();                                                                 \
+        IS((call) == (number));                                                 \
+        IS(x == LENT && y == LENT && z == LENT && w == LENT && p == LENT && q == LENT); \
+    } while (0)
+
+#define REFUSED_AT(number, index, call)                                         \
+    do {                                                                        \
+        REFUSED(number, call);                                                  \
+        IS(at == (index));                                                      \
+    } while (0)
+
+#define ACCEPTED(call)                                                          \
+    do {                                                                        \
+        lend();                                                                 \
+        IS((call) == 0);                                                        \
+        IS(at == LENT || at == 0);                                              \
+    } while (0)
+
+static void clock_calls(void) {
+    const char *good = "2024-11-17T13:12:46Z", *leap = "0000-02-29T00:00:00Z", *bad = "1900-02-29T00:00:00Z";
+    IS(!st_is_utc_second(NULL, 0));
+    IS(st_is_utc_second((const uint8_t *)good, 20));
+    IS(!st_is_utc_second((const uint8_t *)good, 19));
+    IS(!st_is_utc_second((const uint8_t *)good, 21));
+    IS(st_is_utc_second((const uint8_t *)leap, 20));
+    IS(!st_is_utc_second((const uint8_t *)bad, 20));
+
+    ACCEPTED(st_ticks_to_us(1001, 30000, &p));
+    IS(p == 33367);
+    ACCEPTED(st_ticks_to_us(-1, 2000000, &p));
+    IS(p == -1);
+    ACCEPTED(st_ticks_to_us(INT64_MIN, 1000000, &p));
+    IS(p == INT64_MIN);
+    REFUSED(23, st_ticks_to_us(INT64_MAX, 1, &p));
+    REFUSED(23, st_ticks_to_us(1, 0, &p));
+    REFUSED(20, st_ticks_to_us(1, 4294967296, &p));
+    REFUSED(20, st_ticks_to_us(INT64_MIN, MOST, &p));
+}
+
+/* Table T of document 01: two sources of 100 and 50 frames at 25 fps, rows (A,10,30,0) and (B,5,20,30). */
+static uint64_t sources[20] = {100, 25, 1, 0, 0, 0, 0, 0, 0, 0, 50, 25, 1, 0, 0, 0, 0, 0, 0, 0};
+static uint64_t segments[10] = {0, 10, 30, 0, 0, 1, 5, 20, 30, 0};
+static int64_t times[14] = {0, 0, 1200000, 0, 0, 0, 0, 0, 1200000, 800000, 0, 0, 0, 0};
+
+#define T sources, COUNT(sources), segments, COUNT(segments), times, COUNT(times), false, NULL, 0
+
+static uint64_t check(void) { return st_check(T, &x, &at); }
+
+/* The check with one word set to another value for the time of the call. */
+static uint64_t with(uint64_t *word, uint64_t value) {
+    uint64_t before = *word, number;
+    *word = value;
+    number = check();
+    *word = before;
+    return number;
+}
+
+static uint64_t with_time(int64_t *word, int64_t value) {
+    int64_t before = *word;
+    uint64_t number;
+    *word = value;
+    number = check();
+    *word = before;
+    return number;
+}
+
+static void table_calls(void) {
+    ACCEPTED(check());
+    IS(x == 50 && at == 0);
+
+    /* wrong lengths, no lengths */
+    REFUSED_AT(1, 0, st_check(sources, 19, segments, 10, times, 14, false, NULL, 0, &x, &at));
+    REFUSED_AT(1, 0, st_check(sources, 20, segments, 9, times, 14, false, NULL, 0, &x, &at));
+    REFUSED_AT(1, 0, st_check(sources, 20, segments, 10, times, 13, false, NULL, 0, &x, &at));
+    REFUSED_AT(1, 0, st_check(sources, 20, segments, 10, times, 7, false, NULL, 0, &x, &at));
+    REFUSED_AT(1, 0, st_check(sources, 20, segments, 10, NULL, 0, false, NULL, 0, &x, &at));
+    REFUSED_AT(3, 0, st_check(NULL, 0, NULL, 0, NULL, 0, false, NULL, 0, &x, &at));
+    REFUSED_AT(3, 0, st_check(NULL, 0, segments, 10, times, 14, false, NULL, 0, &x, &at));
+    REFUSED_AT(8, 0, st_check(sources, 20, NULL, 0, NULL, 0, false, NULL, 0, &x, &at));
+    REFUSED_AT(7, 0, st_check(sources, 20, segments, 10, times, 14, true, NULL, 0, &x, &at));
+
+    /* the largest numbers */
+    REFUSED_AT(1, 0, with(&sources[13], MOST));
+    REFUSED_AT(1, 0, with(&sources[6], MOST));
+    REFUSED_AT(1, 0, with(&segments[4], MOST));
+    sources[3] = 1, sources[4] = MOST, sources[5] = MOST;
+    REFUSED_AT(1, 0, check());
+    sources[4] = 0, sources[5] = 0;
+    REFUSED_AT(5, 0, check());
+    sources[3] = 0;
+    REFUSED_AT(9, 1, with(&segments[5], MOST));
+    REFUSED_AT(11, 0, with(&segments[2], MOST));
+    REFUSED_AT(11, 1, with(&segments[6], MOST));
+    REFUSED_AT(15, 1, with(&segments[8], 31));
+    REFUSED_AT(13, 1, with_time(&times[7], INT64_MIN));
+    REFUSED_AT(14, 0, with_time(&times[2], INT64_MAX - (times[0] = 1) + 1));
+    times[0] = 0;
+    REFUSED_AT(16, 1, with_time(&times[8], INT64_MAX));
+    REFUSED_AT(17, 1, with(&segments[9], 1));
+
+    ACCEPTED(st_segment_of_frame(T, 29, &x, &at));
+    IS(x == 0 && at == 0);
+    ACCEPTED(st_segment_of_frame(T, 30, &x, &at));
+    IS(x == 1);
+    ACCEPTED(st_segment_of_frame(T, MOST, &x, &at));
+    IS(x == 1);
+    ACCEPTED(st_segment_of_time_us(T, INT64_MIN, &x, &at));
+    IS(x == 0);
+    ACCEPTED(st_segment_of_time_us(T, 1200000, &x, &at));
+    IS(x == 1);
+    ACCEPTED(st_segment_of_time_us(T, INT64_MAX, &x, &at));
+    IS(x == 1);
+    ACCEPTED(st_continues(T, 1, &x, &at));
+    IS(x == 0);
+    ACCEPTED(st_continues(T, MOST, &x, &at));
+    IS(x == 0);
+    REFUSED_AT(3, 0, st_segment_of_frame(NULL, 0, NULL, 0, NULL, 0, false, NULL, 0, MOST, &x, &at));
+    REFUSED_AT(3, 0, st_segment_of_time_us(NULL, 0, NULL, 0, NULL, 0, false, NULL, 0, INT64_MIN, &x, &at));
+    REFUSED_AT(3, 0, st_continues(NULL, 0, NULL, 0, NULL, 0, false, NULL, 0, MOST, &x, &at));
+}
+
+/* Rows into room for three. */
+static uint64_t out[15];
+static int64_t moved[3];
+
+static void fresh(void) {
+    for (size_t k = 0; k < COUNT(out); k++) out[k] = LENT;
+    for (size_t k = 0; k < COUNT(moved); k++) moved[k] = LENT;
+}
+
+static bool untouched(size_t rows) {
+    for (size_t k = 5 * rows; k < COUNT(out); k++) if (out[k] != LENT) return false;
+    for (size_t k = rows; k < COUNT(moved); k++) if (moved[k] != LENT) return false;
+    return true;
+}
+
+static bool row(size_t k, uint64_t source, uint64_t first, uint64_t count, uint64_t start) {
+    const uint64_t *u = out + 5 * k;
+    return u[0] == source && u[1] == first && u[2] == count && u[3] == start && u[4] == 0 && moved[k] == 0;
+}
+
+static void map_calls(void) {
+    const uint64_t map[10] = {0, 10, 30, 0, 0, 1, 5, 20, 30, 0}, full[5] = {0, 0, MOST, 0, 0}, one[5] = {0, 0, 1, 0, 0};
+    const int64_t none[2] = {0, 0};
+    uint64_t again[10];
+
+    fresh();
+    ACCEPTED(st_rows_of_table(T, out, 15, moved, 3, &x, &at));
+    IS(x == 2 && row(0, 0, 10, 30, 0) && row(1, 1, 5, 20, 30) && untouched(2));
+    fresh();
+    REFUSED_AT(32, 0, st_rows_of_table(T, out, 9, moved, 2, &x, &at));
+    REFUSED_AT(32, 0, st_rows_of_table(T, out, 10, moved, 1, &x, &at));
+    REFUSED_AT(32, 0, st_rows_of_table(T, NULL, 0, NULL, 0, &x, &at));
+    IS(untouched(0));
+
+    /* the first lesson: cut across the join, cut the result again */
+    ACCEPTED(st_cut(map, 10, none, 2, 25, 40, out, 15, moved, 3, &x, &at));
+    IS(x == 2 && row(0, 0, 35, 5, 0) && row(1, 1, 5, 10, 5) && untouched(2));
+    memcpy(again, out, sizeof again);
+    fresh();
+    ACCEPTED(st_cut(again, 10, none, 2, 3, 8, out, 15, moved, 3, &x, &at));
+    IS(x == 2 && row(0, 0, 38, 2, 0) && row(1, 1, 5, 3, 2) && untouched(2));
+    memcpy(again, out, sizeof again);
+    ACCEPTED(st_origin(again, 10, none, 2, 2, &x, &y, &z, &p, &at));
+    IS(x == 1 && y == 5 && z == 0 && p == 0 && at == 0);
+
+    fresh();
+    REFUSED_AT(50, 0, st_cut(map, 10, none, 2, 40, 40, out, 15, moved, 3, &x, &at));
+    REFUSED_AT(50, 0, st_cut(map, 10, none, 2, 0, 51, out, 15, moved, 3, &x, &at));
+    REFUSED_AT(50, 0, st_cut(map, 10, none, 2, MOST, MOST, out, 15, moved, 3, &x, &at));
+    REFUSED_AT(51, 0, st_cut(NULL, 0, NULL, 0, 0, MOST, out, 15, moved, 3, &x, &at));
+    REFUSED_AT(51, 0, st_cut(map, 9, none, 2, 0, 1, out, 15, moved, 3, &x, &at));
+    REFUSED_AT(51, 0, st_cut(map, 10, none, 1, 0, 1, out, 15, moved, 3, &x, &at));
+    REFUSED_AT(51, 1, st_cut((const uint64_t[]){0, 10, 30, 0, 0, 1, 5, 20, 31, 0}, 10, none, 2, 0, 1, out, 15, moved, 3, &x, &at));
+    REFUSED_AT(51, 0, st_cut((const uint64_t[]){0, MOST, MOST, 0, 0}, 5, none, 1, 0, 1, out, 15, moved, 3, &x, &at));
+    REFUSED_AT(52, 0, st_cut(map, 10, none, 2, 0, 50, out, 9, moved, 3, &x, &at));
+    REFUSED_AT(52, 0, st_cut(map, 10, none, 2, 0, 50, NULL, 0, NULL, 0, &x, &at));
+    REFUSED_AT(53, 0, st_join(full, 5, none, 1, one, 5, none, 1, out, 15, moved, 3, &x, &at));
+    REFUSED_AT(51, 0, st_join(one, 5, none, 1, NULL, 0, NULL, 0, out, 15, moved, 3, &x, &at));
+    REFUSED_AT(52, 0, st_join(map, 10, none, 2, map, 10, none, 2, out, 15, moved, 3, &x, &at));
+    REFUSED_AT(51, 0, st_merge(NULL, 0, NULL, 0, out, 15, moved, 3, &x, &at));
+    REFUSED_AT(52, 0, st_merge(map, 10, none, 2, out, 5, moved, 1, &x, &at));
+    IS(untouched(0));
+    ACCEPTED(st_join(one, 5, none, 1, map, 10, none, 2, out, 15, moved, 3, &x, &at));
+    IS(x == 3 && row(0, 0, 0, 1, 0) && row(1, 0, 10, 30, 1) && row(2, 1, 5, 20, 31));
+    fresh();
+    ACCEPTED(st_merge((const uint64_t[]){0, 0, 1, 0, 0, 0, 1, 4, 1, 0}, 10, none, 2, out, 15, moved, 3, &x, &at));
+    IS(x == 1 && row(0, 0, 0, 5, 0) && untouched(1));
+
+    ACCEPTED(st_origin(full, 5, none, 1, MOST - 1, &x, &y, &z, &p, &at));
+    IS(x == 0 && y == MOST - 1);
+    REFUSED_AT(54, 0, st_origin(full, 5, none, 1, MOST, &x, &y, &z, &p, &at));
+    REFUSED_AT(51, 0, st_origin(NULL, 0, NULL, 0, 0, &x, &y, &z, &p, &at));
+}
+
+/* A box: size, type, then what is inside, at any address. */
+static uint8_t *box(uint8_t *to, const char *kind, uint32_t payload) {
+    uint32_t size = payload + 8;
+    to[0] = (uint8_t)(size >> 24), to[1] = (uint8_t)(size >> 16), to[2] = (uint8_t)(size >> 8), to[3] = (uint8_t)size;
+    memcpy(to + 4, kind, 4);
+    return to + 8;
+}
+
+static uint32_t code(const char *kind) {
+    const uint8_t *k = (const uint8_t *)kind;
+    return (uint32_t)k[0] << 24 | (uint32_t)k[1] << 16 | (uint32_t)k[2] << 8 | k[3];
+}
+
+static void box_calls(void) {
+    uint8_t room[96], *large = calloc(16777217, 1);
+    for (size_t shift = 0; shift < 8; shift++) {
+        uint8_t *file = room + shift; /* free, then moov / udta / MTRM of five bytes; 8 addresses */
+        box(file, "free", 3);
+        memcpy(box(box(box(file + 11, "moov", 21), "udta", 13), "MTRM", 5), "table", 5);
+        ACCEPTED(st_table_text(file, 40, &x, &y));
+        IS(x == 35 && y == 5 && memcmp(file + x, "table", 5) == 0);
+        ACCEPTED(st_find_box(file, 40, 0, 40, code("moov"), true, &x, &y));
+        IS(x == 19 && y == 21);
+        ACCEPTED(st_child(file, 40, code("free"), &x, &y));
+        IS(x == 8 && y == 3);
+        ACCEPTED(st_box_size(file + 11, 29, 29, &x, &y));
+        IS(x == 29 && y == 8);
+        REFUSED(31, st_box_size(file + 11, 29, 28, &x, &y));
+        REFUSED(31, st_child(file, 40, code("udta"), &x, &y));
+        REFUSED(40, st_table_text(file, 39, &x, &y));
+        REFUSED(42, st_find_box(file, 40, 0, 41, code("moov"), true, &x, &y));
+        REFUSED(42, st_find_box(file, 40, 40, 39, code("moov"), true, &x, &y));
+        REFUSED(42, st_find_box(file, 40, MOST, MOST, code("moov"), false, &x, &y));
+        REFUSED(42, st_find_box(file, 40, 0, MOST, MOST >> 32, false, &x, &y));
+        box(file, "moov", 24);
+        box(file + 8, "udta", 16);
+        box(file + 16, "MTRM", 0);
+        box(file + 24, "MTRM", 0);
+        REFUSED(41, st_table_text(file, 32, &x, &y));
+    }
+    REFUSED(31, st_box_size(NULL, 0, MOST, &x, &y));
+    REFUSED(31, st_child(NULL, 0, 0, &x, &y));
+    REFUSED(31, st_find_box(NULL, 0, 0, 0, 0, true, &x, &y));
+    REFUSED(40, st_table_text(NULL, 0, &x, &y));
+    if (large) {
+        REFUSED(30, st_box_size(large, 16777217, MOST, &x, &y));
+        REFUSED(30, st_child(large, 16777217, 0, &x, &y));
+        REFUSED(30, st_find_box(large, 16777217, 0, 0, 0, true, &x, &y));
+        REFUSED(30, st_table_text(large, 16777217, &x, &y));
+    }
+    free(large);
+}
+
+static void recording_calls(void) {
+    const int64_t stamps[3] = {1000, 1010, 1025}, falling[3] = {5, 6, 4}, wide[2] = {INT64_MIN, INT64_MAX};
+    int64_t starts[4] = {9, 9, 9, 9}, work[3] = {9, 9, 9}, *many = calloc(16777217, 8);
+#define WORDS &x, &y, &p, &q, &at
+    ACCEPTED(st_mcraw_times(stamps, 3, starts, 4, work, 3, WORDS));
+    IS(x == 3 && y == 1000000000 && p == 10 && q == 35 && at == 0);
+    IS(starts[0] == 0 && starts[1] == 10 && starts[2] == 25 && starts[3] == 9);
+    IS(work[0] == 0 && work[1] == 0 && work[2] == 0);
+    work[0] = work[1] = work[2] = 9;
+    REFUSED_AT(32, 0, st_mcraw_times(stamps, 3, starts, 2, work, 3, WORDS));
+    IS(starts[0] == 0 && starts[1] == 10 && work[0] == 0 && work[1] == 0 && work[2] == 0);
+    REFUSED_AT(32, 0, st_mcraw_times(stamps, 3, starts, 4, NULL, 0, WORDS));
+    REFUSED_AT(34, 2, st_mcraw_times(falling, 3, starts, 4, work, 3, WORDS));
+    REFUSED_AT(33, 0, st_mcraw_times(wide, 2, starts, 4, work, 3, WORDS));
+    REFUSED_AT(31, 0, st_mcraw_times(stamps, 1, starts, 4, work, 3, WORDS));
+    REFUSED_AT(31, 0, st_mcraw_times(NULL, 0, NULL, 0, NULL, 0, WORDS));
+    if (many) REFUSED_AT(30, 0, st_mcraw_times(many, 16777217, starts, 4, work, 3, WORDS));
+    free(many);
+}
+
+int main(void) {
+    clock_calls();
+    table_calls();
+    map_calls();
+    box_calls();
+    recording_calls();
+    if (!failed) puts("ok");
+    return failed;
+}

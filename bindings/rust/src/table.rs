@@ -1,0 +1,153 @@
+//! Segment tables.
+use crate::{answer, ffi, FrameMap, Refusal};
+
+/// A camera clock: ticks a second as a fraction, and where it wraps.
+#[derive(Clone, Copy, Debug, PartialEq, Eq, Hash)]
+pub struct Clock {
+    pub rate: (u64, u64),
+    pub modulus: Option<u64>,
+}
+
+/// A recording that frames come from.
+#[derive(Clone, Debug, PartialEq, Eq, Hash)]
+pub struct Source {
+    pub frames: u64,
+    /// Frames a second as a fraction.
+    pub fps: (u64, u64),
+    /// `YYYY-MM-DDTHH:MM:SSZ`.
+    pub creation_time: Option<String>,
+    pub clock: Option<Clock>,
+}
+
+/// A run of frames of one source, with its times in microseconds.
+#[derive(Clone, Copy, Debug, Default, PartialEq, Eq, Hash)]
+pub struct Segment {
+    pub source: u64,
+    pub src_first_frame: u64,
+    pub frame_count: u64,
+    pub out_first_frame: u64,
+    pub src_start_us: i64,
+    pub out_start_us: i64,
+    pub duration_us: i64,
+    pub src_capture_start_us: i64,
+    pub out_capture_start_us: i64,
+    pub capture_duration_us: i64,
+    pub clock_shift: Option<i64>,
+}
+
+/// An accepted segment table.
+///
+/// ```
+/// use segment_table::{Segment, Source, Table};
+///
+/// let source = |frames| Source { frames, fps: (25, 1), creation_time: None, clock: None };
+/// let segments = [
+///     Segment { source: 0, src_first_frame: 10, frame_count: 30, duration_us: 1_200_000, ..Segment::default() },
+///     Segment {
+///         source: 1, src_first_frame: 5, frame_count: 20, out_first_frame: 30,
+///         out_start_us: 1_200_000, duration_us: 800_000, ..Segment::default()
+///     },
+/// ];
+/// let table = Table::new(&[source(100), source(50)], &segments, false)?;
+/// assert_eq!(table.frames(), 50);
+/// assert_eq!((table.segment_of_frame(29), table.segment_of_frame(30)), (0, 1));
+/// assert_eq!(table.segment_of_time_us(1_200_000), 1);
+/// assert!(!table.continues(1));
+/// assert_eq!(table.map().origin(30)?.frame, 5);
+///
+/// let refusal = Table::new(&[source(100)], &segments, false).unwrap_err();
+/// assert_eq!((refusal.number, refusal.index), (9, 1));
+/// # Ok::<(), segment_table::Refusal>(())
+/// ```
+#[derive(Clone, Debug, PartialEq, Eq, Hash)]
+pub struct Table {
+    sources: Vec<u64>,
+    segments: Vec<u64>,
+    times: Vec<i64>,
+    log: bool,
+    text: Vec<u8>,
+    frames: u64,
+}
+
+/// The nine arguments of a lent table.
+macro_rules! lent {
+    ($call:ident, $t:expr $(, $more:expr)*) => {
+        ffi::$call(
+            $t.sources.as_ptr(), $t.sources.len(), $t.segments.as_ptr(), $t.segments.len(), $t.times.as_ptr(), $t.times.len(),
+            $t.log, $t.text.as_ptr(), $t.text.len() $(, $more)*
+        )
+    };
+}
+
+impl Table {
+    /// Checks a table; `log` says whether it names a telemetry log. Refuses 2 to 17, with the source's or the segment's index.
+    pub fn new(sources: &[Source], segments: &[Segment], log: bool) -> Result<Table, Refusal> {
+        let mut text = Vec::new();
+        let mut words = Vec::with_capacity(10 * sources.len());
+        for s in sources {
+            let time = s.creation_time.as_deref().unwrap_or("").as_bytes();
+            let clock = s.clock.unwrap_or(Clock { rate: (0, 0), modulus: None });
+            let kind = s.clock.map_or(0, |c| if c.modulus.is_some() { 2 } else { 1 });
+            words.extend([s.frames, s.fps.0, s.fps.1, s.creation_time.is_some() as u64, text.len() as u64, time.len() as u64]);
+            words.extend([kind, clock.rate.0, clock.rate.1, clock.modulus.unwrap_or(0)]);
+            text.extend(time);
+        }
+        let rows = segments.iter().flat_map(|s| [s.source, s.src_first_frame, s.frame_count, s.out_first_frame, s.clock_shift.is_some() as u64]);
+        let times = segments.iter().flat_map(|s| {
+            let capture = [s.src_capture_start_us, s.out_capture_start_us, s.capture_duration_us, s.clock_shift.unwrap_or(0)];
+            [s.src_start_us, s.out_start_us, s.duration_us].into_iter().chain(capture)
+        });
+        Table::from_words(words, rows.collect(), times.collect(), log, text)
+    }
+
+    /// Checks a table as it is lent: ten words a source, five words and seven times a segment, and the bytes of creation
+    /// times. Refuses 1 to 17.
+    ///
+    /// ```
+    /// assert_eq!(segment_table::Table::from_words(vec![1; 9], vec![], vec![], false, vec![]).unwrap_err().number, 1);
+    /// ```
+    pub fn from_words(sources: Vec<u64>, segments: Vec<u64>, times: Vec<i64>, log: bool, text: Vec<u8>) -> Result<Table, Refusal> {
+        let mut table = Table { sources, segments, times, log, text, frames: 0 };
+        let (mut frames, mut index) = (0, 0);
+        let number = unsafe { lent!(st_check, table, &mut frames, &mut index) };
+        table.frames = frames;
+        answer(number, index, table)
+    }
+
+    /// How many frames it has.
+    pub fn frames(&self) -> u64 {
+        self.frames
+    }
+
+    /// The index of the segment that has a frame; past the last frame, of the last one.
+    pub fn segment_of_frame(&self, frame: u64) -> usize {
+        let (mut segment, mut index) = (0, 0);
+        let number = unsafe { lent!(st_segment_of_frame, self, frame, &mut segment, &mut index) };
+        debug_assert_eq!(number, 0);
+        segment as usize
+    }
+
+    /// The index of the segment that presents a time: before the first one the first, past the last one the last.
+    pub fn segment_of_time_us(&self, time: i64) -> usize {
+        let (mut segment, mut index) = (0, 0);
+        let number = unsafe { lent!(st_segment_of_time_us, self, time, &mut segment, &mut index) };
+        debug_assert_eq!(number, 0);
+        segment as usize
+    }
+
+    /// Whether a segment continues the one before it: same source, source frames that run on, equal shift.
+    pub fn continues(&self, segment: usize) -> bool {
+        let (mut yes, mut index) = (0, 0);
+        let number = unsafe { lent!(st_continues, self, segment as u64, &mut yes, &mut index) };
+        debug_assert_eq!(number, 0);
+        yes == 1
+    }
+
+    /// Its map: one row a segment.
+    pub fn map(&self) -> FrameMap {
+        FrameMap::filled(self.segments.len() / 5, |ou, os, rows, index| unsafe {
+            lent!(st_rows_of_table, self, ou.as_mut_ptr(), ou.len(), os.as_mut_ptr(), os.len(), rows, index)
+        })
+        .expect("an accepted table has a map")
+    }
+}

@@ -1,0 +1,125 @@
+//! Each refusal number that a wrapped call can give, with its index.
+use segment_table::*;
+
+fn source() -> Source {
+    Source { frames: 100, fps: (25, 1), creation_time: None, clock: None }
+}
+
+fn segment() -> Segment {
+    Segment { frame_count: 10, duration_us: 400_000, capture_duration_us: 400_000, ..Segment::default() }
+}
+
+/// The segment that follows `segment()`, with something changed.
+fn second(change: impl FnOnce(&mut Segment)) -> Segment {
+    let mut s = Segment { out_first_frame: 10, out_start_us: 400_000, out_capture_start_us: 400_000, ..segment() };
+    change(&mut s);
+    s
+}
+
+#[track_caller]
+fn refused<T: std::fmt::Debug>(number: u64, index: u64, answer: Result<T, Refusal>) {
+    let refusal = answer.unwrap_err();
+    assert_eq!((refusal.number, refusal.index), (number, index));
+    assert_ne!(refusal.words(), "no such refusal");
+}
+
+#[track_caller]
+fn source_refused(number: u64, bad: Source, log: bool) {
+    let good = Source { clock: Some(Clock { rate: (1, 1), modulus: None }), ..source() };
+    let shifted = Segment { clock_shift: Some(0), ..segment() };
+    refused(number, 1, Table::new(&[good, bad], &[shifted], log));
+}
+
+#[track_caller]
+fn segment_refused(number: u64, change: impl FnOnce(&mut Segment)) {
+    refused(number, 1, Table::new(&[source()], &[segment(), second(change)], false));
+}
+
+#[test]
+fn words_of_a_table() {
+    refused(1, 0, Table::from_words(vec![1; 9], vec![], vec![], false, vec![]));
+    refused(1, 0, Table::from_words(vec![100, 25, 1, 1, 0, 20, 0, 0, 0, 0], vec![0; 5], vec![0; 7], false, vec![]));
+    refused(2, 0, Table::new(&vec![source(); 65], &[segment()], false));
+    refused(2, 0, Table::new(&[source()], &vec![segment(); 513], false));
+    refused(3, 0, Table::new(&[], &[segment()], false));
+    refused(8, 0, Table::new(&[source()], &[], false));
+}
+
+#[test]
+fn sources() {
+    source_refused(4, Source { frames: 0, ..source() }, false);
+    source_refused(4, Source { fps: (0, 1), ..source() }, false);
+    source_refused(5, Source { creation_time: Some("1900-02-29T00:00:00Z".into()), ..source() }, false);
+    source_refused(6, Source { clock: Some(Clock { rate: (1, 0), modulus: None }), ..source() }, false);
+    source_refused(6, Source { clock: Some(Clock { rate: (1, 1), modulus: Some(0) }), ..source() }, false);
+    source_refused(7, source(), true);
+}
+
+#[test]
+fn segments() {
+    segment_refused(9, |s| s.source = 1);
+    segment_refused(10, |s| s.frame_count = 0);
+    segment_refused(11, |s| s.src_first_frame = u64::MAX);
+    segment_refused(12, |s| s.src_first_frame = 91);
+    segment_refused(13, |s| s.src_capture_start_us = -1);
+    segment_refused(14, |s| s.src_start_us = i64::MAX);
+    segment_refused(14, |s| s.duration_us = i64::MAX);
+    segment_refused(15, |s| s.out_first_frame = 11);
+    segment_refused(16, |s| s.out_start_us = 400_001);
+    segment_refused(16, |s| s.out_capture_start_us = 0);
+    segment_refused(17, |s| s.clock_shift = Some(0));
+    assert!(Table::new(&[source()], &[segment(), second(|_| ())], false).is_ok());
+}
+
+#[test]
+fn numbers() {
+    refused(20, 0, ticks_to_us(0, 1 << 32));
+    refused(23, 0, ticks_to_us(0, 0));
+    refused(23, 0, ticks_to_us(i64::MAX, 1));
+}
+
+#[test]
+fn boxes() {
+    let large = vec![0; 16_777_217];
+    refused(30, 0, box_size(&large, 8));
+    refused(30, 0, child(&large, *b"moov"));
+    refused(30, 0, find_box(&large, 0..0, *b"moov", true));
+    refused(30, 0, table_text(&large));
+    refused(31, 0, box_size(b"\0\0\0", 3));
+    refused(31, 0, child(b"", *b"moov"));
+    refused(31, 0, find_box(b"", 0..0, *b"moov", false));
+    refused(42, 0, find_box(b"", 0..1, *b"moov", false));
+    #[allow(clippy::reversed_empty_ranges)]
+    let reversed = 1..0;
+    refused(42, 0, find_box(b"", reversed, *b"moov", false));
+    refused(40, 0, table_text(b""));
+    refused(41, 0, table_text(b"\0\0\0\x20moov\0\0\0\x18udta\0\0\0\x08MTRM\0\0\0\x08MTRM"));
+}
+
+#[test]
+fn recordings() {
+    refused(30, 0, mcraw_times(&vec![0; 16_777_217]));
+    refused(31, 0, mcraw_times(&[1]));
+    refused(31, 0, mcraw_times(&[1, 1]));
+    refused(33, 0, mcraw_times(&[i64::MIN, i64::MAX]));
+    refused(34, 2, mcraw_times(&[1, 2, 1]));
+}
+
+#[test]
+fn maps() {
+    let row = |source_first, count, out_first| Row { source: 0, source_first, count, out_first, shift: None };
+    let map = FrameMap::new(&[row(0, 5, 0), row(9, 5, 5)]).unwrap();
+    #[allow(clippy::reversed_empty_ranges)]
+    let reversed = 3..2;
+    refused(50, 0, map.cut(reversed));
+    refused(50, 0, map.cut(0..11));
+    refused(51, 0, FrameMap::new(&[]));
+    refused(51, 1, FrameMap::new(&[row(0, 5, 0), row(0, 5, 6)]));
+    refused(51, 0, FrameMap::from_words(vec![0; 4], vec![0]));
+    let many: Vec<Row> = (0..1025).map(|k| row(0, 1, k)).collect();
+    refused(52, 0, FrameMap::new(&many));
+    refused(52, 0, FrameMap::new(&many[..1024]).unwrap().join(&map));
+    let full = FrameMap::new(&[row(0, u64::MAX, 0)]).unwrap();
+    refused(53, 0, full.join(&map));
+    refused(54, 0, map.origin(10));
+}

@@ -1,0 +1,45 @@
+-- The numbers, by computation. Assumes nothing.
+use Prim.Native.Nat.{ℕ, _*_}
+use mathlib.Core.List.{List}
+use mathlib.Core.Path.{_≡_, refl, _∙_, ap, ap₂}
+use lib.IntN.{ℤ}
+use lib.ListN.{take, length}
+use Rattle.choice.specs.Choice.{when, past}
+use Rattle.choice.specs.Records.{run, any, firstRefused, orRefused}
+use Rattle.slices.specs.Slices.{All, laid}
+use Rattle.rows.specs.declared.Row.{Row}
+use Rattle.rows.specs.Lent.{rows}
+use Rattle.utc.specs.Utc.{two, days, utcBytes, utcSecond}
+use Rattle.ticks.specs.Ticks.{microsOf, usOf, ticksToUs, endsNear, mediaTicks}
+use Rattle.signed.specs.Signed.{ofBits}
+use Rattle.order.specs.Order.{insert, sorted, countBy, firstOf, mode}
+use Rattle.boxes.specs.Boxes.{fittingIn, sizeOf, headerAt, boxesFrom, boxesAt, firstSuch}
+use Rattle.boxes.specs.Tracks.{isVideo, isVideoTrack}
+use Rattle.tracks.specs.Tables.{scaleOf, rowsOf as tableRows, optionalRows, entriesFrom, total as entriesTotal, perFrame}
+use Rattle.tracks.specs.Edits.{lineAt, keptLine, twoLines, linesOf, elstOf, editOf}
+use Rattle.frame_times.specs.Frames.{framesFrom, kept, lastOf}
+use Rattle.frame_times.specs.Times.{placed, shown, ofKept, ofTables, ofMedia, ofTrack, timesOf as moovTimes}
+use Rattle.rules.specs.Records.{noSource, noSegment, total}
+use Rattle.rules.specs.Rules.{badSource, badSegment, malformed, sourceRefusal, timesOf as stampTimes, judged, segmentRefusal, start, endsOf, ends, segmentsFrom, frontRefusal, refusal, answered, checkOf}
+use Rattle.rules.specs.Lookups.{count, ended, found, segmentOfFrame, segmentOfTime}
+use Rattle.table.specs.Layout.{sourcesOf, segmentsOf, tableOf}
+use Rattle.table.specs.Rows.{rowOf, rowsOf, rowsRefusal, filled, after}
+use Rattle.judge.specs.Video.{shownBy}
+use Rattle.judge.specs.Judge.{startsAt, startRefusal, videoRefusal, validateOf}
+use Rattle.maps.specs.Answers.{firstBad, mapRefusal, roomRefusal, cutRefusal, joinRefusal, mergeRefusal, originRefusal}
+use Rattle.mcraw.specs.declared.Times.{Times}
+use Rattle.mcraw.specs.Mcraw.{gaps, startsOf, span, nominal, end, fallOf, refusalOf, timesUnless, timesOf, written, Answered}
+use Rattle.audit.specs.Examples.{Holds, examples}
+
+-- what was written over room for k rows
+wrote : (k : ℕ) {w ou : List ℕ} {z os : List ℤ} (are : List Row) → ou ≡ w → os ≡ z → rows (take (5 * k) w) (take k z) ≡ are → rows (take (5 * k) ou) (take k os) ≡ are
+wrote k are p q e = ap₂ (λ (x : List ℕ) (y : List ℤ). rows (take (5 * k) x) (take k y)) p q ∙ e
+
+-- where a recording's frames start
+started : {ts starts work starts′ work′ : List ℤ} {r : Times} → Answered ts starts work r starts′ work′
+    → starts′ ≡ laid (written (timesOf ts (length starts) (length work)) ts) starts
+started {ts} {starts} p = p .laid-out ∙ ap (λ (x : Times). laid (written x ts) starts) (p .answer)
+
+pub all-hold : All Holds examples
+unfolding when past run any firstRefused orRefused two days utcBytes utcSecond microsOf usOf ticksToUs endsNear startsAt startRefusal videoRefusal validateOf shownBy mediaTicks ofBits insert sorted countBy firstOf mode fittingIn sizeOf headerAt boxesFrom boxesAt firstSuch isVideo isVideoTrack scaleOf tableRows optionalRows entriesFrom entriesTotal perFrame lineAt keptLine twoLines linesOf elstOf editOf framesFrom kept lastOf placed shown ofKept ofTables ofMedia ofTrack moovTimes noSource noSegment total badSource badSegment malformed sourceRefusal stampTimes judged segmentRefusal start endsOf ends segmentsFrom frontRefusal refusal answered checkOf count ended found segmentOfFrame segmentOfTime sourcesOf segmentsOf tableOf rowOf rowsOf rowsRefusal filled after firstBad mapRefusal roomRefusal cutRefusal joinRefusal mergeRefusal originRefusal gaps startsOf span nominal end fallOf refusalOf timesUnless timesOf written
+all-hold = (λ r p. p, (λ r p. p, (λ r p. p, (λ r p. p, (λ r p. p, (λ r p. p, (λ r p. p, (λ r p. p, (λ r p. p, (λ r p. p, (λ r p. p, (λ r p. p, (λ r p. p, (λ r p. p, (λ r p. p, (λ r p. p, (λ r p. p, (λ r p. p, (λ r ou os p. (p .answer, wrote 2 _ (p .words) (p .shifts) refl), (λ r ou os p. (p .answer, wrote 2 _ (p .words) (p .shifts) refl), (λ r ou os p. (p .answer, wrote 2 _ (p .words) (p .shifts) refl), (λ r ou os p. (p .answer, wrote 2 _ (p .words) (p .shifts) refl), (λ r starts′ a′ b′ p. (p .answer, p .starts), (λ r starts′ a′ b′ p. (p .answer, p .starts), (λ r starts′ a′ b′ p. (p .answer, p .starts), (λ r starts′ a′ b′ p. (p .answer, p .starts), (λ r starts′ work′ p. (p .answer, started p), (λ r p. p, (λ r p. p, (λ r ou os p. (p .answer, wrote 3 _ (p .words) (p .shifts) refl), (λ r ou os p. (p .answer, wrote 3 _ (p .words) (p .shifts) refl), (λ r ou os p. (p .answer, wrote 3 _ (p .words) (p .shifts) refl), (λ r ou os p. (p .answer, wrote 3 _ (p .words) (p .shifts) refl), (λ r p. p, (λ r p. p, (λ r p. p, (λ r ou os p. (p .answer, wrote 2 _ (p .words) (p .shifts) refl), (λ r ou os p. (p .answer, wrote 2 _ (p .words) (p .shifts) refl), (λ r ou os p. (p .answer, wrote 4 _ (p .words) (p .shifts) refl), (λ r ou os p. (p .answer, wrote 3 _ (p .words) (p .shifts) refl), (λ r ou os p. (p .answer, wrote 2 _ (p .words) (p .shifts) refl), (λ r ou os p. (p .answer, wrote 1 _ (p .words) (p .shifts) refl), (λ r ou os p. (p .answer, wrote 2 _ (p .words) (p .shifts) refl), (λ r ou os p. (p .answer, wrote 2 _ (p .words) (p .shifts) refl), tt))))))))))))))))))))))))))))))))))))))))))))

@@ -1,0 +1,169 @@
+-- WHAT IS CLAIMED OF THE PUBLIC CALLS. `audited`, in proofs/Audited.antt, proves every line; nothing else of proofs/ need be read. A call's name with a capital
+-- (`Check`, `Cut`, `Origin`) is its promise, quoted from the source by Calls.antt, in plain lists: the call with these arguments may answer so and leave the lent
+-- slices so. What holds of all such answers holds of every run, since the check proves that a run keeps its promise.
+use Prim.Native.Nat.{ℕ, _+_, _-_, _*_, _≤_, _<_}
+use mathlib.Core.Bool.{Bool, true}
+use mathlib.Core.List.{List}
+use mathlib.Core.Logic.{_↔_}
+use mathlib.Core.Path.{_≡_}
+use lib.IntN.{ℤ}
+use lib.ListN.{length, take}
+use denote.Ref.{RefT, now}
+use Rattle.slices.specs.Slices.{All}
+use Rattle.utc.specs.Utc.{utcSecond}
+use Rattle.ticks.specs.declared.Us.{Us}
+use Rattle.ticks.specs.Ticks.{ticksToUs}
+use Rattle.rows.specs.declared.Row.{Row}
+use Rattle.rows.specs.Rows.{total}
+use Rattle.rows.specs.Demands.{Tiles}
+use Rattle.rules.specs.declared.Checked.{Checked}
+use Rattle.rules.specs.declared.Checked.the-variants.{Frames, Refused}
+use Rattle.rules.specs.declared.Found.{Found}
+use Rattle.rules.specs.declared.Found.the-variants.{Index}
+use Rattle.rules.specs.declared.Continued.{Continued}
+use Rattle.rules.specs.Records.{segment}
+use Rattle.rules.specs.Records as records
+use Rattle.rules.specs.Rules.{checkOf}
+use Rattle.rules.specs.Paper.{tests, First, None}
+use Rattle.rules.specs.Lookups.{segmentOfFrame, segmentOfTime, continuesAt}
+use Rattle.table.specs.declared.Filled.{Filled}
+use Rattle.table.specs.declared.Filled.the-variants.{Rows}
+use Rattle.table.specs.Answers.{Uneven}
+use Rattle.table.specs.Same.{AbsentIgnored}
+use Rattle.table.specs.Rows.{rowOf, rowsOf, Rowed}
+use Rattle.judge.specs.declared.Video.{Video}
+use Rattle.judge.specs.Video.{shownBy}
+use Rattle.judge.specs.Judge.{validateOf, Settled}
+use Rattle.judge.specs.Means.{Fits, Recorded}
+use Rattle.maps.specs.declared.Mapped.{Mapped}
+use Rattle.maps.specs.declared.Mapped.the-variants as mapped
+use Rattle.maps.specs.declared.Traced.{Traced}
+use Rattle.maps.specs.declared.Traced.the-variants as traced
+use Rattle.maps.specs.Answers as maps
+use Rattle.maps.specs.Laws as laws
+use Rattle.boxes.specs.declared.Sized.{Sized}
+use Rattle.boxes.specs.declared.Place.{Place}
+use Rattle.boxes.specs.Boxes.{boxSize}
+use Rattle.boxes.specs.Places.{PartAt, childPlace, findBoxPlace, tableTextPlace}
+use Rattle.frame_times.specs.declared.FrameTimes.{FrameTimes}
+use Rattle.frame_times.specs.Times as frames
+use Rattle.mcraw.specs.declared.Times.{Times}
+use Rattle.mcraw.specs.Mcraw.{Answered}
+use Rattle.audit.specs.Promise.{OneAnswer, OnePart}
+use Rattle.audit.specs.Calls as calls
+use Rattle.audit.specs.Words.{Lent, table, Check, SegmentOfFrame, SegmentOfTimeUs, Continues, RowsOfTable, Validate, CheckMcraw, written}
+use Rattle.audit.specs.Examples.{Holds, examples}
+
+-- 1 and 2. ONE ANSWER. No public call has a `requires`; and whatever its arguments, exactly one result, with exactly one content of each lent slice, meets its
+-- promise. (Document 01, 'The strength asked': each promise determines the answer and every lent slice, for all inputs.)
+pub record Answers : Type 0 where
+  pub ticks-to-us : OneAnswer calls.ticks-to-us
+  pub is-utc-second : OneAnswer calls.is-utc-second
+  pub check : OneAnswer calls.check
+  pub segment-of-frame : OneAnswer calls.segment-of-frame
+  pub segment-of-time-us : OneAnswer calls.segment-of-time-us
+  pub continues : OneAnswer calls.continues
+  pub rows-of-table : OneAnswer calls.rows-of-table
+  pub validate : OneAnswer calls.validate
+  pub check-mcraw : OneAnswer calls.check-mcraw
+  pub box-size : OneAnswer calls.box-size
+  pub child-place : OneAnswer calls.child-place
+  pub find-box-place : OneAnswer calls.find-box-place
+  pub table-text-place : OneAnswer calls.table-text-place
+  pub video-frame-times-of-moov : OneAnswer calls.video-frame-times-of-moov
+  pub mcraw-times : OneAnswer calls.mcraw-times
+  pub cut : OneAnswer calls.cut
+  pub join : OneAnswer calls.join
+  pub merge : OneAnswer calls.merge
+  pub origin : OneAnswer calls.origin
+  -- The exception: a returned part is fixed in its bytes and its address, and not in the name that proofs give a reference.
+  pub child : OnePart calls.child (λ κs r. r)
+  pub find-box : OnePart calls.find-box (λ κs r. r)
+  pub table-text : OnePart calls.table-text (λ κs r. r)
+
+-- what `origin` answers of frame f, where it lies in row r
+abbrev pub told : Row → ℕ → Traced
+told r f = traced.From (r .source) (r .first + (f - r .out)) (r .flag) (r .shift)
+
+-- 3. AN ACCEPTED TABLE'S ROWS TILE ITS FRAMES, AND EACH FRAME HAS ONE ORIGIN. (Demand 3, and the auditor's first two questions.)
+pub record Origins : Type 0 where
+  -- The rows of an accepted table are written wherever there is room for one a segment.
+  pub written-out : (l : Lent) (N : ℕ) (ou ou′ : List ℕ) (os os′ : List ℤ) (r : Filled)
+      → Check l (Frames N) → 5 * length (table l .segments) ≤ length ou → length (table l .segments) ≤ length os
+      → RowsOfTable l ou os r ou′ os′ → r ≡ Rows (length (table l .segments))
+  -- They are one row a segment, and tile the frames 0..N: each begins where the one before it ends, has frames, and together they have N.
+  pub tiles : (l : Lent) (N k : ℕ) (ou ou′ : List ℕ) (os os′ : List ℤ)
+      → Check l (Frames N) → RowsOfTable l ou os (Rows k) ou′ os′
+      → (written k ou′ os′ ≡ rowsOf (table l)) × Tiles 0 (written k ou′ os′) × (total (written k ou′ os′) ≡ N)
+  -- Each frame below N lies in one row and no other, of which `origin` answers source, source frame, flag and shift; any other frame is 54.
+  pub one : (l : Lent) (N k f : ℕ) (ou ou′ : List ℕ) (os os′ : List ℤ) (r : Traced)
+      → Check l (Frames N) → RowsOfTable l ou os (Rows k) ou′ os′ → calls.Origin (take (5 * k) ou′) (take k os′) f r
+      → (f < N → laws.Found (take (5 * k) ou′) (take k os′) f r) × (N ≤ f → r ≡ traced.Refused 54 0)
+  -- It is the frame of the segment that `segment_of_frame` answers: its source, and as many frames after its first source frame as f is after its first output frame.
+  pub agree : (l : Lent) (N k f i : ℕ) (ou ou′ : List ℕ) (os os′ : List ℤ) (r : Traced)
+      → Check l (Frames N) → RowsOfTable l ou os (Rows k) ou′ os′ → f < N → SegmentOfFrame l f (Index i) → calls.Origin (take (5 * k) ou′) (take k os′) f r
+      → (i < length (table l .segments)) × (r ≡ told (rowOf (segment (table l) i)) f)
+  -- THE AUDITOR'S QUESTION: a table's rows, cut a..b, and that cut c..d. Behind frame f of it lies the frame that the table's segment of frame a + (c + f) gives.
+  pub twice : (l : Lent) (N k m n a b c d f i : ℕ) (ou ou′ pu pu′ qu qu′ : List ℕ) (os os′ ps ps′ qs qs′ : List ℤ) (r : Traced)
+      → Check l (Frames N) → RowsOfTable l ou os (Rows k) ou′ os′
+      → calls.Cut (take (5 * k) ou′) (take k os′) a b pu ps (mapped.Rows m) pu′ ps′
+      → calls.Cut (take (5 * m) pu′) (take m ps′) c d qu qs (mapped.Rows n) qu′ qs′
+      → f < d - c → SegmentOfFrame l (a + (c + f)) (Index i) → calls.Origin (take (5 * n) qu′) (take n qs′) f r
+      → (i < length (table l .segments)) × (r ≡ told (rowOf (segment (table l) i)) (a + (c + f)))
+
+-- 5. A REFUSAL IS RIGHT. Whatever is lent, `check` refuses with n at i exactly when the paper's condition n holds there and none that is tested before it does, and
+-- accepts with N exactly when none holds and the segments have N frames. (The auditor's third question; rules/specs/Paper.antt has document 01's table.)
+pub record Refusals : Type 0 where
+  pub refuses : (l : Lent) (r : Checked) → Check l r → (n i : ℕ) → (r ≡ Refused n i) ↔ First (tests (table l)) n i
+  pub accepts : (l : Lent) (r : Checked) → Check l r → (N : ℕ) → (r ≡ Frames N) ↔ (None (tests (table l)) × (N ≡ records.total (table l .segments)))
+  -- Of condition 1, what `uneven` is of the lent words: a length that is no multiple of its record's, or segment slices that disagree.
+  pub uneven : (l : Lent) → (table l .uneven ≡ true) ↔ Uneven (length (l .sources)) (length (l .words)) (length (l .stamps))
+
+-- A TABLE IS ACCEPTED FOR A VIDEO, OR A RECORDING, exactly when it fits it: no refusal of 1 to 17, rows that cover the video's frames, each start the time of its
+-- first frame, and an end that is near. (Demand 2; judge/specs/Means.antt has it in document 01's words.)
+pub record Acceptances : Type 0 where
+  pub video : (l : Lent) (v : Video) (starts : List ℤ) (r : Checked) → Validate l v starts r → (N : ℕ) → (r ≡ Frames N) ↔ Fits (table l) (shownBy v starts) N
+  pub recording : (l : Lent) (ts a b a′ b′ : List ℤ) (r : Checked) → CheckMcraw l ts a b r a′ b′ → (N : ℕ) → (r ≡ Frames N) ↔ Recorded (table l) ts (length a) (length b) N
+
+-- 6. WHAT EACH ANSWER IS: the promise is this equation with the definition of document 01, no more and no less. Sizes and boxes are those of ISO/IEC 14496-12
+-- (boxes/specs/Boxes.antt), the times are the paper's. (Demand 2.)
+pub record Meanings : Type 0 where
+  pub ticks-to-us : (t : ℤ) (scale : ℕ) (r : Us) → calls.TicksToUs t scale r ↔ (r ≡ ticksToUs t scale)
+  pub is-utc-second : (b : List ℕ) (r : Bool) → calls.IsUtcSecond b r ↔ (r ≡ utcSecond b)
+  pub check : (l : Lent) (r : Checked) → Check l r ↔ (r ≡ checkOf (table l))
+  pub segment-of-frame : (l : Lent) (f : ℕ) (r : Found) → SegmentOfFrame l f r ↔ (r ≡ segmentOfFrame (table l) f)
+  pub segment-of-time-us : (l : Lent) (t : ℤ) (r : Found) → SegmentOfTimeUs l t r ↔ (r ≡ segmentOfTime (table l) t)
+  pub continues : (l : Lent) (k : ℕ) (r : Continued) → Continues l k r ↔ (r ≡ continuesAt (table l) k)
+  pub rows-of-table : (l : Lent) (ou ou′ : List ℕ) (os os′ : List ℤ) (r : Filled) → RowsOfTable l ou os r ou′ os′ ↔ Rowed (table l) ou os r ou′ os′
+  pub validate : (l : Lent) (video : Video) (starts : List ℤ) (r : Checked) → Validate l video starts r ↔ (r ≡ validateOf (table l) (shownBy video starts))
+  pub check-mcraw : (l : Lent) (ts a b a′ b′ : List ℤ) (r : Checked) → CheckMcraw l ts a b r a′ b′ ↔ Settled (table l) ts a b r a′ b′
+  pub box-size : (b : List ℕ) (remaining : ℕ) (r : Sized) → calls.BoxSize b remaining r ↔ (r ≡ boxSize b remaining)
+  pub child-place : (b : List ℕ) (kind : ℕ) (r : Place) → calls.ChildPlace b kind r ↔ (r ≡ childPlace b kind)
+  pub child : (b : RefT (List ℕ)) (kind : ℕ) (r : RefT (List ℕ)) → calls.Child b kind r ↔ PartAt b (childPlace (now b) kind) r
+  pub find-box-place : (b : List ℕ) (start end kind : ℕ) (text : Bool) (r : Place) → calls.FindBoxPlace b start end kind text r ↔ (r ≡ findBoxPlace b start end kind text)
+  pub find-box : (b : RefT (List ℕ)) (start end kind : ℕ) (text : Bool) (r : RefT (List ℕ)) → calls.FindBox b start end kind text r ↔ PartAt b (findBoxPlace (now b) start end kind text) r
+  pub table-text-place : (b : List ℕ) (r : Place) → calls.TableTextPlace b r ↔ (r ≡ tableTextPlace b)
+  pub table-text : (b : RefT (List ℕ)) (r : RefT (List ℕ)) → calls.TableText b r ↔ PartAt b (tableTextPlace (now b)) r
+  pub video-frame-times-of-moov : (moov : List ℕ) (starts a b starts′ a′ b′ : List ℤ) (r : FrameTimes)
+      → calls.VideoFrameTimesOfMoov moov starts a b r starts′ a′ b′ ↔ frames.Answers moov starts a b r starts′ a′ b′
+  pub mcraw-times : (ts starts work starts′ work′ : List ℤ) (r : Times) → calls.McrawTimes ts starts work r starts′ work′ ↔ Answered ts starts work r starts′ work′
+  pub cut : (u : List ℕ) (s : List ℤ) (a b : ℕ) (ou ou′ : List ℕ) (os os′ : List ℤ) (r : Mapped) → calls.Cut u s a b ou os r ou′ os′ ↔ maps.Cut u s a b ou os r ou′ os′
+  pub join : (u v : List ℕ) (s t : List ℤ) (ou ou′ : List ℕ) (os os′ : List ℤ) (r : Mapped) → calls.Join u s v t ou os r ou′ os′ ↔ maps.Join u s v t ou os r ou′ os′
+  pub merge : (u : List ℕ) (s : List ℤ) (ou ou′ : List ℕ) (os os′ : List ℤ) (r : Mapped) → calls.Merge u s ou os r ou′ os′ ↔ maps.Merge u s ou os r ou′ os′
+  pub origin : (u : List ℕ) (s : List ℤ) (f : ℕ) (r : Traced) → calls.Origin u s f r ↔ maps.Trace u s f r
+
+pub record Claims : Type 0 where
+  pub answers : Answers
+  pub origins : Origins
+  -- 4. THE LAWS OF CUT, JOIN AND MERGE, of the calls: what is written is a map again; a cut keeps each frame's origin; a cut of a cut is the one cut of the combined
+  -- range; a join has both maps' origins; merging keeps origins, twice is once, and two maps merge alike exactly when all origins agree; neighbouring cuts joined
+  -- and merged are the merged cut of the whole, where they have up to 1,024 rows. (Demand 3; maps/specs/Laws.antt, whose `Cut`, `Join`, `Merge` and `Trace` are
+  -- the calls' promises by `meanings`.)
+  pub laws : laws.Laws
+  pub refusals : Refusals
+  pub acceptances : Acceptances
+  pub meanings : Meanings
+  -- Words of an absent thing (creation time, clock, modulus, shift) are ignored: tables that differ only in them get the same answers from every call.
+  pub ignored : AbsentIgnored
+  -- 7. THE STARRED NUMBERS of document 01, and the auditor's clip.
+  pub worked : All Holds examples

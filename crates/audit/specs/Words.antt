@@ -1,0 +1,55 @@
+-- A table as it is lent, the calls on it, and the rows that a call wrote: plain words for Claims and Examples.
+use Prim.Native.Nat.{ℕ, _*_}
+use mathlib.Core.Bool.{Bool}
+use mathlib.Core.List.{List}
+use lib.IntN.{ℤ}
+use lib.ListN.{take}
+use Rattle.rows.specs.declared.Row.{Row}
+use Rattle.rows.specs.Lent.{rows}
+use Rattle.rules.specs.declared.Checked.{Checked}
+use Rattle.rules.specs.declared.Found.{Found}
+use Rattle.rules.specs.declared.Continued.{Continued}
+use Rattle.rules.specs.Records.{Table}
+use Rattle.table.specs.declared.Filled.{Filled}
+use Rattle.table.specs.Layout.{tableOf}
+use Rattle.judge.specs.declared.Video.{Video}
+use Rattle.audit.specs.Calls as calls
+
+-- a table as it is lent: the words of its sources, the unsigned and the signed words of its segments, whether it names a log, and the text of its creation times
+pub record Lent : Type 0 where
+  pub sources : List ℕ
+  pub words : List ℕ
+  pub stamps : List ℤ
+  pub log : Bool
+  pub text : List ℕ
+
+-- the sources and segments that these words hold
+abbrev pub table : Lent → Table
+table l = tableOf (l .sources) (l .words) (l .stamps) (l .log) (l .text)
+
+-- check, segment_of_frame, segment_of_time_us and continues of that table answer r; rows_of_table answers r and leaves ou′ and os′
+abbrev pub Check : Lent → Checked → Type 0
+Check l r = calls.Check (l .sources) (l .words) (l .stamps) (l .log) (l .text) r
+
+abbrev pub SegmentOfFrame : Lent → ℕ → Found → Type 0
+SegmentOfFrame l frame r = calls.SegmentOfFrame (l .sources) (l .words) (l .stamps) (l .log) (l .text) frame r
+
+abbrev pub SegmentOfTimeUs : Lent → ℤ → Found → Type 0
+SegmentOfTimeUs l time r = calls.SegmentOfTimeUs (l .sources) (l .words) (l .stamps) (l .log) (l .text) time r
+
+abbrev pub Continues : Lent → ℕ → Continued → Type 0
+Continues l k r = calls.Continues (l .sources) (l .words) (l .stamps) (l .log) (l .text) k r
+
+abbrev pub RowsOfTable : Lent → List ℕ → List ℤ → Filled → List ℕ → List ℤ → Type 0
+RowsOfTable l ou os r ou′ os′ = calls.RowsOfTable (l .sources) (l .words) (l .stamps) (l .log) (l .text) ou os r ou′ os′
+
+-- validate of that table, of a video and the starts that are lent beside it, answers r; check_mcraw, of timestamps and two working slices, answers r and leaves a′ and b′
+abbrev pub Validate : Lent → Video → List ℤ → Checked → Type 0
+Validate l video starts r = calls.Validate (l .sources) (l .words) (l .stamps) (l .log) (l .text) video starts r
+
+abbrev pub CheckMcraw : Lent → List ℤ → List ℤ → List ℤ → Checked → List ℤ → List ℤ → Type 0
+CheckMcraw l timestamps a b r a′ b′ = calls.CheckMcraw (l .sources) (l .words) (l .stamps) (l .log) (l .text) timestamps a b r a′ b′
+
+-- the map of k rows that a call wrote over ou and os
+abbrev pub written : ℕ → List ℕ → List ℤ → List Row
+written k ou os = rows (take (5 * k) ou) (take k os)

@@ -1,0 +1,80 @@
+-- Words of the contracts inside this crate: what is known after some records, and what is answered after all.
+use Prim.Native.Nat.{ℕ, zero, suc, _+_, _-_, _%_, min}
+use mathlib.Core.Bool.{Bool, true, false, not, _||_, cond}
+use mathlib.Core.List.{List}
+use lib.Dec.{leb, ltb, eqb}
+use lib.ListN.{length, getD}
+use lib.IntN.{pos}
+use Rattle.choice.specs.declared.Refusal.{Refusal}
+use Rattle.choice.specs.declared.Refusal.the-variants.{Never, At}
+use Rattle.choice.specs.Choice.{if_then_else_}
+use Rattle.choice.specs.Records.{any}
+use Rattle.rules.specs.declared.Source.{Source}
+use Rattle.rules.specs.declared.Found.{Found}
+use Rattle.rules.specs.declared.Found.the-variants.{Index, NoIndex}
+use Rattle.rules.specs.declared.Turn.{Turn}
+use Rattle.rules.specs.declared.Turn.the-variants.{Stop, Go}
+use Rattle.rules.specs.Limits.{maxSegments}
+use Rattle.rules.specs.Rules.{start, badSource, frontRefusal}
+use Rattle.rules.specs.Steps.{turnOf}
+use Rattle.table.specs.Layout.{sourceWords, sourcesOf}
+use Rattle.records.specs.declared.TrimSegment.{TrimSegment}
+use Rattle.records.specs.declared.SoFar.{SoFar}
+use Rattle.records.specs.Records.{segmentOf}
+
+-- what stands past the end of a list of records, which no answer rests on
+unfoldable pub noRecord : TrimSegment
+noRecord = record {
+  source = 0;
+  «src_first_frame» = 0;
+  «frame_count» = 0;
+  «out_first_frame» = 0;
+  «src_start_us» = pos 0;
+  «out_start_us» = pos 0;
+  «duration_us» = pos 0;
+  «src_capture_start_us» = pos 0;
+  «out_capture_start_us» = pos 0;
+  «capture_duration_us» = pos 0;
+  «shift_present» = false;
+  «clock_shift» = pos 0;
+}
+
+abbrev pub recordAt : List TrimSegment → ℕ → TrimSegment
+recordAt rs k = getD rs k noRecord
+
+unfoldable pub begun : ℕ → SoFar
+begun frame = record { frame = frame; prev = start; ended = 0; n = 0; stopped = false; number = 0; at = 0 }
+
+-- one record more, by what its tests say
+unfoldable pub turnedOf : SoFar → Turn → SoFar
+turnedOf s (Stop number) = record { frame = s .frame; prev = s .prev; ended = s .ended; n = s .n + 1; stopped = true; number = number; at = s .n }
+turnedOf s (Go to) = record { frame = s .frame; prev = to; ended = cond (leb (to .frame) (s .frame)) (min (s .ended + 1) (s .n + 1)) (s .ended); n = s .n + 1; stopped = false; number = 0; at = 0 }
+
+-- one record more, which is only countedOf
+unfoldable pub countedOf : SoFar → SoFar
+countedOf s = record { frame = s .frame; prev = s .prev; ended = s .ended; n = s .n + 1; stopped = true; number = s .number; at = s .at }
+
+unfoldable pub nextOf : List Source → SoFar → TrimSegment → SoFar
+nextOf srcs s r =
+    if ltb maxSegments (s .n) then s
+    else if s .stopped then countedOf s
+    else turnedOf s (turnOf srcs (s .prev) (segmentOf r))
+
+-- after the first k records
+unfoldable pub after : List Source → ℕ → List TrimSegment → ℕ → SoFar
+after srcs frame rs zero = begun frame
+after srcs frame rs (suc k) = nextOf srcs (after srcs frame rs k) (recordAt rs k)
+
+-- 1, of sources that are lent as words
+abbrev pub badSources : List ℕ → List ℕ → Bool
+badSources sources text = not (eqb (length sources % sourceWords) 0) || any (badSource (length text)) (sourcesOf sources)
+
+-- 1 to 8 first, then the first record refused, then the segment
+unfoldable pub decided : Refusal → Bool → ℕ → ℕ → ℕ → ℕ → Found
+decided (At first i) stopped number at ended n = NoIndex first i
+decided Never true number at ended n = NoIndex number at
+decided Never false number at ended n = Index (min ended (n - 1))
+
+unfoldable pub answerOf : List ℕ → List ℕ → SoFar → Bool → Found
+answerOf sources text s log =
+    decided (frontRefusal log text (sourcesOf sources) (badSources sources text) (s .n)) (s .stopped) (s .number) (s .at) (s .ended) (s .n)

@@ -1,0 +1,49 @@
+-- What a C caller is told of a call that writes rows, and what the lent rows hold afterwards.
+use Prim.Native.Nat.{ℕ}
+use mathlib.Core.List.{List}
+use mathlib.Core.Path.{_≡_}
+use lib.IntN.{ℤ}
+use lib.ListN.{length}
+use Rattle.choice.specs.declared.Refusal.{Refusal}
+use Rattle.rows.specs.declared.Row.{Row}
+use Rattle.rows.specs.Rows.{origin, cut, join, merge}
+use Rattle.rows.specs.Lent.{rows, wordsOf, shiftsOf}
+use Rattle.rules.specs.Records.{Table}
+use Rattle.table.specs.Rows as table
+use Rattle.maps.specs.declared.Traced.{Traced}
+use Rattle.maps.specs.Answers.{cutRefusal, joinRefusal, mergeRefusal, originRefusal, answered, after, tracedOf}
+use Rattle.slices.specs.Slices.{laid, zeros}
+use Rattle.mcraw.specs.Mcraw.{timesOf, written}
+use Rattle.segment_table.specs.Told.{filledTold, mappedTold, timesTold}
+
+-- the rows of t were asked for: number, words, shifts, how many rows, index
+pub record RowedTold (t : Table) (ou : List ℕ) (os : List ℤ) (rows r : ℕ) (ou′ : List ℕ) (os′ : List ℤ) (rows′ index′ : ℕ) : Type 0 where
+  pub told : (r, rows′, index′) ≡ filledTold (table.filled (table.rowsRefusal t (length ou) (length os)) (length (t .segments))) rows
+  pub words : ou′ ≡ table.after (table.rowsRefusal t (length ou) (length os)) (wordsOf (table.rowsOf t)) ou
+  pub shifts : os′ ≡ table.after (table.rowsRefusal t (length ou) (length os)) (shiftsOf (table.rowsOf t)) os
+
+-- the rows m were asked for, or refused
+pub record MapTold (x : Refusal) (m : List Row) (ou : List ℕ) (os : List ℤ) (rows r : ℕ) (ou′ : List ℕ) (os′ : List ℤ) (rows′ index′ : ℕ) : Type 0 where
+  pub told : (r, rows′, index′) ≡ mappedTold (answered x m) rows
+  pub words : ou′ ≡ after x (wordsOf m) ou
+  pub shifts : os′ ≡ after x (shiftsOf m) os
+
+-- a cut, a join, a merge, by the library's promises `Cut`, `Join`, `Merge`
+abbrev pub CutTold : List ℕ → List ℤ → ℕ → ℕ → List ℕ → List ℤ → ℕ → ℕ → List ℕ → List ℤ → ℕ → ℕ → Type 0
+CutTold u s a b ou os = MapTold (cutRefusal u s a b (length ou) (length os)) (cut a b (rows u s)) ou os
+
+abbrev pub JoinTold : List ℕ → List ℤ → List ℕ → List ℤ → List ℕ → List ℤ → ℕ → ℕ → List ℕ → List ℤ → ℕ → ℕ → Type 0
+JoinTold u s v t ou os = MapTold (joinRefusal u s v t (length ou) (length os)) (join (rows u s) (rows v t)) ou os
+
+abbrev pub MergeTold : List ℕ → List ℤ → List ℕ → List ℤ → ℕ → ℕ → List ℕ → List ℤ → ℕ → ℕ → Type 0
+MergeTold u s ou os = MapTold (mergeRefusal u s (length ou) (length os)) (merge (rows u s)) ou os
+
+-- where frame k of a lent map comes from
+abbrev pub originOf : List ℕ → List ℤ → ℕ → Traced
+originOf u s k = tracedOf (originRefusal u s k) (origin (rows u s) k)
+
+-- a recording's frame times were asked for: number, starts, working slice, frame count, scale, nominal, end, index
+pub record McrawTold (ts starts work : List ℤ) (frames scale : ℕ) (nominal end : ℤ) (r : ℕ) (starts′ work′ : List ℤ) (frames′ scale′ : ℕ) (nominal′ end′ : ℤ) (index′ : ℕ) : Type 0 where
+  pub told : (r, frames′, scale′, nominal′, end′, index′) ≡ timesTold (timesOf ts (length starts) (length work)) frames scale nominal end
+  pub laid-out : starts′ ≡ laid (written (timesOf ts (length starts) (length work)) ts) starts
+  pub cleared : work′ ≡ zeros work

@@ -1,0 +1,58 @@
+// Frame times: of a MotionCam recording's timestamps.
+use mcraw::Times;
+ghost use mathlib.Core.Path.{_≡_};
+ghost use Rattle.segment_table.specs.Told.{timesTold};
+ghost use Rattle.segment_table.specs.Written.{McrawTold};
+
+// Tells frame count, scale, nominal and end.
+fn tell_times(
+    answer: Times,
+    frames: &mut u64,
+    scale: &mut u64,
+    nominal: &mut i64,
+    end: &mut i64,
+    index: &mut u64,
+) -> u64
+    ensures { λ r. ⌜ (r, now (frames .exit), now (scale .exit), now (nominal .exit), now (end .exit), now (index .exit)) ≡ timesTold answer (now (frames .entry)) (now (scale .entry)) (now (nominal .entry)) (now (end .entry)) ⌝ }
+{
+    match answer {
+        Times::Timed {
+            frames: f,
+            scale: s,
+            nominal: m,
+            end: e,
+        } => {
+            *frames = f as u64;
+            *scale = s;
+            *nominal = m;
+            *end = e;
+            *index = 0;
+            0
+        }
+        Times::Refused(number, i) => {
+            *index = i as u64;
+            number
+        }
+    }
+}
+
+// The frame times of a MotionCam recording, of its frames' timestamps in nanoseconds: how many, their scale
+// (1,000,000,000), the nominal interval and the end; the starts count from the first timestamp.
+// Lent: the timestamps, room for the starts, a working slice; both as long as the timestamps or longer.
+// Writes starts, work (all 0), frames, scale, nominal, end, index. Refuses: 30, 31, 34, 33, 32, 31, 33.
+#[no_mangle]
+pub extern "C" fn st_mcraw_times(
+    timestamps: &[i64],
+    starts: &mut [i64],
+    work: &mut [i64],
+    frames: &mut u64,
+    scale: &mut u64,
+    nominal: &mut i64,
+    end: &mut i64,
+    index: &mut u64,
+) -> u64
+    ensures { λ r. ⌜ McrawTold (now (timestamps .entry)) (now (starts .entry)) (now (work .entry)) (now (frames .entry)) (now (scale .entry)) (now (nominal .entry)) (now (end .entry)) r (now (starts .exit)) (now (work .exit)) (now (frames .exit)) (now (scale .exit)) (now (nominal .exit)) (now (end .exit)) (now (index .exit)) ⌝ }
+{
+    let times = mcraw::mcraw_times(timestamps, starts, work);
+    tell_times(times, frames, scale, nominal, end, index)
+}

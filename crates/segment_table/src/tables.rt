@@ -1,0 +1,178 @@
+// Tables: the check, both lookups, whether a segment continues the one before, the rows of its map.
+use rules::Checked;
+use rules::Continued;
+use rules::Found;
+use table::Filled;
+ghost use mathlib.Core.Path.{_≡_};
+ghost use Rattle.rules.specs.Rules.{checkOf};
+ghost use Rattle.rules.specs.Lookups.{segmentOfFrame, segmentOfTime, continuesAt};
+ghost use Rattle.table.specs.Layout.{tableOf};
+ghost use Rattle.segment_table.specs.Told.{checkedTold, foundTold, continuedTold, filledTold};
+ghost use Rattle.segment_table.specs.Written.{RowedTold};
+
+// Tells a frame total.
+pub(crate) fn tell_checked(answer: Checked, frames: &mut u64, index: &mut u64) -> u64
+    ensures { λ r. ⌜ (r, now (frames .exit), now (index .exit)) ≡ checkedTold answer (now (frames .entry)) ⌝ }
+{
+    match answer {
+        Checked::Frames(n) => {
+            *frames = n;
+            *index = 0;
+            0
+        }
+        Checked::Refused(number, i) => {
+            *index = i as u64;
+            number
+        }
+    }
+}
+
+// Tells a segment.
+fn tell_found(answer: Found, segment: &mut u64, index: &mut u64) -> u64
+    ensures { λ r. ⌜ (r, now (segment .exit), now (index .exit)) ≡ foundTold answer (now (segment .entry)) ⌝ }
+{
+    match answer {
+        Found::Index(k) => {
+            *segment = k as u64;
+            *index = 0;
+            0
+        }
+        Found::NoIndex(number, i) => {
+            *index = i as u64;
+            number
+        }
+    }
+}
+
+// Tells whether a segment continues the one before.
+fn tell_continued(answer: Continued, yes: &mut u64, index: &mut u64) -> u64
+    ensures { λ r. ⌜ (r, now (yes .exit), now (index .exit)) ≡ continuedTold answer (now (yes .entry)) ⌝ }
+{
+    match answer {
+        Continued::Answer(b) => {
+            *yes = b as u64;
+            *index = 0;
+            0
+        }
+        Continued::NoAnswer(number, i) => {
+            *index = i as u64;
+            number
+        }
+    }
+}
+
+// Tells how many rows were written.
+fn tell_filled(answer: Filled, rows: &mut u64, index: &mut u64) -> u64
+    ensures { λ r. ⌜ (r, now (rows .exit), now (index .exit)) ≡ filledTold answer (now (rows .entry)) ⌝ }
+{
+    match answer {
+        Filled::Rows(n) => {
+            *rows = n as u64;
+            *index = 0;
+            0
+        }
+        Filled::NoRows(number, i) => {
+            *index = i as u64;
+            number
+        }
+    }
+}
+
+// Checks a table: its frame total.
+// Lent: a table. Writes frames, index. Refuses: 1 to 17.
+#[no_mangle]
+pub extern "C" fn st_check(
+    sources: &[u64],
+    segments: &[u64],
+    times: &[i64],
+    log: bool,
+    text: &[u8],
+    frames: &mut u64,
+    index: &mut u64,
+) -> u64
+    ensures { λ r. ⌜ (r, now (frames .exit), now (index .exit)) ≡ checkedTold (checkOf (tableOf (now (sources .entry)) (now (segments .entry)) (now (times .entry)) log (now (text .entry)))) (now (frames .entry)) ⌝ }
+{
+    tell_checked(
+        table::check(sources, segments, times, log, text),
+        frames,
+        index,
+    )
+}
+
+// The segment of a frame: the number of segments that end at or before it, at most the last index.
+// Lent: a table. Writes segment, index. Refuses: 1 to 17.
+#[no_mangle]
+pub extern "C" fn st_segment_of_frame(
+    sources: &[u64],
+    segments: &[u64],
+    times: &[i64],
+    log: bool,
+    text: &[u8],
+    frame: u64,
+    segment: &mut u64,
+    index: &mut u64,
+) -> u64
+    ensures { λ r. ⌜ (r, now (segment .exit), now (index .exit)) ≡ foundTold (segmentOfFrame (tableOf (now (sources .entry)) (now (segments .entry)) (now (times .entry)) log (now (text .entry))) frame) (now (segment .entry)) ⌝ }
+{
+    let found = table::segment_of_frame(sources, segments, times, log, text, frame);
+    tell_found(found, segment, index)
+}
+
+// The segment of a time in microseconds: the number of segments that end at or before it, at most the last index.
+// Lent: a table. Writes segment, index. Refuses: 1 to 17.
+#[no_mangle]
+pub extern "C" fn st_segment_of_time_us(
+    sources: &[u64],
+    segments: &[u64],
+    times: &[i64],
+    log: bool,
+    text: &[u8],
+    time: i64,
+    segment: &mut u64,
+    index: &mut u64,
+) -> u64
+    ensures { λ r. ⌜ (r, now (segment .exit), now (index .exit)) ≡ foundTold (segmentOfTime (tableOf (now (sources .entry)) (now (segments .entry)) (now (times .entry)) log (now (text .entry))) time) (now (segment .entry)) ⌝ }
+{
+    let found = table::segment_of_time_us(sources, segments, times, log, text, time);
+    tell_found(found, segment, index)
+}
+
+// Whether a segment continues the one before it: the same source, source frames that run on, equal shift. Answers 1 or
+// 0, and 0 for the first segment and for one that isn't there.
+// Lent: a table. Writes answer, index. Refuses: 1 to 17.
+#[no_mangle]
+pub extern "C" fn st_continues(
+    sources: &[u64],
+    segments: &[u64],
+    times: &[i64],
+    log: bool,
+    text: &[u8],
+    segment: u64,
+    answer: &mut u64,
+    index: &mut u64,
+) -> u64
+    ensures { λ r. ⌜ (r, now (answer .exit), now (index .exit)) ≡ continuedTold (continuesAt (tableOf (now (sources .entry)) (now (segments .entry)) (now (times .entry)) log (now (text .entry))) segment) (now (answer .entry)) ⌝ }
+{
+    let continued = table::continues(sources, segments, times, log, text, segment as usize);
+    tell_continued(continued, answer, index)
+}
+
+// The map of an accepted table: one row a segment, an absent shift as 0.
+// Lent: a table, and room for the rows. Writes the rows, rows (how many), index. Refuses: 1 to 17, 32.
+#[no_mangle]
+pub extern "C" fn st_rows_of_table(
+    sources: &[u64],
+    segments: &[u64],
+    times: &[i64],
+    log: bool,
+    text: &[u8],
+    out_words: &mut [u64],
+    out_shifts: &mut [i64],
+    rows: &mut u64,
+    index: &mut u64,
+) -> u64
+    ensures { λ r. ⌜ RowedTold (tableOf (now (sources .entry)) (now (segments .entry)) (now (times .entry)) log (now (text .entry))) (now («out_words» .entry)) (now («out_shifts» .entry)) (now (rows .entry)) r (now («out_words» .exit)) (now («out_shifts» .exit)) (now (rows .exit)) (now (index .exit)) ⌝ }
+{
+    let filled = table::rows_of_table(sources, segments, times, log, text, out_words, out_shifts);
+    tell_filled(filled, rows, index)
+}

@@ -1,0 +1,197 @@
+/* segment_table: for every frame of a trimmed and joined recording, which camera original and which frame of it lies
+ * behind it. Each call is proved to answer what docs/ and its contract say, for everything that may be lent.
+ *
+ * Answers. A call that can refuse returns the refusal's number, and 0 where it accepts. It writes `index` always: the
+ * refusal's index, or 0. It writes the other words only where it accepts. Slices that it fills stay as lent on a refusal,
+ * and past an accepted answer's length; working slices hold 0 after every answer.
+ *
+ * Lending. A slice is a pointer and a length in elements; its pointer may be null only with length 0. A word is a pointer
+ * to one number, and is never null. What a call may write overlaps nothing else that it is lent. Pointers to numbers of
+ * 8 bytes are aligned; bytes may lie anywhere. A bool is 0 or 1. No call keeps a pointer or allocates memory.
+ *
+ * A table: `sources`, ten words each: frames; fps numerator, denominator; creation time present (0, 1), its offset and
+ * length in `text`; clock (0 none, 1 no modulus, 2 modulus), its rate's numerator, denominator, its modulus. `segments`,
+ * five words each: source, source first frame, frame count, out first frame, shift present (0, 1). `times`, seven words a
+ * segment: source start, out start, duration, source capture start, out capture start, capture duration (microseconds),
+ * shift. `log`: the table names a telemetry log. `text`: the creation times' bytes. Words of an absent thing are ignored.
+ *
+ * A map: `words`, five a row: source, source first frame, frame count, out first frame, shift present (0, 1); `shifts`,
+ * one a row, 0 where it is absent.
+ *
+ * Refusals. The index is the source in 4 to 7, the segment in 9 to 17, 23 and 24, the later timestamp of the first falling
+ * pair in 34, the row in 51, else 0.
+ *  1 a slice length isn't a multiple of its record, the two segment slices disagree, a flag or kind is outside its set,
+ *    or a present creation time's range leaves the text
+ *  2 over 64 sources or 512 segments
+ *  3 no sources
+ *  4 source: frames, or either fps number, is 0
+ *  5 source: its creation time fails the UTC rule
+ *  6 source: its clock rate has a 0, or its modulus is 0
+ *  7 source: a log is named and it has no clock
+ *  8 no segments
+ *  9 segment: no such source
+ * 10 segment: frame count 0
+ * 11 segment: out or source first frame plus count passes 2^64 - 1
+ * 12 segment: source end past the source's frames
+ * 13 segment: any of the six times negative
+ * 14 segment: a start plus its duration passes 2^63 - 1
+ * 15 segment: out first frame isn't the end before (0 for the first)
+ * 16 segment: out start or out capture start isn't the end before; the first is free
+ * 17 segment: shift without clock, clock without shift, or a modulus with shift outside 0..modulus
+ * 20 a rate number or timescale over 4,294,967,295, or over 16,777,216 starts
+ * 21 no video given
+ * 22 last out end isn't the video's frame count
+ * 23 a segment's frame time can't be had: scale 0, or outside 64 bits
+ * 24 a segment's frame time differs from out start
+ * 25 the end isn't near
+ * 30 over 16,777,216 bytes or timestamps
+ * 31 there is none: no such box, or no frame times to be had
+ * 32 lent room too small
+ * 33 a start, span or end outside 64 bits
+ * 34 timestamps not ascending (equal neighbours are allowed)
+ * 35 recording without frames
+ * 40 no MTRM box
+ * 41 more than one MTRM box
+ * 42 a search range outside the bytes, or starting past its end
+ * 50 cut range: a >= b, or b past the map
+ * 51 map rows malformed, slice lengths that disagree, or no rows
+ * 52 over 1,024 rows in or out, or lent room too small
+ * 53 joined frames pass 2^64 - 1
+ * 54 frame past the map */
+#ifndef SEGMENT_TABLE_H
+#define SEGMENT_TABLE_H
+
+#include <stdbool.h>
+#include <stddef.h>
+#include <stdint.h>
+
+#ifdef __cplusplus
+extern "C" {
+#endif
+
+/* ---- Times: the UTC rule, and ticks in microseconds. */
+
+/* Whether bytes are a creation time by the UTC rule: 20 bytes, YYYY-MM-DDTHH:MM:SSZ.
+ * Lent: the bytes. Writes nothing, refuses nothing.
+ * A null pointer only with length 0. */
+bool st_is_utc_second(const uint8_t *bytes, size_t bytes_len);
+
+/* Ticks of a scale in microseconds, to the nearest whole number; halves go away from zero.
+ * Lent: nothing. Writes us. Refuses: 20, 23. */
+uint64_t st_ticks_to_us(int64_t ticks, uint64_t scale, int64_t *us);
+
+/* ---- Maps: cut, join, merge, and the origin of a frame. */
+
+/* The frames a..b of a map as a map: each row's overlap, counted from a.
+ * Lent: a map, and room for the rows. Writes the rows, rows (how many), index. Refuses: 51, 52, 50, 52.
+ * A null pointer only with length 0. */
+uint64_t st_cut(const uint64_t *words, size_t words_len, const int64_t *shifts, size_t shifts_len, uint64_t a,
+                uint64_t b, uint64_t *out_words, size_t out_words_len, int64_t *out_shifts,
+                size_t out_shifts_len, uint64_t *rows, uint64_t *index);
+
+/* Two maps as one, the second after the first.
+ * Lent: two maps, and room for the rows. Writes the rows, rows (how many), index. Refuses: 51, 52, 53, 52.
+ * A null pointer only with length 0. */
+uint64_t st_join(const uint64_t *words, size_t words_len, const int64_t *shifts, size_t shifts_len,
+                 const uint64_t *second_words, size_t second_words_len, const int64_t *second_shifts,
+                 size_t second_shifts_len, uint64_t *out_words, size_t out_words_len, int64_t *out_shifts,
+                 size_t out_shifts_len, uint64_t *rows, uint64_t *index);
+
+/* A map with one row of neighbours that continue: the same source, frames that run on, flag and shift equal.
+ * Lent: a map, and room for the rows. Writes the rows, rows (how many), index. Refuses: 51, 52, 52.
+ * A null pointer only with length 0. */
+uint64_t st_merge(const uint64_t *words, size_t words_len, const int64_t *shifts, size_t shifts_len,
+                  uint64_t *out_words, size_t out_words_len, int64_t *out_shifts, size_t out_shifts_len,
+                  uint64_t *rows, uint64_t *index);
+
+/* Where a frame comes from: its source, its frame there, the shift's flag (1 present, 0 absent) and the shift.
+ * Lent: a map. Writes source, source_frame, flag, shift, index. Refuses: 51, 52, 54.
+ * A null pointer only with length 0. */
+uint64_t st_origin(const uint64_t *words, size_t words_len, const int64_t *shifts, size_t shifts_len,
+                   uint64_t frame, uint64_t *source, uint64_t *source_frame, uint64_t *flag, int64_t *shift,
+                   uint64_t *index);
+
+/* ---- Frame times: of a MotionCam recording's timestamps. */
+
+/* The frame times of a MotionCam recording, of its frames' timestamps in nanoseconds: how many, their scale
+ * (1,000,000,000), the nominal interval and the end; the starts count from the first timestamp.
+ * Lent: the timestamps, room for the starts, a working slice; both as long as the timestamps or longer.
+ * Writes starts, work (all 0), frames, scale, nominal, end, index. Refuses: 30, 31, 34, 33, 32, 31, 33.
+ * A null pointer only with length 0. */
+uint64_t st_mcraw_times(const int64_t *timestamps, size_t timestamps_len, int64_t *starts, size_t starts_len,
+                        int64_t *work, size_t work_len, uint64_t *frames, uint64_t *scale, int64_t *nominal,
+                        int64_t *end, uint64_t *index);
+
+/* ---- Tables: the check, both lookups, whether a segment continues the one before, the rows of its map. */
+
+/* Checks a table: its frame total.
+ * Lent: a table. Writes frames, index. Refuses: 1 to 17.
+ * A null pointer only with length 0. */
+uint64_t st_check(const uint64_t *sources, size_t sources_len, const uint64_t *segments, size_t segments_len,
+                  const int64_t *times, size_t times_len, bool log, const uint8_t *text, size_t text_len,
+                  uint64_t *frames, uint64_t *index);
+
+/* The segment of a frame: the number of segments that end at or before it, at most the last index.
+ * Lent: a table. Writes segment, index. Refuses: 1 to 17.
+ * A null pointer only with length 0. */
+uint64_t st_segment_of_frame(const uint64_t *sources, size_t sources_len, const uint64_t *segments,
+                             size_t segments_len, const int64_t *times, size_t times_len, bool log,
+                             const uint8_t *text, size_t text_len, uint64_t frame, uint64_t *segment,
+                             uint64_t *index);
+
+/* The segment of a time in microseconds: the number of segments that end at or before it, at most the last index.
+ * Lent: a table. Writes segment, index. Refuses: 1 to 17.
+ * A null pointer only with length 0. */
+uint64_t st_segment_of_time_us(const uint64_t *sources, size_t sources_len, const uint64_t *segments,
+                               size_t segments_len, const int64_t *times, size_t times_len, bool log,
+                               const uint8_t *text, size_t text_len, int64_t time, uint64_t *segment,
+                               uint64_t *index);
+
+/* Whether a segment continues the one before it: the same source, source frames that run on, equal shift. Answers 1 or
+ * 0, and 0 for the first segment and for one that isn't there.
+ * Lent: a table. Writes answer, index. Refuses: 1 to 17.
+ * A null pointer only with length 0. */
+uint64_t st_continues(const uint64_t *sources, size_t sources_len, const uint64_t *segments,
+                      size_t segments_len, const int64_t *times, size_t times_len, bool log,
+                      const uint8_t *text, size_t text_len, uint64_t segment, uint64_t *answer,
+                      uint64_t *index);
+
+/* The map of an accepted table: one row a segment, an absent shift as 0.
+ * Lent: a table, and room for the rows. Writes the rows, rows (how many), index. Refuses: 1 to 17, 32.
+ * A null pointer only with length 0. */
+uint64_t st_rows_of_table(const uint64_t *sources, size_t sources_len, const uint64_t *segments,
+                          size_t segments_len, const int64_t *times, size_t times_len, bool log,
+                          const uint8_t *text, size_t text_len, uint64_t *out_words, size_t out_words_len,
+                          int64_t *out_shifts, size_t out_shifts_len, uint64_t *rows, uint64_t *index);
+
+/* ---- Boxes: sizes, the child of a type, the search in a range, the table's text. */
+
+/* The size of the box at the start of data, and of its header, where `remaining` bytes are left of what it is in.
+ * Lent: the bytes at hand. Writes size, header. Refuses: 30, 31.
+ * A null pointer only with length 0. */
+uint64_t st_box_size(const uint8_t *data, size_t data_len, uint64_t remaining, uint64_t *size,
+                     uint64_t *header);
+
+/* Where the payload of the first child of a type lies in payload; `kind` is the type's four bytes, big-endian.
+ * Lent: a box's payload. Writes start, length. Refuses: 30, 31.
+ * A null pointer only with length 0. */
+uint64_t st_child(const uint8_t *payload, size_t payload_len, uint32_t kind, uint64_t *start,
+                  uint64_t *length);
+
+/* Where the payload of the first box of a type among those of from..to lies in bytes. With text_types the search ends
+ * at a type with a byte outside 20..7E hex.
+ * Lent: the bytes. Writes start, length. Refuses: 30, 42, 31.
+ * A null pointer only with length 0. */
+uint64_t st_find_box(const uint8_t *bytes, size_t bytes_len, uint64_t from, uint64_t to, uint32_t kind,
+                     bool text_types, uint64_t *start, uint64_t *length);
+
+/* Where a file's segment table has its text: the payload of the only moov/udta/MTRM box.
+ * Lent: the file's bytes. Writes start, length. Refuses: 30, 40, 41.
+ * A null pointer only with length 0. */
+uint64_t st_table_text(const uint8_t *file, size_t file_len, uint64_t *start, uint64_t *length);
+
+#ifdef __cplusplus
+}
+#endif
+
+#endif

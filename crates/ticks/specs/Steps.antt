@@ -5,7 +5,7 @@ use lib.IntN.{ℤ, pos, _-ℤ_}
 use Rattle.wide.specs.Value.{value}
 use Rattle.ticks.specs.declared.Allowance.{Allowance}
 
--- the most ticks whose product with 1,000,000 fits 63 bits
+-- the most ticks whose product with 1,000,000 fits 63 bits with its sign
 abbrev pub smallTicks : ℕ
 smallTicks = 4611686018427
 

@@ -18,7 +18,7 @@ pub const SCALE_OVER: u64 = 20;
 
 pub const NO_TIME: u64 = 23;
 
-// The most ticks whose product with 1,000,000 fits 63 bits.
+// The most ticks whose product with 1,000,000 fits 63 bits with its sign.
 const SMALL_TICKS: u64 = 4_611_686_018_427;
 
 // A time in microseconds, or the number that refuses it.

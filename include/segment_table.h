@@ -111,7 +111,44 @@ uint64_t st_origin(const uint64_t *words, size_t words_len, const int64_t *shift
                    uint64_t frame, uint64_t *source, uint64_t *source_frame, uint64_t *flag, int64_t *shift,
                    uint64_t *index);
 
-/* ---- Frame times: of a MotionCam recording's timestamps. */
+/* ---- Judging: a table against the video of its file, and against a MotionCam recording. */
+
+/* Judges a table where its file has no video: it is always refused.
+ * Lent: a table. Writes index. Refuses: 1 to 17, 21.
+ * A null pointer only with length 0. */
+uint64_t st_validate_no_video(const uint64_t *sources, size_t sources_len, const uint64_t *segments,
+                              size_t segments_len, const int64_t *times, size_t times_len, bool log,
+                              const uint8_t *text, size_t text_len, uint64_t *index);
+
+/* Judges a table by a video of video_frames frames at num / den a second: its frame total.
+ * Lent: a table. Writes frames, index. Refuses: 1 to 17, 20, 22, 23 with 24, 25.
+ * A null pointer only with length 0. */
+uint64_t st_validate_constant(const uint64_t *sources, size_t sources_len, const uint64_t *segments,
+                              size_t segments_len, const int64_t *times, size_t times_len, bool log,
+                              const uint8_t *text, size_t text_len, uint64_t video_frames, uint64_t num,
+                              uint64_t den, uint64_t *frames, uint64_t *index);
+
+/* Judges a table by a video's frame times, in ticks of scale a second: its frame total. The last frame ends at end.
+ * Lent: a table, the starts. Writes frames, index. Refuses: 1 to 17, 20, 22, 23 with 24, 25.
+ * A null pointer only with length 0. */
+uint64_t st_validate_times(const uint64_t *sources, size_t sources_len, const uint64_t *segments,
+                           size_t segments_len, const int64_t *times, size_t times_len, bool log,
+                           const uint8_t *text, size_t text_len, uint64_t scale, const int64_t *starts,
+                           size_t starts_len, int64_t end, int64_t nominal, uint64_t *frames,
+                           uint64_t *index);
+
+/* Judges a table by the timestamps of a MotionCam recording's frames, in nanoseconds: its frame total. One timestamp is
+ * judged as one frame at the rate of segment 0's source.
+ * Lent: a table, the timestamps, two working slices as long as the timestamps or longer (of one timestamp, of any length).
+ * Writes both working slices (all 0), frames, index. Refuses: 1 to 17, 30, 35, 34, 33, 32, 35, 33, 20, 22, 23 with 24, 25.
+ * A null pointer only with length 0. */
+uint64_t st_check_mcraw(const uint64_t *sources, size_t sources_len, const uint64_t *segments,
+                        size_t segments_len, const int64_t *times, size_t times_len, bool log,
+                        const uint8_t *text, size_t text_len, const int64_t *timestamps,
+                        size_t timestamps_len, int64_t *work_a, size_t work_a_len, int64_t *work_b,
+                        size_t work_b_len, uint64_t *frames, uint64_t *index);
+
+/* ---- Frame times: of a movie's video track, and of a MotionCam recording's timestamps. */
 
 /* The frame times of a MotionCam recording, of its frames' timestamps in nanoseconds: how many, their scale
  * (1,000,000,000), the nominal interval and the end; the starts count from the first timestamp.
@@ -121,6 +158,17 @@ uint64_t st_origin(const uint64_t *words, size_t words_len, const int64_t *shift
 uint64_t st_mcraw_times(const int64_t *timestamps, size_t timestamps_len, int64_t *starts, size_t starts_len,
                         int64_t *work, size_t work_len, uint64_t *frames, uint64_t *scale, int64_t *nominal,
                         int64_t *end, uint64_t *index);
+
+/* The frame times of a moov's first video track: how many, their timescale, the nominal interval and the end; the starts
+ * in presentation order.
+ * Lent: the payload of a moov box, room for the starts, two working slices as long. As many elements as the track has
+ * frames are enough for each. Writes starts, both working slices (all 0), frames, scale, nominal, end. Refuses: 30, 31,
+ * 32, 31, 33.
+ * A null pointer only with length 0. */
+uint64_t st_video_frame_times_of_moov(const uint8_t *moov, size_t moov_len, int64_t *starts,
+                                      size_t starts_len, int64_t *work_a, size_t work_a_len, int64_t *work_b,
+                                      size_t work_b_len, uint64_t *frames, uint64_t *scale, int64_t *nominal,
+                                      int64_t *end);
 
 /* ---- Tables: the check, both lookups, whether a segment continues the one before, the rows of its map. */
 

@@ -16,6 +16,8 @@ use Rattle.rules.specs.declared.Continued.{Continued}
 use Rattle.rules.specs.declared.Continued.the-variants as continued
 use Rattle.table.specs.declared.Filled.{Filled}
 use Rattle.table.specs.declared.Filled.the-variants as filled
+use Rattle.frame_times.specs.declared.FrameTimes.{FrameTimes}
+use Rattle.frame_times.specs.declared.FrameTimes.the-variants as moov
 use Rattle.mcraw.specs.declared.Times.{Times}
 use Rattle.mcraw.specs.declared.Times.the-variants as times
 use Rattle.maps.specs.declared.Mapped.{Mapped}
@@ -42,6 +44,11 @@ placeTold (place.Refused n) start length = (n, start, length)
 unfoldable pub checkedTold : Checked → ℕ → ℕ × ℕ × ℕ
 checkedTold (checked.Frames n) frames = (0, n, 0)
 checkedTold (checked.Refused n i) frames = (n, frames, i)
+
+-- the same without the total
+unfoldable pub refusalTold : Checked → ℕ × ℕ
+refusalTold (checked.Frames n) = (0, 0)
+refusalTold (checked.Refused n i) = (n, i)
 
 -- a segment
 unfoldable pub foundTold : Found → ℕ → ℕ × ℕ × ℕ
@@ -71,3 +78,8 @@ tracedTold (traced.Refused n i) source frame flag shift = (n, source, frame, fla
 unfoldable pub timesTold : Times → ℕ → ℕ → ℤ → ℤ → ℕ × ℕ × ℕ × ℤ × ℤ × ℕ
 timesTold (times.Timed f s m e) frames scale nominal end = (0, f, s, m, e, 0)
 timesTold (times.Refused n i) frames scale nominal end = (n, frames, scale, nominal, end, i)
+
+-- the same of a moov, whose refusals have no index
+unfoldable pub moovTold : FrameTimes → ℕ → ℕ → ℤ → ℤ → ℕ × ℕ × ℕ × ℤ × ℤ
+moovTold (moov.Times f s m e) frames scale nominal end = (0, f, s, m, e)
+moovTold (moov.Refused n i) frames scale nominal end = (n, frames, scale, nominal, end)

@@ -14,7 +14,9 @@ use Rattle.maps.specs.declared.Traced.{Traced}
 use Rattle.maps.specs.Answers.{cutRefusal, joinRefusal, mergeRefusal, originRefusal, answered, after, tracedOf}
 use Rattle.slices.specs.Slices.{laid, zeros}
 use Rattle.mcraw.specs.Mcraw.{timesOf, written}
-use Rattle.segment_table.specs.Told.{filledTold, mappedTold, timesTold}
+use Rattle.frame_times.specs.Times as moov
+use Rattle.judge.specs.Judge.{checkMcraw}
+use Rattle.segment_table.specs.Told.{checkedTold, filledTold, mappedTold, timesTold, moovTold}
 
 -- the rows of t were asked for: number, words, shifts, how many rows, index
 pub record RowedTold (t : Table) (ou : List ℕ) (os : List ℤ) (rows r : ℕ) (ou′ : List ℕ) (os′ : List ℤ) (rows′ index′ : ℕ) : Type 0 where
@@ -47,3 +49,16 @@ pub record McrawTold (ts starts work : List ℤ) (frames scale : ℕ) (nominal e
   pub told : (r, frames′, scale′, nominal′, end′, index′) ≡ timesTold (timesOf ts (length starts) (length work)) frames scale nominal end
   pub laid-out : starts′ ≡ laid (written (timesOf ts (length starts) (length work)) ts) starts
   pub cleared : work′ ≡ zeros work
+
+-- a moov's frame times were asked for: number, starts, both working slices, frame count, scale, nominal, end
+pub record MoovTold (bytes : List ℕ) (starts a b : List ℤ) (frames scale : ℕ) (nominal end : ℤ) (r : ℕ) (starts′ a′ b′ : List ℤ) (frames′ scale′ : ℕ) (nominal′ end′ : ℤ) : Type 0 where
+  pub told : (r, frames′, scale′, nominal′, end′) ≡ moovTold (moov.timesOf bytes (moov.room starts a b) .answer) frames scale nominal end
+  pub laid-out : starts′ ≡ laid (moov.timesOf bytes (moov.room starts a b) .starts) starts
+  pub first-cleared : a′ ≡ zeros a
+  pub second-cleared : b′ ≡ zeros b
+
+-- t was judged by a recording's timestamps: number, both working slices, frame total, index
+pub record JudgedTold (t : Table) (ts a b : List ℤ) (frames r : ℕ) (a′ b′ : List ℤ) (frames′ index′ : ℕ) : Type 0 where
+  pub told : (r, frames′, index′) ≡ checkedTold (checkMcraw t ts (length a) (length b)) frames
+  pub first-cleared : a′ ≡ zeros a
+  pub second-cleared : b′ ≡ zeros b

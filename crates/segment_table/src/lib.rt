@@ -60,6 +60,7 @@
 // 54 frame past the map
 mod clock;
 mod cutting;
+mod judging;
 mod recordings;
 mod tables;
 mod walk;

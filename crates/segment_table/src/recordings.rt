@@ -1,8 +1,9 @@
-// Frame times: of a MotionCam recording's timestamps.
+// Frame times: of a movie's video track, and of a MotionCam recording's timestamps.
+use frame_times::FrameTimes;
 use mcraw::Times;
 ghost use mathlib.Core.Path.{_≡_};
-ghost use Rattle.segment_table.specs.Told.{timesTold};
-ghost use Rattle.segment_table.specs.Written.{McrawTold};
+ghost use Rattle.segment_table.specs.Told.{moovTold, timesTold};
+ghost use Rattle.segment_table.specs.Written.{McrawTold, MoovTold};
 
 // Tells frame count, scale, nominal and end.
 fn tell_times(
@@ -55,4 +56,53 @@ pub extern "C" fn st_mcraw_times(
 {
     let times = mcraw::mcraw_times(timestamps, starts, work);
     tell_times(times, frames, scale, nominal, end, index)
+}
+
+// Tells the same of a moov, whose refusals have no index.
+fn tell_moov(
+    answer: FrameTimes,
+    frames: &mut u64,
+    scale: &mut u64,
+    nominal: &mut i64,
+    end: &mut i64,
+) -> u64
+    ensures { λ r. ⌜ (r, now (frames .exit), now (scale .exit), now (nominal .exit), now (end .exit)) ≡ moovTold answer (now (frames .entry)) (now (scale .entry)) (now (nominal .entry)) (now (end .entry)) ⌝ }
+{
+    match answer {
+        FrameTimes::Times {
+            frames: f,
+            timescale: s,
+            nominal: m,
+            end: e,
+        } => {
+            *frames = f as u64;
+            *scale = s;
+            *nominal = m;
+            *end = e;
+            0
+        }
+        FrameTimes::Refused { number, index: _ } => number,
+    }
+}
+
+// The frame times of a moov's first video track: how many, their timescale, the nominal interval and the end; the starts
+// in presentation order.
+// Lent: the payload of a moov box, room for the starts, two working slices as long. As many elements as the track has
+// frames are enough for each. Writes starts, both working slices (all 0), frames, scale, nominal, end. Refuses: 30, 31,
+// 32, 31, 33.
+#[no_mangle]
+pub extern "C" fn st_video_frame_times_of_moov(
+    moov: &[u8],
+    starts: &mut [i64],
+    work_a: &mut [i64],
+    work_b: &mut [i64],
+    frames: &mut u64,
+    scale: &mut u64,
+    nominal: &mut i64,
+    end: &mut i64,
+) -> u64
+    ensures { λ r. ⌜ MoovTold (now (moov .entry)) (now (starts .entry)) (now («work_a» .entry)) (now («work_b» .entry)) (now (frames .entry)) (now (scale .entry)) (now (nominal .entry)) (now (end .entry)) r (now (starts .exit)) (now («work_a» .exit)) (now («work_b» .exit)) (now (frames .exit)) (now (scale .exit)) (now (nominal .exit)) (now (end .exit)) ⌝ }
+{
+    let times = frame_times::video_frame_times_of_moov(moov, starts, work_a, work_b);
+    tell_moov(times, frames, scale, nominal, end)
 }

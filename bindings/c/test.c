@@ -3,6 +3,7 @@
 #include <stdio.h>
 #include <stdlib.h>
 #include <string.h>
+#include "movie.h"
 #include "segment_table.h"
 
 #define COUNT(a) (sizeof(a) / sizeof((a)[0]))
@@ -225,19 +226,6 @@ static void map_calls(void) {
     REFUSED_AT(51, 0, st_origin(NULL, 0, NULL, 0, 0, &x, &y, &z, &p, &at));
 }
 
-/* A box: size, type, then what is inside, at any address. */
-static uint8_t *box(uint8_t *to, const char *kind, uint32_t payload) {
-    uint32_t size = payload + 8;
-    to[0] = (uint8_t)(size >> 24), to[1] = (uint8_t)(size >> 16), to[2] = (uint8_t)(size >> 8), to[3] = (uint8_t)size;
-    memcpy(to + 4, kind, 4);
-    return to + 8;
-}
-
-static uint32_t code(const char *kind) {
-    const uint8_t *k = (const uint8_t *)kind;
-    return (uint32_t)k[0] << 24 | (uint32_t)k[1] << 16 | (uint32_t)k[2] << 8 | k[3];
-}
-
 static void box_calls(void) {
     uint8_t room[96], *large = calloc(16777217, 1);
     for (size_t shift = 0; shift < 8; shift++) {
@@ -298,12 +286,82 @@ static void recording_calls(void) {
     free(many);
 }
 
+static bool zero(const int64_t *a, size_t count) {
+    for (size_t k = 0; k < count; k++) if (a[k]) return false;
+    return true;
+}
+
+static void movie_calls(void) {
+    uint8_t room[256];
+    int64_t starts[4] = {9, 9, 9, 9}, a[3] = {9, 9, 9}, b[3] = {9, 9, 9};
+#define TIMES &x, &y, &p, &q
+    for (size_t shift = 0; shift < 8; shift++) { /* file bytes at 8 addresses */
+        uint8_t *moov = room + shift;
+        size_t n = make_moov(moov, 25, (const uint32_t[]){2, 1, 1, 2}, 4);
+        a[0] = b[2] = starts[3] = 9;
+        ACCEPTED(st_video_frame_times_of_moov(moov, n, starts, 4, a, 3, b, 3, TIMES));
+        IS(x == 3 && y == 25 && p == 1 && q == 4 && zero(a, 3) && zero(b, 3));
+        IS(starts[0] == 0 && starts[1] == 1 && starts[2] == 2 && starts[3] == 9);
+        a[0] = b[0] = starts[0] = 9;
+        REFUSED(32, st_video_frame_times_of_moov(moov, n, starts, 2, a, 3, b, 3, TIMES));
+        REFUSED(32, st_video_frame_times_of_moov(moov, n, starts, 4, a, 3, b, 2, TIMES));
+        REFUSED(32, st_video_frame_times_of_moov(moov, n, NULL, 0, NULL, 0, NULL, 0, TIMES));
+        IS(starts[0] == 9 && zero(a, 3) && zero(b, 3));
+        for (size_t less = 0; less < n; less++) /* every shorter moov */
+            REFUSED(31, st_video_frame_times_of_moov(moov, less, starts, 4, a, 3, b, 3, TIMES));
+        n = make_moov(moov, 25, (const uint32_t[]){1, UINT32_MAX, UINT32_MAX, UINT32_MAX}, 4);
+        REFUSED(31, st_video_frame_times_of_moov(moov, n, starts, 4, a, 3, b, 3, TIMES));
+        n = make_moov(moov, UINT32_MAX, (const uint32_t[]){2, UINT32_MAX}, 2);
+        ACCEPTED(st_video_frame_times_of_moov(moov, n, starts, 4, a, 3, b, 3, TIMES));
+        IS(x == 2 && y == UINT32_MAX && p == UINT32_MAX && q == 2 * (int64_t)UINT32_MAX && starts[1] == UINT32_MAX);
+    }
+    REFUSED(31, st_video_frame_times_of_moov(NULL, 0, NULL, 0, NULL, 0, NULL, 0, TIMES));
+}
+
+static void judge_calls(void) {
+    int64_t starts[50], a[50], b[50], stamps[50];
+    for (int k = 0; k < 50; k++) starts[k] = k, stamps[k] = 40000000LL * k, a[k] = b[k] = 9;
+    lend();
+    IS(st_validate_no_video(T, &at) == 21 && at == 0);
+    IS(st_validate_no_video(NULL, 0, NULL, 0, NULL, 0, false, NULL, 0, &at) == 3 && at == 0);
+    ACCEPTED(st_validate_constant(T, 50, 25, 1, &x, &at));
+    IS(x == 50 && at == 0);
+    REFUSED_AT(22, 0, st_validate_constant(T, MOST, 25, 1, &x, &at));
+    REFUSED_AT(20, 0, st_validate_constant(T, 50, MOST, 1, &x, &at));
+    REFUSED_AT(20, 0, st_validate_constant(T, 50, 25, 4294967296, &x, &at));
+    REFUSED_AT(23, 0, st_validate_constant(T, 50, 0, 1, &x, &at));
+    REFUSED_AT(24, 1, st_validate_constant(T, 50, 4294967295, 4294967295, &x, &at));
+    REFUSED_AT(1, 0, st_validate_constant(sources, 19, segments, 10, times, 14, false, NULL, 0, 50, 25, 1, &x, &at));
+    ACCEPTED(st_validate_times(T, 25, starts, 50, 50, 1, &x, &at));
+    IS(x == 50 && at == 0);
+    REFUSED_AT(22, 0, st_validate_times(T, 25, NULL, 0, 50, 1, &x, &at));
+    REFUSED_AT(20, 0, st_validate_times(T, MOST, starts, 50, 50, 1, &x, &at));
+    REFUSED_AT(25, 0, st_validate_times(T, 25, starts, 50, INT64_MAX, 1, &x, &at));
+    REFUSED_AT(25, 0, st_validate_times(T, 25, starts, 50, INT64_MIN, 1, &x, &at));
+    REFUSED_AT(25, 0, st_validate_times(T, 25, starts, 50, 50, INT64_MIN, &x, &at));
+    starts[30] = INT64_MAX;
+    REFUSED_AT(23, 1, st_validate_times(T, 25, starts, 50, 50, 1, &x, &at));
+    ACCEPTED(st_check_mcraw(T, stamps, 50, a, 50, b, 50, &x, &at));
+    IS(x == 50 && at == 0 && zero(a, 50) && zero(b, 50));
+    a[49] = b[0] = 9;
+    REFUSED_AT(32, 0, st_check_mcraw(T, stamps, 50, a, 49, b, 50, &x, &at));
+    IS(a[49] == 9 && zero(b, 50));
+    REFUSED_AT(32, 0, st_check_mcraw(T, stamps, 50, NULL, 0, NULL, 0, &x, &at));
+    REFUSED_AT(35, 0, st_check_mcraw(T, NULL, 0, NULL, 0, NULL, 0, &x, &at));
+    REFUSED_AT(22, 0, st_check_mcraw(T, stamps, 1, NULL, 0, NULL, 0, &x, &at));
+    REFUSED_AT(34, 49, (stamps[49] = INT64_MIN, st_check_mcraw(T, stamps, 50, a, 50, b, 50, &x, &at)));
+    REFUSED_AT(3, 0, (a[0] = 9, st_check_mcraw(NULL, 0, NULL, 0, NULL, 0, false, NULL, 0, stamps, 50, a, 50, b, 50, &x, &at)));
+    IS(zero(a, 50));
+}
+
 int main(void) {
     clock_calls();
     table_calls();
     map_calls();
     box_calls();
     recording_calls();
+    movie_calls();
+    judge_calls();
     if (!failed) puts("ok");
     return failed;
 }

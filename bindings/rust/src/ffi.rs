@@ -1,5 +1,7 @@
 // Written by tools/header from the Rattle source; `tools/header --check` compares it.
 
+//! The C face itself. `include/segment_table.h` says what each call is lent, writes and refuses.
+
 extern "C" {
     pub fn st_is_utc_second(bytes: *const u8, bytes_len: usize) -> bool;
     pub fn st_ticks_to_us(ticks: i64, scale: u64, us: *mut i64) -> u64;

@@ -19,15 +19,18 @@
 //!
 //! A call that refuses gives a [`Refusal`], with its number, its index and its words.
 
-mod ffi;
+pub mod ffi;
 mod map;
 mod recording;
+#[macro_use]
 mod table;
+mod video;
 mod walk;
 
 pub use map::{FrameMap, Origin, Row, Rows};
-pub use recording::{mcraw_times, FrameTimes};
+pub use recording::{mcraw_times, video_frame_times_of_moov, FrameTimes};
 pub use table::{Clock, Segment, Source, Table};
+pub use video::Video;
 pub use walk::{box_size, child, find_box, table_text, BoxSize};
 
 use std::fmt;

@@ -33,3 +33,36 @@ pub fn mcraw_times(timestamps: &[i64]) -> Result<FrameTimes, Refusal> {
     };
     answer(number, index, FrameTimes { scale, nominal, end, starts })
 }
+
+/// The room that is lent first for a moov's frames.
+const ROOM: usize = 4096;
+
+/// The frame times of the first video track of a moov, of the box's payload. Refuses 30, 31, 33.
+///
+/// ```
+/// let file = std::fs::read("../../crates/frametimes_m1/stdin").unwrap();
+/// let moov = segment_table::find_box(&file, 0..file.len() as u64, *b"moov", false)?;
+/// let times = segment_table::video_frame_times_of_moov(moov)?;
+/// assert_eq!((times.scale, times.nominal, times.end, times.starts), (100, 10, 50, vec![10, 20, 40]));
+/// # Ok::<(), segment_table::Refusal>(())
+/// ```
+pub fn video_frame_times_of_moov(moov: &[u8]) -> Result<FrameTimes, Refusal> {
+    // a track of more frames than its moov has bytes is refused with 31, so this much room is enough
+    let mut room = ROOM.min(moov.len());
+    loop {
+        let (mut starts, mut a, mut b) = (vec![0; room], vec![0; room], vec![0; room]);
+        let (mut frames, mut scale, mut nominal, mut end) = (0, 0, 0, 0);
+        let number = unsafe {
+            ffi::st_video_frame_times_of_moov(
+                moov.as_ptr(), moov.len(), starts.as_mut_ptr(), room, a.as_mut_ptr(), room, b.as_mut_ptr(), room,
+                &mut frames, &mut scale, &mut nominal, &mut end,
+            )
+        };
+        if number == 32 && room < moov.len() {
+            room = (8 * room).min(moov.len());
+            continue;
+        }
+        starts.truncate(frames as usize);
+        return answer(number, 0, FrameTimes { scale, nominal, end, starts });
+    }
+}

@@ -1,5 +1,5 @@
 //! Segment tables.
-use crate::{answer, ffi, FrameMap, Refusal};
+use crate::{answer, FrameMap, Refusal};
 
 /// A camera clock: ticks a second as a fraction, and where it wraps.
 #[derive(Clone, Copy, Debug, PartialEq, Eq, Hash)]
@@ -61,18 +61,18 @@ pub struct Segment {
 /// ```
 #[derive(Clone, Debug, PartialEq, Eq, Hash)]
 pub struct Table {
-    sources: Vec<u64>,
-    segments: Vec<u64>,
-    times: Vec<i64>,
-    log: bool,
-    text: Vec<u8>,
+    pub(crate) sources: Vec<u64>,
+    pub(crate) segments: Vec<u64>,
+    pub(crate) times: Vec<i64>,
+    pub(crate) log: bool,
+    pub(crate) text: Vec<u8>,
     frames: u64,
 }
 
 /// The nine arguments of a lent table.
 macro_rules! lent {
     ($call:ident, $t:expr $(, $more:expr)*) => {
-        ffi::$call(
+        crate::ffi::$call(
             $t.sources.as_ptr(), $t.sources.len(), $t.segments.as_ptr(), $t.segments.len(), $t.times.as_ptr(), $t.times.len(),
             $t.log, $t.text.as_ptr(), $t.text.len() $(, $more)*
         )

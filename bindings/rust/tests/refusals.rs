@@ -105,6 +105,90 @@ fn recordings() {
     refused(34, 2, mcraw_times(&[1, 2, 1]));
 }
 
+/// Two segments of ten frames, at 25 a second.
+fn table() -> Table {
+    Table::new(&[source()], &[segment(), second(|_| ())], false).unwrap()
+}
+
+#[test]
+fn videos() {
+    let constant = |frames, fps| table().validate(Video::Constant { frames, fps });
+    assert_eq!(constant(20, (25, 1)), Ok(20));
+    refused(21, 0, table().validate(Video::Absent));
+    refused(20, 0, constant(20, (25, 1 << 32)));
+    refused(22, 0, constant(19, (25, 1)));
+    refused(23, 0, constant(20, (0, 1)));
+    refused(24, 1, constant(20, (24, 1)));
+
+    let good = FrameTimes { scale: 25, nominal: 1, end: 20, starts: (0..20).collect() };
+    assert_eq!(table().validate(Video::Times(&good)), Ok(20));
+    refused(20, 0, table().validate(Video::Times(&FrameTimes { scale: 1 << 32, ..good.clone() })));
+    refused(20, 0, table().validate(Video::Times(&FrameTimes { starts: vec![0; 16_777_217], ..good.clone() })));
+    refused(22, 0, table().validate(Video::Times(&FrameTimes { starts: vec![], ..good.clone() })));
+    refused(23, 1, table().validate(Video::Times(&FrameTimes { scale: 1, starts: (0..20).map(|k| k / 10 * i64::MAX).collect(), ..good.clone() })));
+    refused(25, 0, table().validate(Video::Times(&FrameTimes { end: 22, ..good })));
+}
+
+#[test]
+fn recordings_of_a_table() {
+    let stamps: Vec<i64> = (0..20).map(|k| k * 40_000_000).collect();
+    assert_eq!(table().check_mcraw(&stamps), Ok(20));
+    refused(30, 0, table().check_mcraw(&vec![0; 16_777_217]));
+    refused(35, 0, table().check_mcraw(&[]));
+    refused(35, 0, table().check_mcraw(&[4, 4]));
+    refused(34, 1, table().check_mcraw(&[2, 1]));
+    refused(33, 0, table().check_mcraw(&[i64::MIN, i64::MAX]));
+    refused(22, 0, table().check_mcraw(&stamps[1..]));
+    refused(22, 0, table().check_mcraw(&[5]));
+}
+
+/// A box of a type with a payload.
+fn boxed(kind: &[u8; 4], payload: &[u8]) -> Vec<u8> {
+    [&(payload.len() as u32 + 8).to_be_bytes(), &kind[..], payload].concat()
+}
+
+/// A full box of 32-bit words after its version and flags.
+fn full(kind: &[u8; 4], words: &[u32]) -> Vec<u8> {
+    boxed(kind, &[0].iter().chain(words).flat_map(|w| w.to_be_bytes()).collect::<Vec<_>>())
+}
+
+/// A moov of one video track with these runs of durations.
+fn moov(scale: u32, runs: &[u32]) -> Vec<u8> {
+    let stts = full(b"stts", &[&[runs.len() as u32 / 2], runs].concat());
+    let hdlr = full(b"hdlr", &[0, u32::from_be_bytes(*b"vide")]);
+    let minf = boxed(b"minf", &boxed(b"stbl", &stts));
+    let mdia = boxed(b"mdia", &[full(b"mdhd", &[0, 0, scale]), hdlr, minf].concat());
+    [full(b"mvhd", &[0, 0, 100]), boxed(b"trak", &mdia)].concat()
+}
+
+#[test]
+fn movies() {
+    let times = video_frame_times_of_moov(&moov(100, &[3, 10])).unwrap();
+    assert_eq!((times.scale, times.nominal, times.end, times.starts), (100, 10, 30, vec![0, 10, 20]));
+    // more frames than the room that is lent first
+    let long = [moov(100, &[5000, 10]), boxed(b"free", &[0; 5000])].concat();
+    let times = video_frame_times_of_moov(&long).unwrap();
+    assert_eq!((times.end, times.starts.len(), times.starts[4999]), (50_000, 5000, 49_990));
+    refused(30, 0, video_frame_times_of_moov(&vec![0; 16_777_217]));
+    refused(31, 0, video_frame_times_of_moov(b""));
+    refused(31, 0, video_frame_times_of_moov(&moov(0, &[3, 10])));
+    refused(31, 0, video_frame_times_of_moov(&moov(100, &[5000, 10])));
+}
+
+/// Too little room is what the safe calls never lend.
+#[test]
+fn room() {
+    let (mut rows, mut index) = (7, 7);
+    let (sources, segments, times) = ([100, 25, 1, 0, 0, 0, 0, 0, 0, 0], [0, 0, 10, 0, 0], [0; 7]);
+    let number = unsafe {
+        ffi::st_rows_of_table(
+            sources.as_ptr(), 10, segments.as_ptr(), 5, times.as_ptr(), 7, false, std::ptr::null(), 0,
+            std::ptr::null_mut(), 0, std::ptr::null_mut(), 0, &mut rows, &mut index,
+        )
+    };
+    assert_eq!((number, rows, index), (32, 7, 0));
+}
+
 #[test]
 fn maps() {
     let row = |source_first, count, out_first| Row { source: 0, source_first, count, out_first, shift: None };

@@ -1,0 +1,40 @@
+/* Boxes of an ISO base media file, written at any address. */
+#include <stddef.h>
+#include <stdint.h>
+#include <string.h>
+
+/* A box: size, type, then what is inside, at any address. */
+static uint8_t *box(uint8_t *to, const char *kind, uint32_t payload) {
+    uint32_t size = payload + 8;
+    to[0] = (uint8_t)(size >> 24), to[1] = (uint8_t)(size >> 16), to[2] = (uint8_t)(size >> 8), to[3] = (uint8_t)size;
+    memcpy(to + 4, kind, 4);
+    return to + 8;
+}
+
+static uint32_t code(const char *kind) {
+    const uint8_t *k = (const uint8_t *)kind;
+    return (uint32_t)k[0] << 24 | (uint32_t)k[1] << 16 | (uint32_t)k[2] << 8 | k[3];
+}
+
+/* A full box of 32-bit words after its version and flags; where it ends. */
+static uint8_t *full(uint8_t *to, const char *kind, const uint32_t *words, uint32_t count) {
+    to = box(to, kind, 4 + 4 * count);
+    memset(to, 0, 4);
+    to += 4;
+    for (uint32_t k = 0; k < count; k++) {
+        for (int shift = 24; shift >= 0; shift -= 8) *to++ = (uint8_t)(words[k] >> shift);
+    }
+    return to;
+}
+
+/* The payload of a moov of one video track, whose runs of durations are given; how long it is. */
+static size_t make_moov(uint8_t *at, uint32_t scale, const uint32_t *runs, uint32_t count) {
+    uint32_t entries[9] = {count / 2}, tables = 12 + 4 * (count + 1), media = 24 + 20 + 8 + 8 + tables;
+    uint8_t *to = full(at, "mvhd", (const uint32_t[]){0, 0, 100}, 3);
+    memcpy(entries + 1, runs, count * sizeof *runs);
+    to = box(box(to, "trak", media + 8), "mdia", media);
+    to = full(to, "mdhd", (const uint32_t[]){0, 0, scale}, 3);
+    to = full(to, "hdlr", (const uint32_t[]){0, code("vide")}, 2);
+    to = box(box(to, "minf", tables + 8), "stbl", tables);
+    return (size_t)(full(to, "stts", entries, count + 1) - at);
+}

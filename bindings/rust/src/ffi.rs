@@ -1,5 +1,35 @@
 // Written by tools/header from the Rattle source; `tools/header --check` compares it.
 
+/// A segment as one record, with its times in microseconds: the Rust's TrimSegment.
+#[repr(C)]
+#[derive(Clone, Copy, Debug, PartialEq, Eq)]
+pub struct TrimSegment {
+    /// The source's number.
+    pub source: u64,
+    /// Its first frame in the source.
+    pub src_first_frame: u64,
+    /// How many frames it has.
+    pub frame_count: u64,
+    /// Its first frame in the output.
+    pub out_first_frame: u64,
+    /// Where it starts in the source.
+    pub src_start_us: i64,
+    /// Where it starts in the output.
+    pub out_start_us: i64,
+    /// How long it is.
+    pub duration_us: i64,
+    /// Where its capture starts in the source.
+    pub src_capture_start_us: i64,
+    /// Where its capture starts in the output.
+    pub out_capture_start_us: i64,
+    /// How long its capture is.
+    pub capture_duration_us: i64,
+    /// Whether it has a shift.
+    pub shift_present: bool,
+    /// The shift, ignored where there is none.
+    pub clock_shift: i64,
+}
+
 extern "C" {
     pub fn st_is_utc_second(bytes: *const u8, bytes_len: usize) -> bool;
     pub fn st_ticks_to_us(ticks: i64, scale: u64, us: *mut i64) -> u64;
@@ -7,6 +37,7 @@ extern "C" {
     pub fn st_join(words: *const u64, words_len: usize, shifts: *const i64, shifts_len: usize, second_words: *const u64, second_words_len: usize, second_shifts: *const i64, second_shifts_len: usize, out_words: *mut u64, out_words_len: usize, out_shifts: *mut i64, out_shifts_len: usize, rows: *mut u64, index: *mut u64) -> u64;
     pub fn st_merge(words: *const u64, words_len: usize, shifts: *const i64, shifts_len: usize, out_words: *mut u64, out_words_len: usize, out_shifts: *mut i64, out_shifts_len: usize, rows: *mut u64, index: *mut u64) -> u64;
     pub fn st_origin(words: *const u64, words_len: usize, shifts: *const i64, shifts_len: usize, frame: u64, source: *mut u64, source_frame: *mut u64, flag: *mut u64, shift: *mut i64, index: *mut u64) -> u64;
+    pub fn st_segment_of_frame_records(sources: *const u64, sources_len: usize, text: *const u8, text_len: usize, records: *const TrimSegment, records_len: usize, log: bool, frame: u64, segment: *mut u64, index: *mut u64) -> u64;
     pub fn st_mcraw_times(timestamps: *const i64, timestamps_len: usize, starts: *mut i64, starts_len: usize, work: *mut i64, work_len: usize, frames: *mut u64, scale: *mut u64, nominal: *mut i64, end: *mut i64, index: *mut u64) -> u64;
     pub fn st_check(sources: *const u64, sources_len: usize, segments: *const u64, segments_len: usize, times: *const i64, times_len: usize, log: bool, text: *const u8, text_len: usize, frames: *mut u64, index: *mut u64) -> u64;
     pub fn st_segment_of_frame(sources: *const u64, sources_len: usize, segments: *const u64, segments_len: usize, times: *const i64, times_len: usize, log: bool, text: *const u8, text_len: usize, frame: u64, segment: *mut u64, index: *mut u64) -> u64;

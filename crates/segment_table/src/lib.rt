@@ -60,6 +60,7 @@
 // 54 frame past the map
 mod clock;
 mod cutting;
+mod listed;
 mod recordings;
 mod tables;
 mod walk;

@@ -15,6 +15,9 @@
  * segment: source start, out start, duration, source capture start, out capture start, capture duration (microseconds),
  * shift. `log`: the table names a telemetry log. `text`: the creation times' bytes. Words of an absent thing are ignored.
  *
+ * A list of records: the same of a segment as one struct, where its flag is a bool and its times follow the words. Records are
+ * aligned as C aligns them; what lies between their fields is not read.
+ *
  * A map: `words`, five a row: source, source first frame, frame count, out first frame, shift present (0, 1); `shifts`,
  * one a row, 0 where it is absent.
  *
@@ -147,6 +150,43 @@ uint64_t st_check_mcraw(const uint64_t *sources, size_t sources_len, const uint6
                         const uint8_t *text, size_t text_len, const int64_t *timestamps,
                         size_t timestamps_len, int64_t *work_a, size_t work_a_len, int64_t *work_b,
                         size_t work_b_len, uint64_t *frames, uint64_t *index);
+
+/* ---- Lists of records: the lookup over a table whose segments are lent as a list of structs. */
+
+/* A segment as one record, with its times in microseconds: the Rust's TrimSegment. */
+typedef struct st_trim_segment {
+    /* The source's number. */
+    uint64_t source;
+    /* Its first frame in the source. */
+    uint64_t src_first_frame;
+    /* How many frames it has. */
+    uint64_t frame_count;
+    /* Its first frame in the output. */
+    uint64_t out_first_frame;
+    /* Where it starts in the source. */
+    int64_t src_start_us;
+    /* Where it starts in the output. */
+    int64_t out_start_us;
+    /* How long it is. */
+    int64_t duration_us;
+    /* Where its capture starts in the source. */
+    int64_t src_capture_start_us;
+    /* Where its capture starts in the output. */
+    int64_t out_capture_start_us;
+    /* How long its capture is. */
+    int64_t capture_duration_us;
+    /* Whether it has a shift. */
+    bool shift_present;
+    /* The shift, ignored where there is none. */
+    int64_t clock_shift;
+} st_trim_segment;
+
+/* The segment of a frame, over a list of records instead of words; the answer is st_segment_of_frame's.
+ * Lent: the sources' words, the text, the records. Writes segment, index. Refuses: 1 to 17.
+ * A null pointer only with length 0. */
+uint64_t st_segment_of_frame_records(const uint64_t *sources, size_t sources_len, const uint8_t *text,
+                                     size_t text_len, const st_trim_segment *records, size_t records_len,
+                                     bool log, uint64_t frame, uint64_t *segment, uint64_t *index);
 
 /* ---- Frame times: of a movie's video track, and of a MotionCam recording's timestamps. */
 

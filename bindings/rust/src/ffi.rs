@@ -2,6 +2,36 @@
 
 //! The C face itself. `include/segment_table.h` says what each call is lent, writes and refuses.
 
+/// A segment as one record, with its times in microseconds: the Rust's TrimSegment.
+#[repr(C)]
+#[derive(Clone, Copy, Debug, Default, PartialEq, Eq)]
+pub struct TrimSegment {
+    /// The source's number.
+    pub source: u64,
+    /// Its first frame in the source.
+    pub src_first_frame: u64,
+    /// How many frames it has.
+    pub frame_count: u64,
+    /// Its first frame in the output.
+    pub out_first_frame: u64,
+    /// Where it starts in the source.
+    pub src_start_us: i64,
+    /// Where it starts in the output.
+    pub out_start_us: i64,
+    /// How long it is.
+    pub duration_us: i64,
+    /// Where its capture starts in the source.
+    pub src_capture_start_us: i64,
+    /// Where its capture starts in the output.
+    pub out_capture_start_us: i64,
+    /// How long its capture is.
+    pub capture_duration_us: i64,
+    /// Whether it has a shift.
+    pub shift_present: bool,
+    /// The shift, ignored where there is none.
+    pub clock_shift: i64,
+}
+
 extern "C" {
     pub fn st_is_utc_second(bytes: *const u8, bytes_len: usize) -> bool;
     pub fn st_ticks_to_us(ticks: i64, scale: u64, us: *mut i64) -> u64;
@@ -13,6 +43,7 @@ extern "C" {
     pub fn st_validate_constant(sources: *const u64, sources_len: usize, segments: *const u64, segments_len: usize, times: *const i64, times_len: usize, log: bool, text: *const u8, text_len: usize, video_frames: u64, num: u64, den: u64, frames: *mut u64, index: *mut u64) -> u64;
     pub fn st_validate_times(sources: *const u64, sources_len: usize, segments: *const u64, segments_len: usize, times: *const i64, times_len: usize, log: bool, text: *const u8, text_len: usize, scale: u64, starts: *const i64, starts_len: usize, end: i64, nominal: i64, frames: *mut u64, index: *mut u64) -> u64;
     pub fn st_check_mcraw(sources: *const u64, sources_len: usize, segments: *const u64, segments_len: usize, times: *const i64, times_len: usize, log: bool, text: *const u8, text_len: usize, timestamps: *const i64, timestamps_len: usize, work_a: *mut i64, work_a_len: usize, work_b: *mut i64, work_b_len: usize, frames: *mut u64, index: *mut u64) -> u64;
+    pub fn st_segment_of_frame_records(sources: *const u64, sources_len: usize, text: *const u8, text_len: usize, records: *const TrimSegment, records_len: usize, log: bool, frame: u64, segment: *mut u64, index: *mut u64) -> u64;
     pub fn st_mcraw_times(timestamps: *const i64, timestamps_len: usize, starts: *mut i64, starts_len: usize, work: *mut i64, work_len: usize, frames: *mut u64, scale: *mut u64, nominal: *mut i64, end: *mut i64, index: *mut u64) -> u64;
     pub fn st_video_frame_times_of_moov(moov: *const u8, moov_len: usize, starts: *mut i64, starts_len: usize, work_a: *mut i64, work_a_len: usize, work_b: *mut i64, work_b_len: usize, frames: *mut u64, scale: *mut u64, nominal: *mut i64, end: *mut i64) -> u64;
     pub fn st_check(sources: *const u64, sources_len: usize, segments: *const u64, segments_len: usize, times: *const i64, times_len: usize, log: bool, text: *const u8, text_len: usize, frames: *mut u64, index: *mut u64) -> u64;

@@ -27,9 +27,10 @@ mod table;
 mod video;
 mod walk;
 
+pub use ffi::TrimSegment;
 pub use map::{FrameMap, Origin, Row, Rows};
 pub use recording::{mcraw_times, video_frame_times_of_moov, FrameTimes};
-pub use table::{Clock, Segment, Source, Table};
+pub use table::{segment_of_frame_records, Clock, Segment, Source, Table};
 pub use video::Video;
 pub use walk::{box_size, child, find_box, table_text, BoxSize};
 

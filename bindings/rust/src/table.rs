@@ -1,5 +1,5 @@
 //! Segment tables.
-use crate::{answer, FrameMap, Refusal};
+use crate::{answer, ffi, FrameMap, Refusal, TrimSegment};
 
 /// A camera clock: ticks a second as a fraction, and where it wraps.
 #[derive(Clone, Copy, Debug, PartialEq, Eq, Hash)]
@@ -79,19 +79,48 @@ macro_rules! lent {
     };
 }
 
+/// The words of sources, ten each, and the bytes of their creation times.
+fn words_of(sources: &[Source]) -> (Vec<u64>, Vec<u8>) {
+    let mut text = Vec::new();
+    let mut words = Vec::with_capacity(10 * sources.len());
+    for s in sources {
+        let time = s.creation_time.as_deref().unwrap_or("").as_bytes();
+        let clock = s.clock.unwrap_or(Clock { rate: (0, 0), modulus: None });
+        let kind = s.clock.map_or(0, |c| if c.modulus.is_some() { 2 } else { 1 });
+        words.extend([s.frames, s.fps.0, s.fps.1, s.creation_time.is_some() as u64, text.len() as u64, time.len() as u64]);
+        words.extend([kind, clock.rate.0, clock.rate.1, clock.modulus.unwrap_or(0)]);
+        text.extend(time);
+    }
+    (words, text)
+}
+
+/// The segment that has a frame, of a table whose segments are a list of C's records: the answer of
+/// [`Table::segment_of_frame`], without a copy of the segments. Refuses 2 to 17, with the source's or the segment's index.
+///
+/// ```
+/// use segment_table::{segment_of_frame_records, Source, TrimSegment};
+///
+/// let source = Source { frames: 100, fps: (25, 1), creation_time: None, clock: None };
+/// let first = TrimSegment { frame_count: 30, duration_us: 1_200_000, ..TrimSegment::default() };
+/// let second = TrimSegment { frame_count: 20, out_first_frame: 30, out_start_us: 1_200_000, ..TrimSegment::default() };
+/// assert_eq!(segment_of_frame_records(&[source.clone()], &[first, second], false, 30), Ok(1));
+/// assert_eq!(segment_of_frame_records(&[source], &[second], false, 30).unwrap_err().number, 15);
+/// ```
+pub fn segment_of_frame_records(sources: &[Source], records: &[TrimSegment], log: bool, frame: u64) -> Result<usize, Refusal> {
+    let (words, text) = words_of(sources);
+    let (mut segment, mut index) = (0, 0);
+    let number = unsafe {
+        ffi::st_segment_of_frame_records(
+            words.as_ptr(), words.len(), text.as_ptr(), text.len(), records.as_ptr(), records.len(), log, frame, &mut segment, &mut index,
+        )
+    };
+    answer(number, index, segment as usize)
+}
+
 impl Table {
     /// Checks a table; `log` says whether it names a telemetry log. Refuses 2 to 17, with the source's or the segment's index.
     pub fn new(sources: &[Source], segments: &[Segment], log: bool) -> Result<Table, Refusal> {
-        let mut text = Vec::new();
-        let mut words = Vec::with_capacity(10 * sources.len());
-        for s in sources {
-            let time = s.creation_time.as_deref().unwrap_or("").as_bytes();
-            let clock = s.clock.unwrap_or(Clock { rate: (0, 0), modulus: None });
-            let kind = s.clock.map_or(0, |c| if c.modulus.is_some() { 2 } else { 1 });
-            words.extend([s.frames, s.fps.0, s.fps.1, s.creation_time.is_some() as u64, text.len() as u64, time.len() as u64]);
-            words.extend([kind, clock.rate.0, clock.rate.1, clock.modulus.unwrap_or(0)]);
-            text.extend(time);
-        }
+        let (words, text) = words_of(sources);
         let rows = segments.iter().flat_map(|s| [s.source, s.src_first_frame, s.frame_count, s.out_first_frame, s.clock_shift.is_some() as u64]);
         let times = segments.iter().flat_map(|s| {
             let capture = [s.src_capture_start_us, s.out_capture_start_us, s.capture_duration_us, s.clock_shift.unwrap_or(0)];

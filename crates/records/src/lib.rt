@@ -27,19 +27,27 @@ const SOURCE: usize = 10;
 pub struct TrimSegment {
     // The source's number.
     pub source: u64,
-    // Its first frame in the source, how many frames it has, its first frame in the output.
+    // Its first frame in the source.
     pub src_first_frame: u64,
+    // How many frames it has.
     pub frame_count: u64,
+    // Its first frame in the output.
     pub out_first_frame: u64,
-    // The six times.
+    // Where it starts in the source.
     pub src_start_us: i64,
+    // Where it starts in the output.
     pub out_start_us: i64,
+    // How long it is.
     pub duration_us: i64,
+    // Where its capture starts in the source.
     pub src_capture_start_us: i64,
+    // Where its capture starts in the output.
     pub out_capture_start_us: i64,
+    // How long its capture is.
     pub capture_duration_us: i64,
-    // Whether it has a shift, and the shift.
+    // Whether it has a shift.
     pub shift_present: bool,
+    // The shift, ignored where there is none.
     pub clock_shift: i64,
 }
 

@@ -15,6 +15,9 @@
 // segment: source start, out start, duration, source capture start, out capture start, capture duration (microseconds),
 // shift. `log`: the table names a telemetry log. `text`: the creation times' bytes. Words of an absent thing are ignored.
 //
+// A list of records: the same of a segment as one struct, where its flag is a bool and its times follow the words. Records are
+// aligned as C aligns them; what lies between their fields is not read.
+//
 // A map: `words`, five a row: source, source first frame, frame count, out first frame, shift present (0, 1); `shifts`,
 // one a row, 0 where it is absent.
 //
@@ -61,6 +64,7 @@
 mod clock;
 mod cutting;
 mod judging;
+mod listed;
 mod recordings;
 mod tables;
 mod walk;

@@ -28,7 +28,7 @@ pub(crate) fn tell_checked(answer: Checked, frames: &mut u64, index: &mut u64) -
 }
 
 // Tells a segment.
-fn tell_found(answer: Found, segment: &mut u64, index: &mut u64) -> u64
+pub(crate) fn tell_found(answer: Found, segment: &mut u64, index: &mut u64) -> u64
     ensures { λ r. ⌜ (r, now (segment .exit), now (index .exit)) ≡ foundTold answer (now (segment .entry)) ⌝ }
 {
     match answer {

@@ -1,50 +1,75 @@
 //! How long each call takes beside the Rust, on the same input in one run.
 
 use std::hint::black_box;
-use released::segment_table::{ SegmentTable, VideoFrameTimes, VideoFrames, reach };
-use crate::{ case::{ Case, Lent, Map, Table }, generate::{ boxes::{ Form, boxed }, moovs::{ Edits, Head, Moov } }, ours, random::Random, reference, rust };
+use released::segment_table::{ SegmentTable, TrimSegment, VideoFrameTimes, VideoFrames, reach };
+use crate::{ case::{ Call, Case, Lent, Map, Table }, generate::{ boxes::{ Form, boxed }, moovs::{ Edits, Head, Moov } }, ours, plain, random::Random, reference, rust };
 
 /// The microseconds that the turns of one measurement take together, at least
 const LEAST: f64 = 20_000.0;
+/// The lookup over records takes at most this many times as long as the lookup over words
+const MOST_OF_RECORDS: f64 = 10.0;
 
-/// Measures all, and prints a table of medians; whether every input is accepted
+/// What is kept of a line of the table
+struct Line {
+    call: Call,
+    input: String,
+    /// The median of the library's runs, in microseconds
+    library: f64,
+    accepted: bool,
+}
+
+/// Measures all, and prints a table; whether every input is accepted, and the lookup over records is fast enough
 pub fn run(runs: usize) -> bool {
     println!("| call | input | the Rust, µs | library, µs | library / Rust |\n|---|---|---:|---:|---:|");
     let inputs = small().into_iter().chain(tables()).chain(maps());
-    inputs.chain(moovs()).chain(recordings()).fold(true, |all, (input, case)| measured(&input, &case, runs) && all)
+    let lines: Vec<Line> = inputs.chain(moovs()).chain(recordings()).map(|(input, case)| measured(input, &case, runs)).collect();
+    for line in lines.iter().filter(|line| !line.accepted) { eprintln!("compare: {}, {}: not accepted", line.call.name(), line.input); }
+    let fast = !ours::LINKED || records(&lines);
+    fast && lines.iter().all(|line| line.accepted)
 }
 
-/// One line of the table
-fn measured(input: &str, case: &Case, runs: usize) -> bool {
-    let mut rust = rust_side(case);
+/// Prints how the lookup over records stands beside that over words; whether it is fast enough
+fn records(lines: &[Line]) -> bool {
+    let of = |call: Call| lines.iter().filter(move |line| line.call == call);
+    println!();
+    of(Call::SegmentOfFrameRecords).zip(of(Call::SegmentOfFrame)).fold(true, |all, (records, words)| {
+        let ratio = records.library / words.library;
+        println!("{}: the lookup over records takes {ratio:.2} times as long as that over words", words.input);
+        all && ratio <= MOST_OF_RECORDS
+    })
+}
+
+/// Measures one line, and prints it: the medians of both sides, and of the runs' ratios. The sides take turns at being first
+fn measured(input: String, case: &Case, runs: usize) -> Line {
     let mut lent = ours::Lent::of(case);
-    let mut library = || lent.as_mut().map_or(0, |lent| lent.call(case));
-    let accepted = reference::answer(case).number == 0 && library() == 0;
+    let mut rust = rust_side(case);
+    let mut library = lent.as_mut().map_or_else(|| Box::new(|| 0u64) as Work, |lent| lent.ready(case));
+    let accepted = reference::answer(case).number == 0 && library() == 0 && plain_agrees(case);
     let turns = turns(&mut rust);
-    let (mut times, mut ours) = (vec![], vec![]);
-    for _ in 0..runs {
-        times.push(timed(turns, &mut rust));
-        if ours::LINKED { ours.push(timed(turns, &mut library)); }
+    let (mut theirs, mut ours, mut ratios) = (vec![], vec![], vec![]);
+    for run in 0..runs {
+        let first = timed(turns, if run % 2 == 0 { &mut rust } else { &mut library });
+        let second = timed(turns, if run % 2 == 0 { &mut library } else { &mut rust });
+        let (a, b) = if run % 2 == 0 { (first, second) } else { (second, first) };
+        theirs.push(a);
+        ours.push(b);
+        ratios.push(b / a);
     }
-    let name = case.call().name();
-    let rust = median(&mut times);
-    match ours::LINKED {
-        true => { let library = median(&mut ours); println!("| `{name}` | {input} | {rust:.3} | {library:.3} | {:.2} |", library / rust) }
-        false => println!("| `{name}` | {input} | {rust:.3} | | |"),
-    }
-    if !accepted { eprintln!("compare: {name}, {input}: not accepted"); }
-    accepted
+    let (call, rust, library) = (case.call(), median(&mut theirs), median(&mut ours));
+    let said = if ours::LINKED { format!("{library:.3} | {:.2}", median(&mut ratios)) } else { " | ".into() };
+    println!("| `{}` | {input} | {rust:.3} | {said} |", call.name());
+    Line { call, input, library, accepted }
 }
 
 /// How many turns a measurement has
-fn turns(work: &mut dyn FnMut() -> u64) -> u32 {
+fn turns(work: &mut Work) -> u32 {
     let mut turns = 1;
     while turns < 1 << 24 && timed(turns, work) * (turns as f64) < LEAST { turns *= 2; }
     turns
 }
 
 /// Microseconds a turn
-fn timed(turns: u32, work: &mut dyn FnMut() -> u64) -> f64 {
+fn timed(turns: u32, work: &mut Work) -> f64 {
     let began = processor_time();
     for _ in 0..turns { black_box(work()); }
     (processor_time() - began) / turns as f64
@@ -64,9 +89,11 @@ fn median(times: &mut [f64]) -> f64 {
     times[times.len() / 2]
 }
 
+type Work<'a> = Box<dyn FnMut() -> u64 + 'a>;
+
 /// The Rust's work for a case. The library checks a table before it looks anything up, so the Rust is made to; maps, and the
 /// rows of a table, are plain Rust of our own
-fn rust_side(case: &Case) -> Box<dyn FnMut() -> u64 + '_> {
+fn rust_side(case: &Case) -> Work<'_> {
     let parsed = |table: &Lent| SegmentTable::parse(rust::json(&table.table).unwrap().as_bytes()).unwrap();
     let checked = |table: &SegmentTable| assert!(reach::check(black_box(table)));
     match case {
@@ -94,8 +121,52 @@ fn rust_side(case: &Case) -> Box<dyn FnMut() -> u64 + '_> {
         Case::TableText { file } => Box::new(|| reach::table_places(black_box(file))[0].0),
         Case::VideoFrameTimesOfMoov { moov, .. } => Box::new(|| reach::video_frame_times_of_moov(black_box(moov)).unwrap().starts.len() as u64),
         Case::McrawTimes { timestamps, .. } => Box::new(|| reach::mcraw_times(black_box(timestamps)).unwrap().starts.len() as u64),
-        _ => Box::new(|| reference::answer(black_box(case)).values[0] as u64),
+        Case::RowsOfTable { table, .. } => {
+            let (t, mut out) = (parsed(table), Vec::new());
+            Box::new(move || { checked(&t); out.clear(); out.extend(t.segments.iter().map(row)); black_box(&out).len() as u64 })
+        }
+        Case::ValidateNoVideo { .. } => unreachable!("it is never accepted"),
+        Case::Cut { .. } | Case::Join { .. } | Case::Merge { .. } | Case::Origin { .. } => plain_side(case),
     }
+}
+
+fn row(segment: &TrimSegment) -> plain::Row {
+    plain::Row {
+        source: segment.source as u64,
+        source_first: segment.src_first_frame,
+        count: segment.frame_count,
+        out_first: segment.out_first_frame,
+        flag: segment.clock_shift.is_some() as u64,
+        shift: segment.clock_shift.unwrap_or(0),
+    }
+}
+
+/// The plain Rust's work for a map
+fn plain_side(case: &Case) -> Work<'_> {
+    let mut out = Vec::new();
+    match case {
+        Case::Cut { map, a, b, .. } => { let rows = plain::rows(map); Box::new(move || plain::cut(black_box(&rows), *a, *b, black_box(&mut out)).unwrap() as u64) }
+        Case::Join { first, second, .. } => {
+            let (first, second) = (plain::rows(first), plain::rows(second));
+            Box::new(move || plain::join(black_box(&first), black_box(&second), black_box(&mut out)).unwrap() as u64)
+        }
+        Case::Merge { map, .. } => { let rows = plain::rows(map); Box::new(move || plain::merge(black_box(&rows), black_box(&mut out)).unwrap() as u64) }
+        Case::Origin { map, frame } => { let rows = plain::rows(map); Box::new(move || plain::origin(black_box(&rows), *frame).unwrap().1) }
+        _ => unreachable!(),
+    }
+}
+
+/// Whether the plain Rust of a map answers what document 01 says
+fn plain_agrees(case: &Case) -> bool {
+    let mut out = Vec::new();
+    let done = match case {
+        Case::Cut { map, a, b, .. } => plain::cut(&plain::rows(map), *a, *b, &mut out),
+        Case::Join { first, second, .. } => plain::join(&plain::rows(first), &plain::rows(second), &mut out),
+        Case::Merge { map, .. } => plain::merge(&plain::rows(map), &mut out),
+        _ => return true,
+    };
+    let answer = reference::answer(case);
+    done.is_ok() && out == plain::rows(&Map { words: answer.words, shifts: answer.longs })
 }
 
 type Inputs = Vec<(String, Case)>;

@@ -7,6 +7,7 @@ mod document;
 mod generate;
 mod media;
 mod ours;
+mod plain;
 mod random;
 mod reference;
 mod replay;

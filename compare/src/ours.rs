@@ -16,5 +16,6 @@ pub enum Lent {}
 impl Lent {
     pub fn of(_: &crate::case::Case) -> Option<Self> { None }
     pub fn call(&mut self, _: &crate::case::Case) -> u64 { match *self {} }
+    pub fn ready<'a>(&'a mut self, _: &'a crate::case::Case) -> Box<dyn FnMut() -> u64 + 'a> { match *self {} }
     pub fn outcome(self, _: &crate::case::Case, _: u64) -> crate::case::Outcome { match self {} }
 }

@@ -97,17 +97,19 @@ fn mut_ptr<T>(slice: &mut [T]) -> *mut T { if slice.is_empty() { null_mut() } el
 macro_rules! with_table {
     ($name:ident, $table:expr, $($arg:expr),*) => {{
         let t: &Table = &$table.table;
-        $name(
-            ptr(&t.sources), t.sources.len(), ptr(&t.segments), t.segments.len(), ptr(&t.times), t.times.len(),
-            t.log, ptr(&t.text), t.text.len(), $($arg),*
-        )
+        unsafe {
+            $name(
+                ptr(&t.sources), t.sources.len(), ptr(&t.segments), t.segments.len(), ptr(&t.times), t.times.len(),
+                t.log, ptr(&t.text), t.text.len(), $($arg),*
+            )
+        }
     }};
 }
 
 /// Calls a function with a map's slices, then the arguments
 macro_rules! with_map {
     ($name:ident, $map:expr, $($arg:expr),*) => {
-        $name(ptr(&$map.words), $map.words.len(), ptr(&$map.shifts), $map.shifts.len(), $($arg),*)
+        unsafe { $name(ptr(&$map.words), $map.words.len(), ptr(&$map.shifts), $map.shifts.len(), $($arg),*) }
     };
 }
 
@@ -129,6 +131,9 @@ fn records(table: &Table) -> Option<Vec<TrimSegment>> {
         clock_shift: t[6],
     }).collect())
 }
+
+/// A call of the library with all that is lent to it
+pub type Ready<'a> = Box<dyn FnMut() -> u64 + 'a>;
 
 /// The words and slices that are lent to a call
 pub struct Lent {
@@ -160,89 +165,90 @@ impl Lent {
     }
 
     /// Calls the library; the number
-    pub fn call(&mut self, case: &Case) -> u64 {
+    pub fn call(&mut self, case: &Case) -> u64 { self.ready(case)() }
+
+    /// The call, made as often as it is run; each answers the number
+    pub fn ready<'a>(&'a mut self, case: &'a Case) -> Ready<'a> {
         match case {
             Case::Check { .. } | Case::SegmentOfFrame { .. } | Case::SegmentOfFrameRecords { .. } | Case::SegmentOfTimeUs { .. }
-                | Case::Continues { .. } | Case::RowsOfTable { .. } => self.call_table(case),
-            Case::ValidateNoVideo { .. } | Case::ValidateConstant { .. } | Case::ValidateTimes { .. } | Case::CheckMcraw { .. } => self.call_judge(case),
-            Case::Cut { .. } | Case::Join { .. } | Case::Merge { .. } | Case::Origin { .. } => self.call_maps(case),
-            _ => self.call_rest(case),
+                | Case::Continues { .. } | Case::RowsOfTable { .. } => self.of_table(case),
+            Case::ValidateNoVideo { .. } | Case::ValidateConstant { .. } | Case::ValidateTimes { .. } | Case::CheckMcraw { .. } => self.of_judge(case),
+            Case::Cut { .. } | Case::Join { .. } | Case::Merge { .. } | Case::Origin { .. } => self.of_maps(case),
+            _ => self.of_the_rest(case),
         }
     }
 
-    fn call_table(&mut self, case: &Case) -> u64 {
+    fn of_table<'a>(&'a mut self, case: &'a Case) -> Ready<'a> {
         let (value, index) = (&mut self.u[0], &mut self.index);
         let (words, shifts) = (&mut self.words, &mut self.longs[0]);
-        unsafe {
-            match case {
-                Case::Check { table } => with_table!(st_check, table, value, index),
-                Case::SegmentOfFrame { table, frame } => with_table!(st_segment_of_frame, table, *frame, value, index),
-                Case::SegmentOfTimeUs { table, time } => with_table!(st_segment_of_time_us, table, *time, value, index),
-                Case::Continues { table, segment } => with_table!(st_continues, table, *segment, value, index),
-                Case::RowsOfTable { table, .. } => with_table!(st_rows_of_table, table, mut_ptr(words), words.len(), mut_ptr(shifts), shifts.len(), value, index),
-                Case::SegmentOfFrameRecords { table, frame } => {
-                    let (t, records) = (&table.table, &self.records);
+        match case {
+            Case::Check { table } => Box::new(move || with_table!(st_check, table, value, index)),
+            Case::SegmentOfFrame { table, frame } => Box::new(move || with_table!(st_segment_of_frame, table, *frame, value, index)),
+            Case::SegmentOfTimeUs { table, time } => Box::new(move || with_table!(st_segment_of_time_us, table, *time, value, index)),
+            Case::Continues { table, segment } => Box::new(move || with_table!(st_continues, table, *segment, value, index)),
+            Case::RowsOfTable { table, .. } => Box::new(move || with_table!(st_rows_of_table, table, mut_ptr(words), words.len(), mut_ptr(shifts), shifts.len(), value, index)),
+            Case::SegmentOfFrameRecords { table, frame } => {
+                let (t, records) = (&table.table, &self.records);
+                Box::new(move || unsafe {
                     st_segment_of_frame_records(ptr(&t.sources), t.sources.len(), ptr(&t.text), t.text.len(), ptr(records), records.len(), t.log, *frame, value, index)
-                }
-                _ => unreachable!(),
+                })
             }
+            _ => unreachable!(),
         }
     }
 
-    fn call_judge(&mut self, case: &Case) -> u64 {
+    fn of_judge<'a>(&'a mut self, case: &'a Case) -> Ready<'a> {
         let (value, index) = (&mut self.u[0], &mut self.index);
         let [a, b, _] = &mut self.longs;
-        unsafe {
-            match case {
-                Case::ValidateNoVideo { table } => with_table!(st_validate_no_video, table, index),
-                Case::ValidateConstant { table, frames, num, den } => with_table!(st_validate_constant, table, *frames, *num, *den, value, index),
-                Case::ValidateTimes { table, scale, starts, end, nominal } => with_table!(st_validate_times, table, *scale, ptr(starts), starts.len(), *end, *nominal, value, index),
-                Case::CheckMcraw { table, timestamps, .. } => {
-                    with_table!(st_check_mcraw, table, ptr(timestamps), timestamps.len(), mut_ptr(a), a.len(), mut_ptr(b), b.len(), value, index)
-                }
-                _ => unreachable!(),
+        match case {
+            Case::ValidateNoVideo { table } => Box::new(move || with_table!(st_validate_no_video, table, index)),
+            Case::ValidateConstant { table, frames, num, den } => Box::new(move || with_table!(st_validate_constant, table, *frames, *num, *den, value, index)),
+            Case::ValidateTimes { table, scale, starts, end, nominal } => {
+                Box::new(move || with_table!(st_validate_times, table, *scale, ptr(starts), starts.len(), *end, *nominal, value, index))
             }
+            Case::CheckMcraw { table, timestamps, .. } => {
+                Box::new(move || with_table!(st_check_mcraw, table, ptr(timestamps), timestamps.len(), mut_ptr(a), a.len(), mut_ptr(b), b.len(), value, index))
+            }
+            _ => unreachable!(),
         }
     }
 
-    fn call_maps(&mut self, case: &Case) -> u64 {
+    fn of_maps<'a>(&'a mut self, case: &'a Case) -> Ready<'a> {
         let ([value, source_frame, flag], [shift, _], index) = (&mut self.u, &mut self.i, &mut self.index);
         let (words, shifts) = (&mut self.words, &mut self.longs[0]);
         let (room, more) = (words.len(), shifts.len());
         let (words, shifts) = (mut_ptr(words), mut_ptr(shifts));
-        unsafe {
-            match case {
-                Case::Cut { map, a, b, .. } => with_map!(st_cut, map, *a, *b, words, room, shifts, more, value, index),
-                Case::Join { first, second, .. } => {
-                    with_map!(st_join, first, ptr(&second.words), second.words.len(), ptr(&second.shifts), second.shifts.len(), words, room, shifts, more, value, index)
-                }
-                Case::Merge { map, .. } => with_map!(st_merge, map, words, room, shifts, more, value, index),
-                Case::Origin { map, frame } => with_map!(st_origin, map, *frame, value, source_frame, flag, shift, index),
-                _ => unreachable!(),
-            }
+        match case {
+            Case::Cut { map, a, b, .. } => Box::new(move || with_map!(st_cut, map, *a, *b, words, room, shifts, more, value, index)),
+            Case::Join { first, second, .. } => Box::new(move || {
+                with_map!(st_join, first, ptr(&second.words), second.words.len(), ptr(&second.shifts), second.shifts.len(), words, room, shifts, more, value, index)
+            }),
+            Case::Merge { map, .. } => Box::new(move || with_map!(st_merge, map, words, room, shifts, more, value, index)),
+            Case::Origin { map, frame } => Box::new(move || with_map!(st_origin, map, *frame, value, source_frame, flag, shift, index)),
+            _ => unreachable!(),
         }
     }
 
-    fn call_rest(&mut self, case: &Case) -> u64 {
-        let ([a, b, _], [c, d], [starts, one, two]) = (&mut self.u, &mut self.i, &mut self.longs);
+    fn of_the_rest<'a>(&'a mut self, case: &'a Case) -> Ready<'a> {
+        let ([a, b, _], [c, d], [starts, one, two], index) = (&mut self.u, &mut self.i, &mut self.longs, &mut self.index);
         let rooms = [starts.len(), one.len(), two.len()];
         let (starts, one, two) = (mut_ptr(starts), mut_ptr(one), mut_ptr(two));
-        unsafe {
-            match case {
-                Case::IsUtcSecond { bytes } => { *a = st_is_utc_second(ptr(bytes), bytes.len()) as u64; 0 }
-                Case::TicksToUs { ticks, scale } => st_ticks_to_us(*ticks, *scale, c),
-                Case::BoxSize { data, remaining } => st_box_size(ptr(data), data.len(), *remaining, a, b),
-                Case::Child { payload, kind } => st_child(ptr(payload), payload.len(), *kind, a, b),
-                Case::FindBox { bytes, from, to, kind, text_types } => st_find_box(ptr(bytes), bytes.len(), *from, *to, *kind, *text_types, a, b),
-                Case::TableText { file } => st_table_text(ptr(file), file.len(), a, b),
-                Case::VideoFrameTimesOfMoov { moov, .. } => {
-                    st_video_frame_times_of_moov(ptr(moov), moov.len(), starts, rooms[0], one, rooms[1], two, rooms[2], a, b, c, d)
-                }
-                Case::McrawTimes { timestamps, .. } => {
-                    st_mcraw_times(ptr(timestamps), timestamps.len(), starts, rooms[0], one, rooms[1], a, b, c, d, &mut self.index)
-                }
-                _ => unreachable!(),
+        match case {
+            Case::IsUtcSecond { bytes } => Box::new(move || { *a = unsafe { st_is_utc_second(ptr(bytes), bytes.len()) } as u64; 0 }),
+            Case::TicksToUs { ticks, scale } => Box::new(move || unsafe { st_ticks_to_us(*ticks, *scale, c) }),
+            Case::BoxSize { data, remaining } => Box::new(move || unsafe { st_box_size(ptr(data), data.len(), *remaining, a, b) }),
+            Case::Child { payload, kind } => Box::new(move || unsafe { st_child(ptr(payload), payload.len(), *kind, a, b) }),
+            Case::FindBox { bytes, from, to, kind, text_types } => {
+                Box::new(move || unsafe { st_find_box(ptr(bytes), bytes.len(), *from, *to, *kind, *text_types, a, b) })
             }
+            Case::TableText { file } => Box::new(move || unsafe { st_table_text(ptr(file), file.len(), a, b) }),
+            Case::VideoFrameTimesOfMoov { moov, .. } => Box::new(move || unsafe {
+                st_video_frame_times_of_moov(ptr(moov), moov.len(), starts, rooms[0], one, rooms[1], two, rooms[2], a, b, c, d)
+            }),
+            Case::McrawTimes { timestamps, .. } => Box::new(move || unsafe {
+                st_mcraw_times(ptr(timestamps), timestamps.len(), starts, rooms[0], one, rooms[1], a, b, c, d, index)
+            }),
+            _ => unreachable!(),
         }
     }
 

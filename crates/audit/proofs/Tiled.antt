@@ -15,13 +15,13 @@ use Rattle.choice.specs.declared.Refusal.the-variants.{Never, At}
 use Rattle.choice.specs.Choice.{when}
 use Rattle.choice.specs.Records.{orRefused}
 use Rattle.choice.proofs.Runs.{getD-run}
+use Rattle.slices.specs.Slices.{after}
 use Rattle.rows.specs.declared.Row.{Row}
 use Rattle.rows.specs.Rows.{end, total, origin, WellFormed}
 use Rattle.rows.specs.Lent.{rowAt, rows, wordsOf, shiftsOf}
-use Rattle.rows.specs.Demands.{Tiles}
 use Rattle.rows.proofs.Demanded.{demanded}
 use Rattle.rows.proofs.Flat.{length-words, length-shifts, rows-flat}
-use Rattle.rules.specs.declared.Checked.the-variants.{Frames, Refused}
+use Rattle.rules.specs.declared.Checked.the-variants.{Frames}
 use Rattle.rules.specs.declared.Found.the-variants.{Index}
 use Rattle.rules.specs.Records.{Table, noSegment, segment}
 use Rattle.rules.specs.Lookups.{ended, overBy, found, segmentOfFrame}
@@ -30,16 +30,16 @@ use Rattle.rules.specs.Rules.{refusal, answered, checkOf}
 use Rattle.rules.proofs.Accepted.{accepted}
 use Rattle.rules.proofs.Holder.{Holds, holder}
 use Rattle.table.specs.declared.Filled.{Filled}
-use Rattle.table.specs.declared.Filled.the-variants.{Rows, NoRows}
-use Rattle.table.specs.Rows.{rowOf, rowsOf, rowsRefusal, tooSmall, filled, after, Rowed}
+use Rattle.table.specs.declared.Filled.the-variants.{Rows}
+use Rattle.table.specs.Rows.{rowOf, rowsOf, rowsRefusal, filled, Rowed}
 use Rattle.table.proofs.Mapped.{mapped}
 use Rattle.maps.specs.declared.Traced.{Traced}
 use Rattle.maps.specs.declared.Traced.the-variants as traced
 use Rattle.maps.specs.declared.Mapped.the-variants as answers
 use Rattle.maps.specs.Answers.{tracedOf, originRefusal, Cut, Trace}
-use Rattle.maps.specs.Laws.{LentMap, Found}
+use Rattle.maps.specs.Laws.{LentMap}
 use Rattle.maps.proofs.Lawful.{lawful}
-use Rattle.audit.specs.Words.{Lent, table, written}
+use Rattle.audit.specs.Words.{table, written}
 use Rattle.audit.specs.Claims.{told, Origins}
 
 -- an accepted check is refused nothing
@@ -77,13 +77,11 @@ module _ (t : Table) (N k : ℕ) (ou ou′ : List ℕ) (os os′ : List ℤ) (c 
   rows-count = filled-of _ (length (t .segments)) k (p .answer) .1 ∙ sym (mapped t .each)
 
   words-are : take (5 * k) ou′ ≡ wordsOf (rowsOf t)
-  unfolding after
   words-are =
       ap (take (5 * k)) (p .words ∙ ap (λ (y : Refusal). after y (wordsOf (rowsOf t)) ou) none)
       ∙ take-at (wordsOf (rowsOf t)) (drop (length (wordsOf (rowsOf t))) ou) (5 * k) (length-words (rowsOf t) ∙ ap (λ (n : ℕ). 5 * n) (sym rows-count))
 
   shifts-are : take k os′ ≡ shiftsOf (rowsOf t)
-  unfolding after
   shifts-are =
       ap (take k) (p .shifts ∙ ap (λ (y : Refusal). after y (shiftsOf (rowsOf t)) os) none)
       ∙ take-at (shiftsOf (rowsOf t)) (drop (length (shiftsOf (rowsOf t))) os) k (length-shifts (rowsOf t) ∙ sym rows-count)

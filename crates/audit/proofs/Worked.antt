@@ -23,7 +23,7 @@ use Rattle.rules.specs.Records.{noSource, noSegment, total}
 use Rattle.rules.specs.Rules.{badSource, badSegment, malformed, sourceRefusal, timesOf as stampTimes, judged, segmentRefusal, start, endsOf, ends, segmentsFrom, frontRefusal, refusal, answered, checkOf}
 use Rattle.rules.specs.Lookups.{count, ended, found, segmentOfFrame, segmentOfTime}
 use Rattle.table.specs.Layout.{sourcesOf, segmentsOf, tableOf}
-use Rattle.table.specs.Rows.{rowOf, rowsOf, rowsRefusal, filled, after}
+use Rattle.table.specs.Rows.{rowOf, rowsOf, rowsRefusal, filled}
 use Rattle.judge.specs.Video.{shownBy}
 use Rattle.judge.specs.Judge.{startsAt, startRefusal, videoRefusal, validateOf}
 use Rattle.maps.specs.Answers.{firstBad, mapRefusal, roomRefusal, cutRefusal, joinRefusal, mergeRefusal, originRefusal}
@@ -41,5 +41,5 @@ started : {ts starts work starts′ work′ : List ℤ} {r : Times} → Answered
 started {ts} {starts} p = p .laid-out ∙ ap (λ (x : Times). laid (written x ts) starts) (p .answer)
 
 pub all-hold : All Holds examples
-unfolding when past run any firstRefused orRefused two days utcBytes utcSecond microsOf usOf ticksToUs endsNear startsAt startRefusal videoRefusal validateOf shownBy mediaTicks ofBits insert sorted countBy firstOf mode fittingIn sizeOf headerAt boxesFrom boxesAt firstSuch isVideo isVideoTrack scaleOf tableRows optionalRows entriesFrom entriesTotal perFrame lineAt keptLine twoLines linesOf elstOf editOf framesFrom kept lastOf placed shown ofKept ofTables ofMedia ofTrack moovTimes noSource noSegment total badSource badSegment malformed sourceRefusal stampTimes judged segmentRefusal start endsOf ends segmentsFrom frontRefusal refusal answered checkOf count ended found segmentOfFrame segmentOfTime sourcesOf segmentsOf tableOf rowOf rowsOf rowsRefusal filled after firstBad mapRefusal roomRefusal cutRefusal joinRefusal mergeRefusal originRefusal gaps startsOf span nominal end fallOf refusalOf timesUnless timesOf written
+unfolding when past run any firstRefused orRefused two days utcBytes utcSecond microsOf usOf ticksToUs endsNear startsAt startRefusal videoRefusal validateOf shownBy mediaTicks ofBits insert sorted countBy firstOf mode fittingIn sizeOf headerAt boxesFrom boxesAt firstSuch isVideo isVideoTrack scaleOf tableRows optionalRows entriesFrom entriesTotal perFrame lineAt keptLine twoLines linesOf elstOf editOf framesFrom kept lastOf placed shown ofKept ofTables ofMedia ofTrack moovTimes noSource noSegment total badSource badSegment malformed sourceRefusal stampTimes judged segmentRefusal start endsOf ends segmentsFrom frontRefusal refusal answered checkOf count ended found segmentOfFrame segmentOfTime sourcesOf segmentsOf tableOf rowOf rowsOf rowsRefusal filled firstBad mapRefusal roomRefusal cutRefusal joinRefusal mergeRefusal originRefusal gaps startsOf span nominal end fallOf refusalOf timesUnless timesOf written
 all-hold = (λ r p. p, (λ r p. p, (λ r p. p, (λ r p. p, (λ r p. p, (λ r p. p, (λ r p. p, (λ r p. p, (λ r p. p, (λ r p. p, (λ r p. p, (λ r p. p, (λ r p. p, (λ r p. p, (λ r p. p, (λ r p. p, (λ r p. p, (λ r p. p, (λ r ou os p. (p .answer, wrote 2 _ (p .words) (p .shifts) refl), (λ r ou os p. (p .answer, wrote 2 _ (p .words) (p .shifts) refl), (λ r ou os p. (p .answer, wrote 2 _ (p .words) (p .shifts) refl), (λ r ou os p. (p .answer, wrote 2 _ (p .words) (p .shifts) refl), (λ r starts′ a′ b′ p. (p .answer, p .starts), (λ r starts′ a′ b′ p. (p .answer, p .starts), (λ r starts′ a′ b′ p. (p .answer, p .starts), (λ r starts′ a′ b′ p. (p .answer, p .starts), (λ r starts′ work′ p. (p .answer, started p), (λ r p. p, (λ r p. p, (λ r ou os p. (p .answer, wrote 3 _ (p .words) (p .shifts) refl), (λ r ou os p. (p .answer, wrote 3 _ (p .words) (p .shifts) refl), (λ r ou os p. (p .answer, wrote 3 _ (p .words) (p .shifts) refl), (λ r ou os p. (p .answer, wrote 3 _ (p .words) (p .shifts) refl), (λ r p. p, (λ r p. p, (λ r p. p, (λ r ou os p. (p .answer, wrote 2 _ (p .words) (p .shifts) refl), (λ r ou os p. (p .answer, wrote 2 _ (p .words) (p .shifts) refl), (λ r ou os p. (p .answer, wrote 4 _ (p .words) (p .shifts) refl), (λ r ou os p. (p .answer, wrote 3 _ (p .words) (p .shifts) refl), (λ r ou os p. (p .answer, wrote 2 _ (p .words) (p .shifts) refl), (λ r ou os p. (p .answer, wrote 1 _ (p .words) (p .shifts) refl), (λ r ou os p. (p .answer, wrote 2 _ (p .words) (p .shifts) refl), (λ r ou os p. (p .answer, wrote 2 _ (p .words) (p .shifts) refl), tt))))))))))))))))))))))))))))))))))))))))))))

@@ -4,7 +4,7 @@ use mathlib.Core.Bool.{Bool, true, false}
 use mathlib.Core.List.{List, [], _∷_, _++_}
 use mathlib.Core.Path.{_≡_}
 use lib.IntN.{ℤ, pos, negℤ}
-use lib.ListN.{take, replicate, length}
+use lib.ListN.{replicate, length}
 use Rattle.ticks.specs.declared.Us.{Us}
 use Rattle.ticks.specs.declared.Us.the-variants.{At}
 use Rattle.rows.specs.declared.Row.{Row}

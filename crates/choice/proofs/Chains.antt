@@ -15,11 +15,6 @@ orElse-kept zero rest h = absurd (h refl)
 orElse-kept (suc n) rest h = refl
 
 -- no test of a chain held
-pub orElse-zero : (a b : ℕ) → orElse a b ≡ 0 → (a ≡ 0) × (b ≡ 0)
-unfolding orElse
-orElse-zero zero b e = (refl, e)
-orElse-zero (suc a) b e = let z : _≡_ {A = ℕ} 0 1 = cc in absurd (omega arith)
-
 pub when-zero : (b : Bool) (n rest : ℕ) → (n ≡ 0 → ⊥) → when b n rest ≡ 0 → (b ≡ false) × (rest ≡ 0)
 unfolding when
 when-zero true n rest h e = absurd (h e)

@@ -9,7 +9,7 @@ use lib.ListN.{length, getD}
 use Rattle.signed.specs.Signed.{I64}
 use Rattle.rules.specs.declared.Checked.{Checked}
 use Rattle.rules.specs.declared.Checked.the-variants.{Frames}
-use Rattle.rules.specs.Records.{Table, segment, outEndUs}
+use Rattle.rules.specs.Records.{Table, outEndUs}
 use Rattle.rules.specs.Rules.{checkOf}
 use Rattle.rules.proofs.Accepted.{Accepted, accepted}
 use Rattle.table.specs.Layout.{sourceWords, tableOf}

@@ -4,7 +4,7 @@ use native.Mathlib.Omega.{arith}
 use mathlib.Core.List.{List, [], _∷_, _++_, map}
 use mathlib.Core.Path.{_≡_, refl, sym, _∙_, ap}
 use lib.IntN.{ℤ}
-use lib.ListN.{length, take, drop, length-append, length-take, length-drop, length-map}
+use lib.ListN.{length, take, drop, length-append, length-map}
 use Rattle.choice.specs.Records.{run}
 use Rattle.choice.proofs.Runs.{length-run}
 use Rattle.slices.specs.Slices.{laid}
@@ -48,9 +48,6 @@ module _ {u : List ℕ} {s : List ℤ} {v : List ℕ} {t : List ℤ} where
 
 -- what is lent is ou and os; l₁ and m₁ are it with the first map written
 module _ (u : List ℕ) (s : List ℤ) (v : List ℕ) (t : List ℤ) (ou : List ℕ) (os : List ℤ) (room : Room (length s + length t) ou os) where
-  pub room-first : Room (length s) ou os
-  room-first = record { words = omega (arith, room .words); shifts = omega (arith, room .shifts) }
-
   module _ (l₁ : List ℕ) (m₁ : List ℤ) (e : l₁ ≡ laid (wordsOf (later u s 0)) ou) (f : m₁ ≡ laid (shiftsOf (later u s 0)) os) where
     first-words : l₁ ≡ laid (wordsOf (rows u s)) ou
     first-words = e ∙ ap (λ (x : List Row). laid (wordsOf x) ou) (later-none u s)
@@ -72,15 +69,6 @@ module _ (u : List ℕ) (s : List ℤ) (v : List ℕ) (t : List ℤ) (ou : List 
 
     pub within : (5 * length s ≤ length l₁) × (length s ≤ length m₁)
     within = omega (arith, lengths, room .words, room .shifts)
-
-    pub room-second : Room (length t) (take (length l₁ - 5 * length s) (drop (5 * length s) l₁)) (take (length m₁ - length s) (drop (length s) m₁))
-    room-second =
-        let a = lengths in
-        let x = length-take (length l₁ - 5 * length s) (drop (5 * length s) l₁) in
-        let x′ = length-drop (5 * length s) l₁ in
-        let z = length-take (length m₁ - length s) (drop (length s) m₁) in
-        let z′ = length-drop (length s) m₁ in
-        record { words = omega (arith, room .words); shifts = omega (arith, room .shifts) }
 
     module _ (d : ℕ) (total-is : d ≡ total (rows u s)) where
       later-is : later v t d ≡ map (moved (total (rows u s))) (rows v t)

@@ -8,13 +8,14 @@ use lib.ListN.{length, take, drop}
 use lib.Seq.{take-at, drop-at}
 use Rattle.choice.specs.declared.Refusal.{Refusal}
 use Rattle.choice.specs.declared.Refusal.the-variants.{Never, At}
+use Rattle.slices.specs.Slices.{after}
 use Rattle.rows.specs.declared.Row.{Row}
 use Rattle.rows.specs.Rows.{total, WellFormed}
 use Rattle.rows.proofs.Demanded.{demanded}
 use Rattle.maps.specs.declared.Mapped.{Mapped}
 use Rattle.maps.specs.declared.Mapped.the-variants.{Rows, Refused}
 use Rattle.rows.specs.Lent.{rows, words, wordsOf, shiftsOf}
-use Rattle.maps.specs.Answers.{mostRows, answered, after, Placed}
+use Rattle.maps.specs.Answers.{mostRows, answered, Placed}
 use Rattle.maps.specs.Laws.{Wrote, AsLent}
 use Rattle.rows.proofs.Flat.{length-words, length-shifts, rows-flat}
 

@@ -10,7 +10,7 @@ use Rattle.choice.specs.Choice.{when, past}
 use Rattle.choice.specs.Records.{orRefused}
 use Rattle.choice.specs.declared.Refusal.{Refusal}
 use Rattle.choice.specs.declared.Refusal.the-variants.{Never, At}
-use Rattle.slices.specs.Slices.{laid}
+use Rattle.slices.specs.Slices.{after}
 use Rattle.rows.specs.declared.Row.{Row}
 use Rattle.rows.specs.Rows.{largest, total, okRow, Origin, nowhere, from, origin, cut, join, merge}
 use Rattle.maps.specs.declared.Mapped.{Mapped}
@@ -101,11 +101,6 @@ originRefusal u s k =
 abbrev pub answered : Refusal → List Row → Mapped
 answered Never m = Rows (length m)
 answered (At n i) m = Refused n i
-
--- a lent slice afterwards: p over its first elements, or as it was
-abbrev pub after : {A : Type 0} → Refusal → List A → List A → List A
-after Never p o = laid p o
-after (At n i) p o = o
 
 -- rows m were asked for: the answer r, and the words and shifts that were lent for them, before and afterwards
 pub record Placed (refusal : Refusal) (m : List Row) (ou : List ℕ) (os : List ℤ) (r : Mapped) (ou′ : List ℕ) (os′ : List ℤ) : Type 0 where

@@ -1,5 +1,4 @@
 // Frame maps, origins and refusals as text on standard output, for programs.
-use libc::STDOUT_FILENO;
 use maps::Traced;
 
 // The rows that a map may have.
@@ -8,40 +7,22 @@ const MOST_ROWS: usize = 1024;
 // 2^64 - 1.
 const LARGEST: u64 = 0xffff_ffff_ffff_ffff;
 
-// Text, to standard output.
-pub fn say(text: &[u8]) {
-    io::write_all(STDOUT_FILENO, text);
-}
-
-// A number in decimal.
-pub fn say_number(n: u64) {
-    io::print_decimal(STDOUT_FILENO, n);
-}
-
-// A signed number in decimal.
-pub fn say_signed(x: i64) {
-    if signed::negative(x) {
-        say(b"-");
-    }
-    say_number(signed::magnitude(x));
-}
-
 // A refusal, by its number and index.
 pub fn refuse(number: u64, index: usize) {
-    say(b"refused ");
-    say_number(number);
-    say(b" at ");
-    say_number(index as u64);
-    say(b"\n");
+    printing::text(b"refused ");
+    printing::number(number);
+    printing::text(b" at ");
+    printing::number(index as u64);
+    printing::text(b"\n");
 }
 
 // What is wrong with a line, by its number.
 pub fn fault(line: usize, what: &[u8]) {
-    say(b"line ");
-    say_number(line as u64);
-    say(b": ");
-    say(what);
-    say(b"\n");
+    printing::text(b"line ");
+    printing::number(line as u64);
+    printing::text(b": ");
+    printing::text(what);
+    printing::text(b"\n");
 }
 
 // The words of the first n rows.
@@ -70,24 +51,24 @@ fn after(a: u64, n: u64) -> u64 {
 
 // Frames from a first one on, as first..end.
 fn say_frames(first: u64, count: u64) {
-    say_number(first);
-    say(b"..");
-    say_number(after(first, count));
+    printing::number(first);
+    printing::text(b"..");
+    printing::number(after(first, count));
 }
 
 // A row: its source, source frames, output frames, and its shift where it has one.
 fn say_row(source: u64, first: u64, count: u64, out: u64, flag: u64, shift: i64) {
-    say(b"source ");
-    say_number(source);
-    say(b" frames ");
+    printing::text(b"source ");
+    printing::number(source);
+    printing::text(b" frames ");
     say_frames(first, count);
-    say(b" at ");
+    printing::text(b" at ");
     say_frames(out, count);
     if flag == 1 {
-        say(b", shift ");
-        say_signed(shift);
+        printing::text(b", shift ");
+        printing::signed(shift);
     }
-    say(b"\n");
+    printing::text(b"\n");
 }
 
 // Row i of a map.
@@ -116,17 +97,17 @@ pub fn say_origin(frame: u64, from: Traced) {
     match from {
         Traced::Refused(n, i) => refuse(n, i),
         Traced::From(source, at, flag, shift) => {
-            say(b"frame ");
-            say_number(frame);
-            say(b" is frame ");
-            say_number(at);
-            say(b" of source ");
-            say_number(source);
+            printing::text(b"frame ");
+            printing::number(frame);
+            printing::text(b" is frame ");
+            printing::number(at);
+            printing::text(b" of source ");
+            printing::number(source);
             if flag == 1 {
-                say(b", shift ");
-                say_signed(shift);
+                printing::text(b", shift ");
+                printing::signed(shift);
             }
-            say(b"\n");
+            printing::text(b"\n");
         }
     }
 }

@@ -7,14 +7,14 @@ use native.Mathlib.Numerals.{add-one}
 use native.Mathlib.Omega.{arith}
 use mathlib.Core.Path.{_≡_, refl, sym, ap, _∙_}
 use mathlib.Core.Bool.{Bool, true, false, _||_, cond}
-use mathlib.Core.List.{List, [], _∷_}
+use mathlib.Core.List.{List}
 use mathlib.Core.Logic.{_⊎_, ⊎-elim}
 use borrow.Author.Tests.{le-ltb, lt-ltb}
-use lib.Dec.{leb, ltb, eqb}
+use lib.Dec.{leb, ltb}
 use lib.ListN.{length}
 use Rattle.choice.specs.declared.Refusal.{Refusal}
 use Rattle.choice.specs.declared.Refusal.the-variants.{Never, At}
-use Rattle.choice.specs.Choice.{if_then_else_, when}
+use Rattle.choice.specs.Choice.{when}
 use Rattle.choice.specs.Records.{run}
 use Rattle.choice.proofs.Tests.{either, tf, le-or-lt}
 use Rattle.choice.proofs.Runs.{run-cons, run-nil, length-run}
@@ -24,12 +24,12 @@ use Rattle.rules.specs.declared.Turn.the-variants.{Stop, Go}
 use Rattle.rules.specs.declared.Found.{Found}
 use Rattle.rules.specs.declared.Found.the-variants.{Index, NoIndex}
 use Rattle.rules.specs.declared.Checked.{Checked}
-use Rattle.rules.specs.declared.Checked.the-variants.{Frames, Refused}
+use Rattle.rules.specs.declared.Checked.the-variants.{Refused}
 use Rattle.rules.specs.Limits.{maxSegments}
 use Rattle.rules.specs.Records.{Segment, Table, outEnd}
-use Rattle.rules.specs.Rules.{ends, endsOf, segmentRefusal, start, frontRefusal, malformed, checkOf}
+use Rattle.rules.specs.Rules.{ends, endsOf, frontRefusal, malformed, checkOf}
 use Rattle.rules.specs.Lookups.{count, overBy, ended, found, segmentOfFrame}
-use Rattle.rules.specs.Steps.{stopOr, turnOf, walked}
+use Rattle.rules.specs.Steps.{turnOf, walked}
 use Rattle.rules.proofs.Walks.{Walk, walk-start, walk-go, walk-stop, walk-end, turn-go, check-stops, check-goes}
 use Rattle.table.specs.Layout.{sourcesOf}
 use Rattle.records.specs.declared.TrimSegment.{TrimSegment}

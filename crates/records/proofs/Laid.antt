@@ -1,16 +1,16 @@
 -- The table that the words of a list of records are: one segment a record. Assumes nothing.
 --     table-is       the table of the words, with the records for segments
 --     malformed-is   its 1 is the sources' alone: a record's flag is 0 or 1
-use Prim.Native.Nat.{ℕ, zero, suc, _+_, _*_, _/_, _%_, _≤_, _<_}
+use Prim.Native.Nat.{ℕ, zero, suc, _+_, _*_, _/_, _%_, _<_}
 use native.Mathlib.Nat.{le-of-suc-le-suc}
 use native.Mathlib.Omega.{arith}
-use mathlib.Core.Path.{_≡_, refl, sym, ap, _∙_}
+use mathlib.Core.Path.{_≡_, refl, ap, _∙_}
 use mathlib.Core.Bool.{Bool, true, false, not, _||_, cond}
 use mathlib.Core.List.{List, [], _∷_, _++_}
 use borrow.Author.Tests.{eq-eqb}
 use lib.Dec.{eqb, ltb}
-use lib.IntN.{ℤ, pos}
-use lib.ListN.{length, getD, length-append, List·getD-append}
+use lib.IntN.{pos}
+use lib.ListN.{length, getD, List·getD-append}
 use lib.Seq.{getD-append-add}
 use Rattle.choice.specs.Records.{run, any}
 use Rattle.rules.specs.Records.{Segment, Table}
@@ -18,7 +18,7 @@ use Rattle.rules.specs.Rules.{badSegment, malformed}
 use Rattle.table.specs.Layout.{segmentAt, sourcesOf, segmentsOf, badLengths, tableOf}
 use Rattle.records.specs.declared.TrimSegment.{TrimSegment}
 use Rattle.records.specs.Records.{segmentOf, unsigned, signed, allUnsigned, allSigned}
-use Rattle.records.specs.Steps.{recordAt, noRecord, badSources}
+use Rattle.records.specs.Steps.{recordAt, badSources}
 
 -- segment k of a list of records
 abbrev pub segment : List TrimSegment → ℕ → Segment

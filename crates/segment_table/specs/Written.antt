@@ -11,8 +11,8 @@ use Rattle.rows.specs.Lent.{rows, wordsOf, shiftsOf}
 use Rattle.rules.specs.Records.{Table}
 use Rattle.table.specs.Rows as table
 use Rattle.maps.specs.declared.Traced.{Traced}
-use Rattle.maps.specs.Answers.{cutRefusal, joinRefusal, mergeRefusal, originRefusal, answered, after, tracedOf}
-use Rattle.slices.specs.Slices.{laid, zeros}
+use Rattle.maps.specs.Answers.{cutRefusal, joinRefusal, mergeRefusal, originRefusal, answered, tracedOf}
+use Rattle.slices.specs.Slices.{laid, after, zeros}
 use Rattle.mcraw.specs.Mcraw.{timesOf, written}
 use Rattle.frame_times.specs.Times as moov
 use Rattle.judge.specs.Judge.{checkMcraw}
@@ -21,8 +21,8 @@ use Rattle.segment_table.specs.Told.{checkedTold, filledTold, mappedTold
 -- the rows of t were asked for: number, words, shifts, how many rows, index
 pub record RowedTold (t : Table) (ou : List ℕ) (os : List ℤ) (rows r : ℕ) (ou′ : List ℕ) (os′ : List ℤ) (rows′ index′ : ℕ) : Type 0 where
   pub told : (r, rows′, index′) ≡ filledTold (table.filled (table.rowsRefusal t (length ou) (length os)) (length (t .segments))) rows
-  pub words : ou′ ≡ table.after (table.rowsRefusal t (length ou) (length os)) (wordsOf (table.rowsOf t)) ou
-  pub shifts : os′ ≡ table.after (table.rowsRefusal t (length ou) (length os)) (shiftsOf (table.rowsOf t)) os
+  pub words : ou′ ≡ after (table.rowsRefusal t (length ou) (length os)) (wordsOf (table.rowsOf t)) ou
+  pub shifts : os′ ≡ after (table.rowsRefusal t (length ou) (length os)) (shiftsOf (table.rowsOf t)) os
 
 -- the rows m were asked for, or refused
 pub record MapTold (x : Refusal) (m : List Row) (ou : List ℕ) (os : List ℤ) (rows r : ℕ) (ou′ : List ℕ) (os′ : List ℤ) (rows′ index′ : ℕ) : Type 0 where

@@ -10,7 +10,6 @@ use mir.Val.{SFits, toZ}
 use mir.Facts.{toZ-pos}
 use borrow.Author.Tests.{lt-ltb, le-ltb}
 use Rattle.choice.specs.Choice.{if_then_else_}
-use Rattle.signed.specs.declared.Held.{Held}
 use Rattle.signed.specs.declared.Held.the-variants.{Is, Outside}
 use Rattle.signed.specs.Signed.{I64, within, withSign}
 use Rattle.signed.proofs.Bits.{read, reads}

@@ -1,17 +1,15 @@
 -- Bits read as a signed number, for every number of bits up to 64. Assumes nothing.
 use mathlib.Core.Path.{_≡_, sym, ap, _∙_, subst}
 use mathlib.Core.Bool.{Bool, cond}
-use Prim.Native.Nat.{ℕ, suc, _+_, _-_, _*_, _≤_, _<_, _^_}
-use native.Mathlib.Omega.{arith}
+use Prim.Native.Nat.{ℕ, suc, _-_, _*_, _≤_, _<_, _^_}
 use lib.IntN.{ℤ, pos, negsuc, _-ℤ_}
 use mir.Syntax.{w64}
 use mir.Val.{SFits, toZ}
 use mir.Facts.{toZ-pos}
 use borrow.Author.Tests.{lt-ltb, le-ltb}
-use Rattle.choice.specs.Choice.{if_then_else_}
 use Rattle.signed.specs.Signed.{ofBits}
 use Rattle.signed.proofs.Bits.{read, back}
-use Rattle.signed.proofs.Ranges.{negated-fits, less-one}
+use Rattle.signed.proofs.Ranges.{less-one}
 
 pub bits-low : (half x : ℕ) → x < half → x < 2 ^ 63 → toZ w64 x ≡ ofBits half x
 unfolding ofBits

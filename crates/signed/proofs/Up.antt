@@ -1,12 +1,12 @@
 -- A signed 64-bit number as a natural one: `up z` is z + 2 ^ 63. `omega` does not read ℤ, and reads this.
 -- Each test and operation of ℤ that the code uses has one law in terms of `up`. Assumes nothing.
-use mathlib.Core.Path.{_≡_, refl, sym, ap, _∙_, subst}
-use mathlib.Core.Bool.{Bool, true, false, not, cond}
+use mathlib.Core.Path.{_≡_, refl, sym}
+use mathlib.Core.Bool.{Bool, true, false, cond}
 use Prim.Native.Nat.{ℕ, zero, suc, _+_, _-_, _*_, _/_, _≤_, _<_, _^_}
 use native.Mathlib.Omega.{arith}
-use borrow.Author.Tests.{leb-true, leb-false, ltb-true, ltb-false, le-leb, lt-leb, lt-ltb, le-ltb}
+use borrow.Author.Tests.{leb-true, leb-false, ltb-true, ltb-false, le-leb, lt-ltb}
 use lib.Dec.{ltb}
-use lib.IntN.{ℤ, pos, negsuc, negℤ, subℕ, _+ℤ_, _-ℤ_}
+use lib.IntN.{ℤ, pos, negsuc, subℕ, _+ℤ_, _-ℤ_}
 use lib.Signed.{leZ, ltZ, mag, shrZ}
 use Rattle.choice.proofs.Tests.{tf}
 use Rattle.signed.specs.Signed.{I64}
@@ -128,13 +128,6 @@ pub record Difference (a b z : ℤ) : Type 0 where
 
 pub difference : (a b : ℤ) → I64 a → I64 b → up b ≤ up a + 2 ^ 63 → up a < up b + 2 ^ 63 → Difference a b (a -ℤ b)
 difference a b p q l r = let s = differences a b p q in record { inside = s .inside l r; at = s .at l }
-
--- numbers with one shift are the same
-pub up-inj : (a b : ℤ) → I64 a → I64 b → up a ≡ up b → a ≡ b
-up-inj (pos a) (pos b) p q e = ap pos (omega arith)
-up-inj (pos a) (negsuc b) p q e = absurd (omega arith)
-up-inj (negsuc a) (pos b) p q e = absurd (omega arith)
-up-inj (negsuc a) (negsuc b) p q e = ap negsuc (omega arith)
 
 -- what is above m is at least m + 1
 pub suc-le : (m s : ℤ) → leZ s m ≡ false → leZ (m +ℤ pos 1) s ≡ true

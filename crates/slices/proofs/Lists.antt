@@ -1,8 +1,8 @@
 -- Loops that write a slice from its start, over any element type, at the code's `i + 1`. Assumes nothing.
---     fill-, copy-, mapped-     a store after i stores, and the end, where a slice is filled, copied over, or mapped in place
-use mathlib.Core.Path.{_≡_, refl, sym, ap, _∙_}
+--     fill-, copy-     a store after i stores, and the end, where a slice is filled or copied over
+use mathlib.Core.Path.{_≡_, refl, ap}
 use mathlib.Core.List.{List, [], _∷_, _++_, append-nil, map}
-use Prim.Native.Nat.{ℕ, zero, suc, _+_, _≤_, _<_}
+use Prim.Native.Nat.{ℕ, zero, suc, _+_, _<_}
 use native.Mathlib.Nat.{not-suc-le-zero, le-of-suc-le-suc}
 use native.Mathlib.Numerals.{add-one}
 use lib.ListN.{length, set, getD, take, drop, replicate, drop-of-length-le}
@@ -39,14 +39,3 @@ pub mapped-at : {A : Type 0} (f : A → A) (l : List A) (i : ℕ) (d : A) → i 
 mapped-at f [] i d h = absurd (not-suc-le-zero h)
 mapped-at f (x ∷ l) zero d h = refl
 mapped-at f (x ∷ l) (suc i) d h = mapped-at f l i d (le-of-suc-le-suc h)
-
-mapped-suc : {A : Type 0} (f : A → A) (l : List A) (i : ℕ) (d : A) → i < length l → set (map f (take i l) ++ drop i l) i (f (getD l i d)) ≡ map f (take (suc i) l) ++ drop (suc i) l
-mapped-suc f [] i d h = absurd (not-suc-le-zero h)
-mapped-suc f (x ∷ l) zero d h = refl
-mapped-suc f (x ∷ l) (suc i) d h = ap (λ t. f x ∷ t) (mapped-suc f l i d (le-of-suc-le-suc h))
-
-pub mapped-more : {A : Type 0} (f : A → A) (l : List A) (i : ℕ) (d : A) → i < length l → set (map f (take i l) ++ drop i l) i (f (getD l i d)) ≡ map f (take (i + 1) l) ++ drop (i + 1) l
-mapped-more f l i d h = rw add-one (mapped-suc f l i d h)
-
-pub mapped-all : {A : Type 0} (f : A → A) (l : List A) (i : ℕ) → i ≡ length l → map f (take i l) ++ drop i l ≡ map f l
-mapped-all f l i e = rw (e, take-all (length l) l (native.Mathlib.Nat.le-refl (length l)), drop-of-length-le l {i = length l} (native.Mathlib.Nat.le-refl (length l)), append-nil (map f l))

@@ -8,13 +8,14 @@ use Rattle.choice.specs.declared.Refusal.the-variants.{Never, At}
 use Rattle.choice.specs.Choice.{when}
 use Rattle.choice.specs.Records.{orRefused}
 use Rattle.choice.proofs.Tests.{decide}
+use Rattle.slices.specs.Slices.{after}
 use Rattle.rows.specs.Lent.{wordsOf, shiftsOf}
 use Rattle.rules.specs.Records.{Segment, Table}
 use Rattle.rules.specs.Rules.{checkOf}
 use Rattle.rules.specs.Lookups.{segmentOfFrame, segmentOfTime, continuesAt}
 use Rattle.rules.specs.Absent.{cleanSegment, clean}
 use Rattle.rules.proofs.Ignored.{refusal-clean, ignored}
-use Rattle.table.specs.Rows.{rowOf, rowsOf, tooSmall, rowsRefusal, filled, after}
+use Rattle.table.specs.Rows.{rowOf, rowsOf, tooSmall, rowsRefusal, filled}
 use Rattle.table.specs.Same.{AbsentIgnored}
 
 row-clean : (e : Segment) → rowOf (cleanSegment e) ≡ rowOf e

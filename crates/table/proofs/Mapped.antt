@@ -2,13 +2,13 @@
 use Prim.Native.Nat.{ℕ, suc, _+_, _≤_, _<_, zero-le, suc-le-suc}
 use native.Mathlib.Omega.{arith}
 use mathlib.Core.Path.{_≡_, refl, ap, _∙_}
-use mathlib.Core.Bool.{true, false}
+use mathlib.Core.Bool.{true}
 use mathlib.Core.List.{List, [], _∷_, map}
 use lib.ListN.{length, getD, length-map}
 use lib.Dec.{eqb}
-use borrow.Author.Tests.{eq-eqb, ne-eqb, lt-ltb, le-ltb, eqb-true, eqb-false}
+use borrow.Author.Tests.{eq-eqb, ne-eqb, lt-ltb, eqb-true, eqb-false}
 use Rattle.choice.proofs.Chains.{not-past}
-use Rattle.choice.specs.Choice.{when, past}
+use Rattle.choice.specs.Choice.{when}
 use Rattle.choice.proofs.Tests.{decide}
 use Rattle.rows.specs.Rows.{largest, okShift, okRow, WellFrom}
 use Rattle.rows.specs.Rows as rows

@@ -24,7 +24,7 @@ use Rattle.rules.specs.Records.{Segment, noSegment}
 use Rattle.rules.specs.Rules.{answered, checkOf}
 use Rattle.table.specs.declared.Filled.the-variants.{Rows, NoRows}
 use Rattle.table.specs.Layout.{wordsAt, segmentAt, segmentsOf, tableOf}
-use Rattle.table.specs.Rows.{rowOf, rowsOf, tooSmall, rowsRefusal, filled, after, Rowed}
+use Rattle.table.specs.Rows.{rowOf, rowsOf, tooSmall, rowsRefusal, filled, Rowed}
 use Rattle.table.proofs.Lent.{length-segments}
 use Rattle.table.proofs.Asked.{lengths}
 
@@ -106,18 +106,18 @@ module _ (s u : List ℕ) (t : List ℤ) (log : Bool) (text : List ℕ) (ou : Li
   then-room e h = rw (accepted-is _ _ _ e, length-segments u t, h)
 
   pub rows-refused : {n i : ℕ} → checkOf (tableOf s u t log text) ≡ Refused n i → Rowed (tableOf s u t log text) ou os (NoRows n i) ou os
-  unfolding at filled after
+  unfolding at filled
   rows-refused e = let q = refusal-first e in record { answer = rw q; words = rw q; shifts = rw q }
 
   pub rows-small : {N : ℕ} → checkOf (tableOf s u t log text) ≡ Frames N → tooSmall (length u / 5) (length ou) (length os) ≡ true
       → Rowed (tableOf s u t log text) ou os (NoRows 32 0) ou os
-  unfolding at filled after when
+  unfolding at filled when
   rows-small e h = let q = then-room e h in record { answer = rw q; words = rw q; shifts = rw q }
 
   pub rows-written : {N : ℕ} {ou′ : List ℕ} {os′ : List ℤ} → checkOf (tableOf s u t log text) ≡ Frames N
       → tooSmall (length u / 5) (length ou) (length os) ≡ false → ou′ ≡ laid u ou → os′ ≡ laid (shiftsOf (map rowOf (segmentsOf u t))) os
       → Rowed (tableOf s u t log text) ou os (Rows (length u / 5)) ou′ os′
-  unfolding at filled after when rowsOf tableOf
+  unfolding at filled when rowsOf tableOf
   rows-written e h w v =
       let q = then-room e h in record {
         answer = rw (q, length-segments u t);

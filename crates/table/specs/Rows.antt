@@ -10,7 +10,7 @@ use Rattle.choice.specs.declared.Refusal.{Refusal}
 use Rattle.choice.specs.declared.Refusal.the-variants.{Never, At}
 use Rattle.choice.specs.Choice.{when}
 use Rattle.choice.specs.Records.{orRefused}
-use Rattle.slices.specs.Slices.{laid}
+use Rattle.slices.specs.Slices.{after}
 use Rattle.rows.specs.declared.Row.{Row}
 use Rattle.rows.specs.Lent.{wordsOf, shiftsOf}
 use Rattle.rows.specs.Lent as lent
@@ -53,11 +53,6 @@ rowsRefusal t nu ns = orRefused (refusal t) (when (tooSmall (length (t .segments
 unfoldable pub filled : Refusal → ℕ → Filled
 filled Never n = Rows n
 filled (At n i) _ = NoRows n i
-
--- a lent slice afterwards: p over its first elements, or as it was lent
-unfoldable pub after : {A : Type 0} → Refusal → List A → List A → List A
-after Never p o = laid p o
-after (At n i) p o = o
 
 -- the rows of t were asked for: the answer r, and the words and shifts lent for them, before and afterwards
 pub record Rowed (t : Table) (ou : List ℕ) (os : List ℤ) (r : Filled) (ou′ : List ℕ) (os′ : List ℤ) : Type 0 where

@@ -90,7 +90,7 @@ fn settle(h: Held, u: &mut [u64], s: &mut [i64], v: &[u64], t: &[i64]) -> Held {
     if !h.joining {
         return h;
     }
-    maptext::say(b"joined:\n");
+    printing::text(b"joined:\n");
     let mut ou = [0u64; 5120];
     let mut os = [0i64; 1024];
     let both = maps::join(
@@ -111,22 +111,22 @@ fn settle(h: Held, u: &mut [u64], s: &mut [i64], v: &[u64], t: &[i64]) -> Held {
 
 // A step's name and its first two numbers, above what it gives.
 fn head(word: &[u8], a: u64, b: u64) {
-    maptext::say(word);
-    maptext::say_number(a);
-    maptext::say(b" ");
-    maptext::say_number(b);
+    printing::text(word);
+    printing::number(a);
+    printing::text(b" ");
+    printing::number(b);
 }
 
 // A row step above the map that it gives.
 fn head_row(source: u64, first: u64, count: u64, flag: u64, shift: i64) {
     head(b"row ", source, first);
-    maptext::say(b" ");
-    maptext::say_number(count);
+    printing::text(b" ");
+    printing::number(count);
     if flag == 1 {
-        maptext::say(b" shift ");
-        maptext::say_signed(shift);
+        printing::text(b" shift ");
+        printing::signed(shift);
     }
-    maptext::say(b":\n");
+    printing::text(b":\n");
 }
 
 // A row goes to the second map of a join that waits for its rows, else to the map.
@@ -171,7 +171,7 @@ fn do_cut(rows: usize, a: u64, b: u64, u: &mut [u64], s: &mut [i64]) -> Held {
     let mut ou = [0u64; 5120];
     let mut os = [0i64; 1024];
     head(b"cut ", a, b);
-    maptext::say(b":\n");
+    printing::text(b":\n");
     let part = maps::cut(
         maptext::words(u, rows),
         maptext::shifts(s, rows),
@@ -192,7 +192,7 @@ fn do_cut(rows: usize, a: u64, b: u64, u: &mut [u64], s: &mut [i64]) -> Held {
 fn do_merge(rows: usize, u: &mut [u64], s: &mut [i64]) -> Held {
     let mut ou = [0u64; 5120];
     let mut os = [0i64; 1024];
-    maptext::say(b"merge:\n");
+    printing::text(b"merge:\n");
     let merged = maps::merge(
         maptext::words(u, rows),
         maptext::shifts(s, rows),
@@ -219,7 +219,7 @@ fn do_step(h: Held, step: Step, u: &mut [u64], s: &mut [i64]) -> Held {
             h
         }
         Step::Join => {
-            maptext::say(b"join:\n");
+            printing::text(b"join:\n");
             Held {
                 rows: rows,
                 second: 0,

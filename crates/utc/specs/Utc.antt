@@ -1,6 +1,6 @@
 -- The UTC rule: 20 bytes, YYYY-MM-DDTHH:MM:SSZ, Gregorian month lengths, hour < 24, minute and second < 60.
 use Prim.Native.Nat.{ℕ, _+_, _-_, _*_, _%_}
-use mathlib.Core.Bool.{Bool, true, false, not, _||_, _&&_}
+use mathlib.Core.Bool.{Bool, not, _||_, _&&_}
 use mathlib.Core.List.{List}
 use lib.ListN.{getD, length}
 use lib.Dec.{ltb, leb, eqb}

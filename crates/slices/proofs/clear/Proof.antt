@@ -1,10 +1,9 @@
-use mathlib.Core.Path.{_≡_, refl, sym, ap, _∙_}
+use mathlib.Core.Path.{_≡_, refl, ap, _∙_}
 use mathlib.Core.List.{_++_}
-use Prim.Native.Nat.{ℕ, _-_, _≤_, _<_}
+use Prim.Native.Nat.{_-_, _≤_, _<_}
 use native.Mathlib.Omega.{arith}
 use lib.ListN.{length, set, drop, replicate, length-set}
-use lib.IntN.{ℤ, pos}
-use borrow.Author.Needs.{needs}
+use lib.IntN.{pos}
 use Rattle.slices.proofs.Lists.{fill-more, fill-all}
 use Rattle.slices.proofs.clear.Statement.{statement}
 use Rattle.slices.proofs.clear.Tie as tie

@@ -1,9 +1,9 @@
-use mathlib.Core.Path.{_≡_, refl, sym, ap, _∙_}
-use mathlib.Core.List.{List, _++_}
-use Prim.Native.Nat.{ℕ, _-_, _≤_, _<_, _^_}
+use mathlib.Core.Path.{_≡_, refl, ap, _∙_}
+use mathlib.Core.List.{_++_}
+use Prim.Native.Nat.{_-_, _≤_, _<_}
 use native.Mathlib.Omega.{arith}
 use lib.ListN.{length, set, getD, take, drop, length-set}
-use lib.IntN.{ℤ, pos}
+use lib.IntN.{pos}
 use Rattle.signed.proofs.Bits.{back}
 use Rattle.slices.proofs.Lists.{copy-more, copy-all}
 use Rattle.slices.proofs.copy.Statement.{statement}

@@ -1,8 +1,21 @@
 -- Each promise is the equation that is claimed, by computation. Assumes nothing.
+use Prim.Native.Nat.{ℕ}
+use mathlib.Core.Bool.{Bool}
+use mathlib.Core.List.{List}
+use mathlib.Core.Logic.{_↔_}
+use Rattle.rules.specs.declared.Found.{Found}
+use Rattle.records.specs.declared.TrimSegment.{TrimSegment}
+use Rattle.records.specs.Records.{locate}
+use Rattle.audit.specs.Calls as calls
+use Rattle.audit.specs.Words.{SegmentOfFrame, inWords}
 use Rattle.audit.specs.Claims.{Meanings}
 
 is : {P : Type 0} → (P → P) × (P → P)
 is = (λ x. x, λ x. x)
+
+listed : (sources text : List ℕ) (rs : List TrimSegment) (log : Bool) (f : ℕ) (r : Found) → calls.SegmentOfFrameRecords sources text rs log f r ↔ SegmentOfFrame (inWords sources text rs log) f r
+unfolding locate
+listed sources text rs log f r = is
 
 pub meant : Meanings
 meant = record {
@@ -28,4 +41,5 @@ meant = record {
   join = λ u v s t ou ou′ os os′ r. is;
   merge = λ u s ou ou′ os os′ r. is;
   origin = λ u s f r. is;
+  segment-of-frame-records = listed;
 }

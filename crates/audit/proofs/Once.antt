@@ -34,6 +34,7 @@ once = record {
   join = λ κs a. (tt, record { the = record { result = _; last = _ }; said = record { answer = refl; words = refl; shifts = refl }; only = λ e p i. record { result = p .says .answer i; last = (tt, (tt, (tt, (tt, (p .says .words i, (p .says .shifts i, tt)))))) } });
   merge = λ κs a. (tt, record { the = record { result = _; last = _ }; said = record { answer = refl; words = refl; shifts = refl }; only = λ e p i. record { result = p .says .answer i; last = (tt, (tt, (p .says .words i, (p .says .shifts i, tt)))) } });
   origin = λ κs a. (tt, record { the = record { result = _; last = _ }; said = refl; only = λ e p i. record { result = p .says i; last = e .last } });
+  segment-of-frame-records = λ κs a. (tt, record { the = record { result = _; last = _ }; said = refl; only = λ e p i. record { result = p .says i; last = e .last } });
   child = λ κs a. (tt, λ e e′ p q. (p .says .place ∙ sym (q .says .place), p .says .bytes ∙ sym (q .says .bytes)));
   find-box = λ κs a. (tt, λ e e′ p q. (p .says .place ∙ sym (q .says .place), p .says .bytes ∙ sym (q .says .bytes)));
   table-text = λ κs a. (tt, λ e e′ p q. (p .says .place ∙ sym (q .says .place), p .says .bytes ∙ sym (q .says .bytes)));

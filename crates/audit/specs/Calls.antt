@@ -2,11 +2,13 @@
 use Prim.Native.Nat.{ℕ}
 use mathlib.Core.Bool.{Bool}
 use mathlib.Core.List.{List, []}
-use mathlib.Core.Path.{refl}
+use mathlib.Core.Path.{_≡_, refl}
 use lib.IntN.{ℤ}
 use denote.Ref.{RefT, now}
 use Rattle.audit.specs.Promise.{Promise, Result, Anywhere, lent}
 use Rattle.judge.specs.declared.Video.{Video}
+use Rattle.records.specs.Records.{locate}
+use Rattle.records.specs.declared.TrimSegment.{TrimSegment}
 use Rattle.ticks.proofs.ticks_to_us as ticks-to-us·
 use Rattle.ticks.proofs.ticks_to_us.Kinds as ticks-to-us·kinds
 use Rattle.ticks.proofs.ticks_to_us.Reads as ticks-to-us·reads
@@ -73,6 +75,7 @@ use Rattle.maps.proofs.join.Reads as join·reads
 use Rattle.maps.proofs.origin as origin·
 use Rattle.maps.proofs.origin.Kinds as origin·kinds
 use Rattle.maps.proofs.origin.Reads as origin·reads
+use Rattle.records.proofs.segment_of_frame_records as segment-of-frame-records·
 
 -- ticks::ticks_to_us
 abbrev pub ticks-to-us : Promise
@@ -315,3 +318,14 @@ Origin u s frame ans = origin .Learnt ([], ([], tt)) (lent u, (lent s, (frame, t
 
 pub origin·anywhere : Anywhere origin (λ κs a e. Origin (now (a .0)) (now (a .1 .0)) (a .1 .1 .0) (e .result))
 origin·anywhere κs a e = refl
+
+-- records::segment_of_frame_records, proved by hand: its clause, as the source has it
+abbrev pub segment-of-frame-records : Promise
+segment-of-frame-records = record { types = segment-of-frame-records·.ended; Fits = λ κs z. Unit {0}; Asked = λ κs a. Unit {0}; Learnt = λ κs a z e. z ≡ locate (now (a .0)) (now (a .1 .0)) (now (a .1 .1 .0)) (a .1 .1 .1 .0) (a .1 .1 .1 .1 .0) }
+
+-- segment_of_frame_records(sources, text, records, log, frame) answers ans
+abbrev pub SegmentOfFrameRecords : List ℕ → List ℕ → List TrimSegment → Bool → ℕ → Result segment-of-frame-records ([], ([], ([], tt))) → Type 0
+SegmentOfFrameRecords sources text records log frame ans = segment-of-frame-records .Learnt ([], ([], ([], tt))) (lent sources, (lent text, (lent records, (log, (frame, tt))))) ans (lent sources, (lent text, (lent records, (log, (frame, tt)))))
+
+pub segment-of-frame-records·anywhere : Anywhere segment-of-frame-records (λ κs a e. SegmentOfFrameRecords (now (a .0)) (now (a .1 .0)) (now (a .1 .1 .0)) (a .1 .1 .1 .0) (a .1 .1 .1 .1 .0) (e .result))
+segment-of-frame-records·anywhere κs a e = refl

@@ -35,6 +35,7 @@ use Rattle.judge.specs.declared.Video.{Video}
 use Rattle.judge.specs.Video.{shownBy}
 use Rattle.judge.specs.Judge.{validateOf, Settled}
 use Rattle.judge.specs.Means.{Fits, Recorded}
+use Rattle.records.specs.declared.TrimSegment.{TrimSegment}
 use Rattle.maps.specs.declared.Mapped.{Mapped}
 use Rattle.maps.specs.declared.Mapped.the-variants as mapped
 use Rattle.maps.specs.declared.Traced.{Traced}
@@ -51,7 +52,7 @@ use Rattle.mcraw.specs.declared.Times.{Times}
 use Rattle.mcraw.specs.Mcraw.{Answered}
 use Rattle.audit.specs.Promise.{OneAnswer, OnePart}
 use Rattle.audit.specs.Calls as calls
-use Rattle.audit.specs.Words.{Lent, table, Check, SegmentOfFrame, SegmentOfTimeUs, Continues, RowsOfTable, Validate, CheckMcraw, written}
+use Rattle.audit.specs.Words.{Lent, table, Check, SegmentOfFrame, SegmentOfTimeUs, Continues, RowsOfTable, Validate, CheckMcraw, inWords, written}
 use Rattle.audit.specs.Examples.{Holds, examples}
 
 -- 1 and 2. ONE ANSWER. No public call has a `requires`; and whatever its arguments, exactly one result, with exactly one content of each lent slice, meets its
@@ -76,6 +77,8 @@ pub record Answers : Type 0 where
   pub join : OneAnswer calls.join
   pub merge : OneAnswer calls.merge
   pub origin : OneAnswer calls.origin
+  -- Of the lookup over records, which is proved by hand, the promise is its clause as the source has it.
+  pub segment-of-frame-records : OneAnswer calls.segment-of-frame-records
   -- The exception: a returned part is fixed in its bytes and its address, and not in the name that proofs give a reference.
   pub child : OnePart calls.child (λ κs r. r)
   pub find-box : OnePart calls.find-box (λ κs r. r)
@@ -151,6 +154,9 @@ pub record Meanings : Type 0 where
   pub join : (u v : List ℕ) (s t : List ℤ) (ou ou′ : List ℕ) (os os′ : List ℤ) (r : Mapped) → calls.Join u s v t ou os r ou′ os′ ↔ maps.Join u s v t ou os r ou′ os′
   pub merge : (u : List ℕ) (s : List ℤ) (ou ou′ : List ℕ) (os os′ : List ℤ) (r : Mapped) → calls.Merge u s ou os r ou′ os′ ↔ maps.Merge u s ou os r ou′ os′
   pub origin : (u : List ℕ) (s : List ℤ) (f : ℕ) (r : Traced) → calls.Origin u s f r ↔ maps.Trace u s f r
+  -- The lookup over records answers what the lookup over words answers of the words that say the same.
+  pub segment-of-frame-records : (sources text : List ℕ) (rs : List TrimSegment) (log : Bool) (f : ℕ) (r : Found)
+      → calls.SegmentOfFrameRecords sources text rs log f r ↔ SegmentOfFrame (inWords sources text rs log) f r
 
 pub record Claims : Type 0 where
   pub answers : Answers

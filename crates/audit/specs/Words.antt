@@ -13,6 +13,8 @@ use Rattle.rules.specs.Records.{Table}
 use Rattle.table.specs.declared.Filled.{Filled}
 use Rattle.table.specs.Layout.{tableOf}
 use Rattle.judge.specs.declared.Video.{Video}
+use Rattle.records.specs.declared.TrimSegment.{TrimSegment}
+use Rattle.records.specs.Records.{allUnsigned, allSigned}
 use Rattle.audit.specs.Calls as calls
 
 -- a table as it is lent: the words of its sources, the unsigned and the signed words of its segments, whether it names a log, and the text of its creation times
@@ -49,6 +51,10 @@ Validate l video starts r = calls.Validate (l .sources) (l .words) (l .stamps) (
 
 abbrev pub CheckMcraw : Lent → List ℤ → List ℤ → List ℤ → Checked → List ℤ → List ℤ → Type 0
 CheckMcraw l timestamps a b r a′ b′ = calls.CheckMcraw (l .sources) (l .words) (l .stamps) (l .log) (l .text) timestamps a b r a′ b′
+
+-- the table whose segments are a list of records, lent as words: of each record, in order, its five unsigned and its seven signed ones
+abbrev pub inWords : List ℕ → List ℕ → List TrimSegment → Bool → Lent
+inWords sources text rs log = record { sources = sources; words = allUnsigned rs; stamps = allSigned rs; log = log; text = text }
 
 -- the map of k rows that a call wrote over ou and os
 abbrev pub written : ℕ → List ℕ → List ℤ → List Row

@@ -7,7 +7,7 @@ use prog.Wp.{Heap}
 use prog.Memory.{Memory}
 use prog.Routine.{Routine}
 use ghost.Atoms.{Atoms}
-use Rattle.audit.specs.Promise.{Promise, Regions, Given}
+use Rattle.audit.specs.Promise.{Regions, Given}
 use Rattle.audit.specs.Calls as calls
 use Rattle.ticks.proofs.ticks_to_us as ticks-to-us·
 use Rattle.utc.proofs.is_utc_second as is-utc-second·

@@ -17,11 +17,11 @@ use base.Logic.{SProp, ent, emp, via, fst∗, snd∗, exE, id⊢}
 use base.Fml.{Lft, GName, Share, ftrue, fat, froom, fdies, flft, fres}
 use prog.Memory.{Memory}
 use prog.Routine.{Routine}
-use prog.Wp.{Heap, Env, Calls, Loops, WpFn, Tables}
+use prog.Wp.{Heap, Env, WpFn, Tables}
 use ghost.Atoms.{Atoms, sem}
 use contract.Monad.{Fun, fact}
 use contract.Running.{givenOf, tables, tablesOf}
-use types.Kit.{Given, Item, ‵, raw, _⊛_, some, later, runs, atRet, Sq, ⋆, _$_, _∵_, !, qed, by, move, keep, drop, use1, cut, split, join, pick, fsplit, fjoin, suffices, frame, await, done}
+use types.Kit.{Given, Item, ‵, raw, _⊛_, some, later, runs, atRet, Sq, ⋆, _$_, _∵_, !, qed, by, move, drop, use1, cut, split, join, pick, fsplit, fjoin, suffices, frame, await, done}
 use types.Run.{look, init, forget, stop, hop, from, load, addr, and-then, no-more, assigns, land, returns, enter, alloc1, alloc0, params1, pass1, pass0, free1, free0}
 use sound.WpLaws.{fmOf, WpFn-mono}
 use denote.RattleType.{owns}

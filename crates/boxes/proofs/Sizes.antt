@@ -2,8 +2,10 @@
 use mathlib.Core.Path.{_≡_, sym, subst}
 use mathlib.Core.List.{List}
 use Prim.Native.Nat.{ℕ, _+_, _-_, _≤_, _<_}
+use native.Mathlib.Nat.{add-zero}
 use native.Mathlib.Omega.{arith}
-use lib.ListN.{length, take, drop}
+use lib.ListN.{length, take, drop, length-drop}
+use lib.Seq.{getD-drop}
 use lib.Dec.{ltb, eqb}
 use borrow.Author.Tests.{lt-ltb, le-ltb, ltb-false, eq-eqb, ne-eqb}
 use Rattle.choice.proofs.Tests.{either}
@@ -73,6 +75,15 @@ module _ (s : List ℕ) (at : ℕ) where
   pub by-size : {k : ℕ} {z : Sized} → 8 ≤ length s - at → k ≡ be32At s (at + 4) → z ≡ sizeOf (take (length s - at) (drop at s)) (length s - at) → headerBy at k z ≡ headerAt s at
   unfolding headerAt
   by-size h k z = rw (le-ltb _ _ h, k, z, from at s)
+
+  -- a size of 32 bits that fits
+  pub plain : {n k : ℕ} → 8 ≤ length s - at → n ≡ be32At s at → 8 ≤ n → n ≤ length s - at → k ≡ be32At s (at + 4) → Whole k (at + 8) (n - 8) (at + n) ≡ headerAt s at
+  unfolding headerAt fittingIn
+  plain {n} h e b l k =
+      let there : be32At (drop at s) 0 ≡ n = rw (getD-drop at s 0 0, getD-drop at s 1 0, getD-drop at s 2 0, getD-drop at s 3 0, add-zero) (sym e) in
+      let size : Box n 8 ≡ sizeOf (drop at s) (length s - at) =
+      small (drop at s) (length s - at) (rw length-drop (omega arith)) (rw there (omega arith)) (sym there) (rw (le-ltb n 8 b, le-ltb (length s - at) n l)) in
+      rw (le-ltb _ _ h, sym size, k)
 
 -- what a whole header says: the payload starts 8 bytes further at least, ends where the next box starts, and that is within the bytes
 abbrev pub Lies : ℕ → ℕ → Header → Type 0

@@ -41,8 +41,8 @@ pub(crate) fn size_of(data: &[u8], remaining: u64) -> Sized
     fitting(remaining, 8, size)
 }
 
-// The header of the box at an offset: a turn of the Rust's children.
-pub(crate) fn header_at(s: &[u8], at: usize) -> Header
+// The header of the box at an offset, whatever its size says.
+fn any_header_at(s: &[u8], at: usize) -> Header
     requires { ⌜ at ≤ length (now s) ⌝ }
     ensures { λ r. ⌜ r ≡ headerAt (now (s .entry)) at ⌝ }
 {
@@ -62,5 +62,27 @@ pub(crate) fn header_at(s: &[u8], at: usize) -> Header
         start,
         len,
         next,
+    }
+}
+
+// The header of the box at an offset: a turn of the Rust's children. Nearly every size has 32 bits and fits; such a box is
+// answered here, so that a walk passes it without a call.
+pub(crate) fn header_at(s: &[u8], at: usize) -> Header
+    requires { ⌜ at ≤ length (now s) ⌝ }
+    ensures { λ r. ⌜ r ≡ headerAt (now (s .entry)) at ⌝ }
+{
+    let left = s.len() - at;
+    if left < 8 {
+        return Header::Short;
+    }
+    let size = be32(s, at) as usize;
+    if (size < 8) | (left < size) {
+        return any_header_at(s, at);
+    }
+    Header::Whole {
+        kind: be32(s, at + 4),
+        start: at + 8,
+        len: size - 8,
+        next: at + size,
     }
 }

@@ -1,4 +1,5 @@
 pub mod Dates
+mod Chain
 pub mod Turns
 pub mod Walks
 pub mod Says

@@ -151,31 +151,29 @@ fn bad_clock(kind: u64, ticks: u64, per: u64, modulus: u64) -> bool
 pub fn source_refusal(log: bool, text: &[u8], s: Source) -> u64
     ensures { λ r. ⌜ r ≡ sourceRefusal log (now (text .entry)) s ⌝ }
 {
-    let rate = no_rate(s.frames, s.num, s.den);
-    let date = bad_date(text, s.dated, s.from, s.size);
-    let clock = bad_clock(s.kind, s.ticks, s.per, s.modulus);
-    let last = choice::first_of(clock, 6, choice::first_of(log & (s.kind == 0), 7, 0));
-    choice::first_of(rate, 4, choice::first_of(date, 5, last))
-}
-
-// 10 to 12, else what the tests after them give.
-fn frames_or(frames: u64, first: u64, count: u64, out: u64, rest: u64) -> u64
-    ensures { λ r. ⌜ r ≡ framesOr frames first count out rest ⌝ }
-{
-    let wraps = choice::is_past(out, count, MAX_U64) | choice::is_past(first, count, MAX_U64);
-    let past = choice::is_past(first, count, frames);
-    choice::first_of(
-        count == 0,
-        10,
-        choice::first_of(wraps, 11, choice::first_of(past, 12, rest)),
-    )
+    if no_rate(s.frames, s.num, s.den) {
+        return 4;
+    }
+    if bad_date(text, s.dated, s.from, s.size) {
+        return 5;
+    }
+    if bad_clock(s.kind, s.ticks, s.per, s.modulus) {
+        return 6;
+    }
+    if log & (s.kind == 0) {
+        return 7;
+    }
+    0
 }
 
 // 14, of a start with its duration and of the capture pair.
 fn too_late(start: u64, duration: u64, cap: u64, capdur: u64) -> bool
     ensures { λ r. ⌜ r ≡ tooLate start duration cap capdur ⌝ }
 {
-    choice::is_past(start, duration, MAX_I64) | choice::is_past(cap, capdur, MAX_I64)
+    if choice::is_past(start, duration, MAX_I64) {
+        return true;
+    }
+    choice::is_past(cap, capdur, MAX_I64)
 }
 
 // 16: the first segment is free.
@@ -183,18 +181,6 @@ fn is_apart(some: bool, time: u64, capture: u64, outstart: u64, outcap: u64) -> 
     ensures { λ r. ⌜ r ≡ apart some time capture outstart outcap ⌝ }
 {
     some & ((outstart != time) | (outcap != capture))
-}
-
-// 13 to 16, and 14 of the out pairs, else what the tests after them give.
-fn times_or(prev: Ends, out: u64, t: Times, rest: u64) -> u64
-    ensures { λ r. ⌜ r ≡ timesOr prev out t rest ⌝ }
-{
-    let early = too_late(t.srcstart, t.duration, t.srccap, t.capdur);
-    let apart = is_apart(prev.some, prev.time, prev.capture, t.outstart, t.outcap);
-    let late = too_late(t.outstart, t.duration, t.outcap, t.capdur);
-    let ends = choice::first_of(late, 14, rest);
-    let gaps = choice::first_of(out != prev.frame, 15, choice::first_of(apart, 16, ends));
-    choice::first_of(t.negative, 13, choice::first_of(early, 14, gaps))
 }
 
 // 17.
@@ -205,13 +191,63 @@ fn bad_shift(kind: u64, modulus: u64, flag: u64, back: bool, shift: u64) -> bool
         | ((kind == 2) & (back | (modulus <= shift)))
 }
 
+// 10 to 12: a number, or 0. Each test leaves at once, since most segments pass all and a walk of many is long.
+fn frames_refusal(frames: u64, first: u64, count: u64, out: u64) -> u64
+    ensures { λ r. ⌜ r ≡ framesOr frames first count out 0 ⌝ }
+{
+    if count == 0 {
+        return 10;
+    }
+    if choice::is_past(out, count, MAX_U64) {
+        return 11;
+    }
+    if choice::is_past(first, count, MAX_U64) {
+        return 11;
+    }
+    if choice::is_past(first, count, frames) {
+        return 12;
+    }
+    0
+}
+
+// 13 to 16, and 14 of the out pairs: a number, or 0.
+fn times_refusal(prev: Ends, out: u64, t: Times) -> u64
+    ensures { λ r. ⌜ r ≡ timesOr prev out t 0 ⌝ }
+{
+    if t.negative {
+        return 13;
+    }
+    if too_late(t.srcstart, t.duration, t.srccap, t.capdur) {
+        return 14;
+    }
+    if out != prev.frame {
+        return 15;
+    }
+    if is_apart(prev.some, prev.time, prev.capture, t.outstart, t.outcap) {
+        return 16;
+    }
+    if too_late(t.outstart, t.duration, t.outcap, t.capdur) {
+        return 14;
+    }
+    0
+}
+
 // 10 to 17 of a segment of the source s, after one that ends at prev: a number, or 0.
 fn judge(s: Source, prev: Ends, w: Words, t: Times) -> u64
     ensures { λ r. ⌜ r ≡ judged s prev w t ⌝ }
 {
-    let shift = choice::first_of(bad_shift(s.kind, s.modulus, w.flag, t.back, t.shift), 17, 0);
-    let times = times_or(prev, w.out, t, shift);
-    frames_or(s.frames, w.first, w.count, w.out, times)
+    let frames = frames_refusal(s.frames, w.first, w.count, w.out);
+    if frames != 0 {
+        return frames;
+    }
+    let times = times_refusal(prev, w.out, t);
+    if times != 0 {
+        return times;
+    }
+    if bad_shift(s.kind, s.modulus, w.flag, t.back, t.shift) {
+        return 17;
+    }
+    0
 }
 
 // 10 to 17 of a segment: a refusal, or where it ends.

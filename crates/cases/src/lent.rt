@@ -1,5 +1,6 @@
 // What a slice that is lent to be written holds before a call, so that it can be seen afterwards what the call wrote.
 use signed::Held;
+ghost use Rattle.cases.specs.Counts.{Counts};
 
 // The first element, before its sign.
 const FIRST: u64 = 0x3000_0000_0000_0001;
@@ -17,22 +18,34 @@ fn long_at(k: usize) -> i64 {
     }
 }
 
-// A slice before it is lent.
-pub fn fill_words(out: &mut [u64]) {
+// A slice before its first n elements are lent: how many that are.
+pub fn words(out: &mut [u64], n: usize) -> usize
+    ensures { λ r. ⌜ Counts r (now (out .exit)) ⌝ }
+{
     let mut i = 0;
     while i < out.len() {
         out[i] = word_at(i);
         i += 1;
     }
+    if n < i {
+        return n;
+    }
+    i
 }
 
 // The same of signed elements.
-pub fn fill_longs(out: &mut [i64]) {
+pub fn longs(out: &mut [i64], n: usize) -> usize
+    ensures { λ r. ⌜ Counts r (now (out .exit)) ⌝ }
+{
     let mut i = 0;
     while i < out.len() {
         out[i] = long_at(i);
         i += 1;
     }
+    if n < i {
+        return n;
+    }
+    i
 }
 
 // Whether a slice is as it was lent from a place on.
@@ -59,13 +72,10 @@ pub fn kept_longs(out: &[i64], from: usize) -> bool {
     true
 }
 
-// Whether a working slice holds 0 in its first elements and is as lent after them.
-pub fn cleared(work: &[i64], count: usize) -> bool {
+// Whether a working slice holds nothing but 0.
+pub fn cleared(work: &[i64]) -> bool {
     let mut i = 0;
     while i < work.len() {
-        if i == count {
-            return kept_longs(work, i);
-        }
         if !signed::same(work[i], 0) {
             return false;
         }

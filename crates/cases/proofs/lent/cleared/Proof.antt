@@ -5,13 +5,13 @@ use Rattle.cases.proofs.lent.cleared.Statement.{statement}
 use Rattle.cases.proofs.lent.cleared.Tie as tie
 
 abbrev Inv-loop : tie.InvT-loop
-Inv-loop work count i₀ i = Unit
+Inv-loop work i₀ i = Unit
 
 abbrev μ-loop : tie.MeasureT-loop
-μ-loop work count i₀ i = length work - i
+μ-loop work i₀ i = length work - i
 
 pub cleared-spec : {M : Type 1} → statement M
 cleared-spec =
     tie.close (tie.spec
-    Inv-loop μ-loop (λ c. search needs) (λ c κs. search needs) (λ c. search needs) (λ c. search needs) (λ c. search needs)
-    (λ c κs. search needs) (λ c. search needs) (λ c. search needs) (λ c. search needs) (λ c. search needs) (λ c. search needs))
+    Inv-loop μ-loop (λ c. search needs) (λ c. search needs) (λ c. search needs) (λ c κs. search needs) (λ c. search needs)
+    (λ c. search needs) (λ c. search needs) (λ c. search needs) (λ c. search needs))

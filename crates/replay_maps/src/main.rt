@@ -119,16 +119,8 @@ fn origin(line: &[u8], c: Cursor, u: &[u64], s: &[i64]) {
     say::end(true);
 }
 
-// One case: every call begins with its map.
-fn answer(line: &[u8]) {
-    let mut words = [0u64; 64];
-    let mut shifts = [0i64; 64];
-    let m = read::words(line, read::start(line), &mut words);
-    let c = read::longs(line, m, &mut shifts);
-    let n = m.count;
-    let k = c.count;
-    let u = &words[..n];
-    let s = &shifts[..k];
+// The case of a map, with what follows the map in its line.
+fn answer_to(line: &[u8], c: Cursor, u: &[u64], s: &[i64]) {
     if read::is(line, b"cut") {
         cut(line, c, u, s);
     } else if read::is(line, b"join") {
@@ -140,6 +132,17 @@ fn answer(line: &[u8]) {
     } else {
         say::malformed();
     }
+}
+
+// One case: every call begins with its map.
+fn answer(line: &[u8]) {
+    let mut words = [0u64; 64];
+    let mut shifts = [0i64; 64];
+    let m = read::words(line, read::start(line), &mut words);
+    let c = read::longs(line, m, &mut shifts);
+    let n = m.count;
+    let k = c.count;
+    answer_to(line, c, &words[..n], &shifts[..k]);
 }
 
 // All cases of standard input.

@@ -4,3 +4,4 @@ pub mod lent;
 pub mod lines;
 pub mod read;
 pub mod say;
+pub mod tables;

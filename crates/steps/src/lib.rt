@@ -1,4 +1,5 @@
 // One line of text as one step on a frame map: `row`, `cut`, `join`, `merge` or `origin` with its numbers. `#` begins a comment.
+// Words and numbers are public: other programs read their lines with them.
 use signed::Held;
 ghost use mathlib.Core.Path.{_≡_};
 ghost use lib.ListN.{length, drop};
@@ -18,14 +19,14 @@ enum Kind {
 }
 
 // A word as a number below 2^64.
-enum Number {
+pub enum Number {
     Is(u64),
     Large,
     Not,
 }
 
 // A word as a signed number of 64 bits.
-enum Integer {
+pub enum Integer {
     Is(i64),
     Large,
     Not,
@@ -80,7 +81,7 @@ fn leading(l: &[u8], k: Kind) -> usize
 }
 
 // Whether two words are the same.
-fn same(a: &[u8], b: &[u8]) -> bool
+pub fn same(a: &[u8], b: &[u8]) -> bool
     ensures { λ r. ⌜ r ≡ sameAs (now (a .entry)) (now (b .entry)) ⌝ }
 {
     if a.len() != b.len() {
@@ -113,7 +114,7 @@ fn trim(l: &[u8]) -> &[u8]
 }
 
 // The first word of a line, empty where there is none.
-fn word(l: &[u8]) -> &[u8]
+pub fn word(l: &[u8]) -> &[u8]
     ensures { λ r. ⌜ now r ≡ wordOf (now (l .entry)) ⌝ }
 {
     let t = trim(l);
@@ -122,7 +123,7 @@ fn word(l: &[u8]) -> &[u8]
 }
 
 // What comes after the first word.
-fn rest(l: &[u8]) -> &[u8]
+pub fn rest(l: &[u8]) -> &[u8]
     ensures { λ r. ⌜ now r ≡ restOf (now (l .entry)) ⌝ }
 {
     let t = trim(l);
@@ -159,7 +160,7 @@ fn overs(l: &[u8], from: usize) -> Number
 }
 
 // A word of decimal digits as a number.
-fn number_of(l: &[u8]) -> Number
+pub fn number_of(l: &[u8]) -> Number
     ensures { λ r. ⌜ r ≡ numberIn (now (l .entry)) ⌝ }
 {
     if l.len() == 0 {
@@ -196,7 +197,7 @@ fn with_sign(neg: bool, n: Number) -> Integer
 }
 
 // A word of decimal digits as a signed number, with `-` before it where it is below 0.
-fn integer_of(l: &[u8]) -> Integer
+pub fn integer_of(l: &[u8]) -> Integer
     ensures { λ r. ⌜ r ≡ integerIn (now (l .entry)) ⌝ }
 {
     if l.len() == 0 {

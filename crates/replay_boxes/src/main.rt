@@ -1,0 +1,110 @@
+// Box sizes and searches on stored cases: stdin has the cases, stdout what the Rust answers to each.
+use boxes::Place;
+use boxes::Sized;
+use cases::lines;
+use cases::read;
+use cases::read::Cursor;
+use cases::say;
+
+// 2^64 - 1.
+const LARGEST: u64 = 0xffff_ffff_ffff_ffff;
+
+// The line of a place.
+fn say_place(place: Place) {
+    match place {
+        Place::At { start, len } => {
+            say::accepted();
+            say::value(start as u64);
+            say::value(len as u64);
+        }
+        Place::Refused(number) => say::refused(number, 0),
+    }
+    say::end(true);
+}
+
+// box_size BYTES REMAINING
+fn box_size(line: &[u8], c: Cursor, bytes: &[u8]) {
+    let remaining = read::number(line, c);
+    if !read::ended(line, remaining) {
+        say::malformed();
+        return;
+    }
+    match boxes::box_size(bytes, remaining.number) {
+        Sized::Box { size, header } => {
+            say::accepted();
+            say::value(size);
+            say::value(header);
+        }
+        Sized::Refused(number) => say::refused(number, 0),
+    }
+    say::end(true);
+}
+
+// child BYTES KIND
+fn child(line: &[u8], c: Cursor, bytes: &[u8]) {
+    let kind = read::kind(line, c);
+    if !read::ended(line, kind) {
+        say::malformed();
+        return;
+    }
+    say_place(boxes::child_place(bytes, kind.number as u32));
+}
+
+// find_box BYTES FROM TO KIND TEXT_TYPES
+fn find_box(line: &[u8], c: Cursor, bytes: &[u8]) {
+    let from = read::number(line, c);
+    let to = read::number(line, from);
+    let kind = read::kind(line, to);
+    let text = read::flag(line, kind);
+    if !read::ended(line, text) {
+        say::malformed();
+        return;
+    }
+    let start = from.number as usize;
+    let end = to.number as usize;
+    let code = kind.number as u32;
+    say_place(boxes::find_box_place(bytes, start, end, code, text.number == 1));
+}
+
+// table_text BYTES
+fn table_text(line: &[u8], c: Cursor, bytes: &[u8]) {
+    if !read::ended(line, c) {
+        say::malformed();
+        return;
+    }
+    say_place(boxes::table_text_place(bytes));
+}
+
+// One case: every call begins with its bytes.
+fn answer(line: &[u8]) {
+    let mut held = [0u8; 512];
+    let c = read::bytes(line, read::start(line), &mut held);
+    let n = c.count;
+    let bytes = &held[..n];
+    if read::is(line, b"box_size") {
+        box_size(line, c, bytes);
+    } else if read::is(line, b"child") {
+        child(line, c, bytes);
+    } else if read::is(line, b"find_box") {
+        find_box(line, c, bytes);
+    } else if read::is(line, b"table_text") {
+        table_text(line, c, bytes);
+    } else {
+        say::malformed();
+    }
+}
+
+// All cases of standard input.
+fn main() {
+    let mut text = io::large_buffer();
+    let mut l = lines::none();
+    let mut turns: u64 = LARGEST;
+    while 0 < turns {
+        l = lines::next(&mut text, l);
+        if l.done {
+            return;
+        }
+        answer(lines::line(&text, l));
+        turns -= 1;
+    }
+}

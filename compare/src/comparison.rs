@@ -81,16 +81,27 @@ impl Run {
     fn cases(&self) -> u64 { self.tallies.values().map(|t| t.cases).sum() }
 }
 
+/// The most characters of a line that is shown whole: a shell can't hand on many more. Only inputs around 16,777,216 bytes or
+/// timestamps have longer ones; they come again in every run
+const WHOLE: usize = 100_000;
+
+fn shown(line: String) -> String {
+    if line.len() <= WHOLE { return line; }
+    let start: String = line.chars().take(1000).collect();
+    format!("{start} .. ({} characters)", line.len())
+}
+
 /// Prints a case and what each side says of it; whether they agree
 pub fn show(case: &Case) -> bool {
-    println!("{}", text::case_line(case));
-    match compare(case) {
-        Err(Difference::Reading { rust, reading }) => println!("  differs: the Rust says      {rust:?}\n           document 01 says   {reading:?}"),
-        Err(Difference::Library { expected, library }) => println!("  differs: expected           {expected:?}\n           the library says   {library:?}"),
+    println!("{}", shown(text::case_line(case)));
+    let compared = compare(case);
+    match &compared {
+        Err(Difference::Reading { rust, reading }) => println!("  differs: the Rust says      {}\n           document 01 says   {}", shown(format!("{rust:?}")), shown(format!("{reading:?}"))),
+        Err(Difference::Library { expected, library }) => println!("  differs: expected           {}\n           the library says   {}", shown(format!("{expected:?}")), shown(format!("{library:?}"))),
         Err(Difference::Written) => println!("  differs: the library wrote into what it may only read"),
-        Ok(answer) => println!("  agreed: {answer:?}"),
+        Ok(answer) => println!("  agreed: {}", shown(format!("{answer:?}"))),
     }
-    compare(case).is_ok()
+    compared.is_ok()
 }
 
 /// Runs the fixed cases, then round after round of random ones, until the time is over and there are enough

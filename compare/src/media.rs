@@ -31,7 +31,8 @@ fn line(path: &Path) -> io::Result<bool> {
     Ok(agrees)
 }
 
-/// The frame times of a file: what the Rust, the reading of document 01 and the library say of its moov, and whether they agree
+/// The frame times of a file: what the Rust, the reading of document 01 and the library say of its moov, and whether they agree.
+/// A search in a file of over 16,777,216 bytes is refused; its moov is judged all the same
 fn answered(file: &[u8]) -> (Answer, bool) {
     let top = walk(file, 0, file.len());
     let Some(moov) = top.iter().find(|b| b.kind == code(b"moov")) else { return (Answer::refused((31, 0)), true) };
@@ -41,7 +42,7 @@ fn answered(file: &[u8]) -> (Answer, bool) {
     let found = Case::FindBox { bytes: file.to_vec(), from: 0, to: file.len() as u64, kind: code(b"moov"), text_types: true };
     let place = comparison::compare(&found);
     match comparison::compare(&case) {
-        Ok(answer) => (answer, place.is_ok_and(|p| p.values[..2] == [moov.start as i128, bytes.len() as i128])),
+        Ok(answer) => (answer, place.is_ok_and(|p| p.number == 30 || p.values[..2] == [moov.start as i128, bytes.len() as i128])),
         Err(_) => (Answer::default(), false),
     }
 }
@@ -71,9 +72,11 @@ fn probe(path: &Path, entries: &str) -> io::Result<Vec<i64>> {
     Ok(times)
 }
 
-/// Writes a copy of one file whose moov, its last box, has a 64-bit size
+/// Writes a copy of one of compare/media's files, where it is there, whose moov, its last box, has a 64-bit size
 fn with_a_wide_moov(folder: &Path) -> io::Result<()> {
-    let file = fs::read(folder.join("b-frames-edit-list.mp4"))?;
+    let path = folder.join("b-frames-edit-list.mp4");
+    if !path.exists() { return Ok(()); }
+    let file = fs::read(path)?;
     let last = *walk(&file, 0, file.len()).last().ok_or(io::ErrorKind::InvalidData)?;
     let moov = boxed(Form::Long, b"moov", &file[last.start..last.end]);
     fs::write(folder.join("moov-in-a-64-bit-box.mp4"), [&file[..last.start - 8], &moov].concat())

@@ -1,7 +1,7 @@
 //! Boxes: sizes, children, searches in a range, and files with an MTRM box.
 
 use super::{ Emit, damaged };
-use crate::{ case::Case, random::Random, reference::{ MOST_BYTES, boxes::code } };
+use crate::{ case::Case, random::Random, reference::boxes::code };
 
 /// How a box says its size
 #[derive(Clone, Copy)]
@@ -40,7 +40,6 @@ pub fn every_size(emit: Emit) {
             emit(Case::BoxSize { data: bytes[..len].to_vec(), remaining: 20 });
         }
     }
-    for len in [MOST_BYTES, MOST_BYTES + 1] { emit(Case::BoxSize { data: vec![0; len], remaining: 9 }); }
 }
 
 pub fn size(r: &mut Random, emit: Emit) {
@@ -79,11 +78,6 @@ pub fn every_child(emit: Emit) {
         nested = boxed(Form::ToTheEnd, KINDS[0], &nested);
         emit(Case::Child { payload: nested.clone(), kind: code(KINDS[0]) });
         emit(Case::Child { payload: nested.clone(), kind: code(KINDS[1]) });
-    }
-    for len in [MOST_BYTES, MOST_BYTES + 1] {
-        let mut payload = boxed(Form::ToTheEnd, KINDS[0], &[]);
-        payload.resize(len, 0);
-        emit(Case::Child { payload, kind: code(KINDS[0]) });
     }
 }
 
@@ -127,9 +121,6 @@ pub fn every_range(emit: Emit) {
             for text_types in [false, true] { emit(Case::FindBox { bytes: bytes.clone(), from: 0, to: 16, kind: code(b"bbbb"), text_types }); }
             emit(Case::FindBox { bytes: bytes.clone(), from: 0, to: 16, kind: u32::from_be_bytes(bytes[4..8].try_into().unwrap()), text_types: true });
         }
-    }
-    for len in [MOST_BYTES, MOST_BYTES + 1] {
-        for to in [8, len as u64, len as u64 + 1] { emit(Case::FindBox { bytes: vec![0; len], from: 0, to, kind: 0, text_types: false }); }
     }
 }
 
@@ -181,14 +172,5 @@ pub fn file(r: &mut Random, emit: Emit) {
     for _ in 0..r.below(3) { let file = damaged(r, file.clone()); emit(Case::TableText { file }); }
     if r.one_in(100) {
         for len in 0..file.len() { emit(Case::TableText { file: file[..len].to_vec() }); }
-    }
-}
-
-/// A file of as many bytes as may be, and one more
-pub fn files_at_the_limit(emit: Emit) {
-    for len in [MOST_BYTES, MOST_BYTES + 1] {
-        let mut file = boxed(Form::Short, b"moov", &boxed(Form::Short, b"udta", &boxed(Form::Short, b"MTRM", b"{}")));
-        file.resize(len, 0);
-        emit(Case::TableText { file });
     }
 }

@@ -2,6 +2,7 @@
 //! seed (good inputs, damaged ones, random ones).
 
 pub mod boxes;
+mod limit;
 pub mod maps;
 pub mod moovs;
 pub mod numbers;
@@ -21,16 +22,15 @@ pub fn fixed(call: Call, emit: Emit) {
         Call::BoxSize => boxes::every_size(emit),
         Call::Child => boxes::every_child(emit),
         Call::FindBox => boxes::every_range(emit),
-        Call::TableText => boxes::files_at_the_limit(emit),
         Call::VideoFrameTimesOfMoov => moovs::fixed(emit),
         Call::McrawTimes => recordings::fixed(emit),
-        Call::ValidateTimes => videos::starts_at_the_limit(emit),
-        Call::CheckMcraw => recordings::judged_at_the_limit(emit),
         Call::Check | Call::SegmentOfFrame | Call::SegmentOfFrameRecords | Call::SegmentOfTimeUs | Call::Continues
             | Call::RowsOfTable | Call::ValidateNoVideo => tables::fixed(call, emit),
         Call::ValidateConstant => videos::near_in_the_document(emit),
         Call::Cut | Call::Join | Call::Merge | Call::Origin => maps::fixed(call, emit),
+        Call::TableText | Call::ValidateTimes | Call::CheckMcraw => {}
     }
+    limit::cases(call, emit);
 }
 
 /// One case, or a few that belong together, from the numbers of `r`

@@ -1,7 +1,7 @@
 //! Recordings: their timestamps, and tables judged against them.
 
 use super::{ Emit, room, tables::{ self, Run }, videos };
-use crate::{ case::{ Case, Lent, Table }, random::Random, reference::{ MOST_BYTES, mcraw, numbers::microseconds } };
+use crate::{ case::{ Case, Lent, Table }, random::Random, reference::{ mcraw, numbers::microseconds } };
 
 /// Timestamps that ascend mostly, with equal neighbours; sometimes far apart, sometimes falling once
 fn timestamps(r: &mut Random) -> Vec<i64> {
@@ -72,7 +72,7 @@ pub fn judged(r: &mut Random, emit: Emit) {
     emit(Case::CheckMcraw { table: Lent::new(table), timestamps, room });
 }
 
-/// Every recording of up to five timestamps of four values; document 01's; the limit and past it
+/// Every recording of up to five timestamps of six values; document 01's in every room
 pub fn fixed(emit: Emit) {
     const VALUES: [i64; 6] = [i64::MIN, -1, 0, 1, 10, i64::MAX];
     for n in 0..=5u32 {
@@ -83,14 +83,5 @@ pub fn fixed(emit: Emit) {
     }
     for words in 0..6 {
         for room in 0..6 { emit(Case::McrawTimes { timestamps: vec![1000, 1010, 1025], room: [words, room] }); }
-    }
-    for n in [MOST_BYTES, MOST_BYTES + 1] { emit(Case::McrawTimes { timestamps: vec![0; n], room: [n - 1, 3] }); }
-}
-
-/// As many timestamps as may be, and one more
-pub fn judged_at_the_limit(emit: Emit) {
-    for n in [MOST_BYTES, MOST_BYTES + 1] {
-        emit(Case::CheckMcraw { table: Lent::new(tables::t()), timestamps: vec![0; n], room: [2, 3] });
-        emit(Case::CheckMcraw { table: Lent::new(Table::default()), timestamps: vec![0; n], room: [2, 3] });
     }
 }

@@ -1,7 +1,7 @@
 //! A table and the video that it is judged against.
 
 use super::{ Emit, numbers, tables::{ self, Run } };
-use crate::{ case::{ Case, Lent, Table }, random::Random, reference::{ GREATEST_SCALE, MOST_BYTES, numbers::microseconds } };
+use crate::{ case::{ Case, Lent, Table }, random::Random, reference::{ GREATEST_SCALE, numbers::microseconds } };
 
 /// Counts of a few segments, and their total
 fn counts(r: &mut Random, most: u64) -> (Vec<u64>, u64) {
@@ -115,13 +115,5 @@ pub fn near_in_the_document(emit: Emit) {
                 emit(Case::ValidateConstant { table: Lent::new(one_segment(frames, 0, duration)), frames, num, den });
             }
         }
-    }
-}
-
-/// Exactly as many starts as may be, and one more
-pub fn starts_at_the_limit(emit: Emit) {
-    for frames in [MOST_BYTES, MOST_BYTES + 1] {
-        let table = Lent::new(one_segment(frames as u64, 0, 0));
-        emit(Case::ValidateTimes { table, scale: 1000, starts: vec![0; frames], end: 0, nominal: 1 });
     }
 }

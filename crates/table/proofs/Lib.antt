@@ -5,3 +5,4 @@ pub mod Mapped
 pub mod Alike
 pub mod Told
 pub mod Examples
+mod Signs

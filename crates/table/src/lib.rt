@@ -9,6 +9,7 @@ use rules::Times;
 use rules::Turn;
 use rules::Words;
 ghost use mathlib.Core.Path.{_≡_};
+ghost use mathlib.Core.Bool.{false};
 ghost use mathlib.Core.List.{List, map};
 ghost use Prim.Native.Nat.{_+_, _-_, _*_, _/_, _≤_, _<_, min};
 ghost use lib.ListN.{length, getD};
@@ -82,23 +83,71 @@ fn magnitude_at(t: &[i64], i: usize) -> u64
     signed::magnitude(t[i])
 }
 
-// What the signed words of segment k say.
-fn times_at(t: &[i64], k: usize) -> Times
+// A number that isn't negative.
+fn plain(x: i64) -> u64
+    requires { ⌜ negative x ≡ false ⌝ }
+    ensures { λ r. ⌜ r ≡ natAbs x ⌝ }
+{
+    x as u64
+}
+
+// A signed word that isn't negative.
+fn plain_at(t: &[i64], i: usize) -> u64
+    requires { ⌜ (i < length (now t)) × (negative (getD (now t) i (pos 0)) ≡ false) ⌝ }
+    ensures { λ r. ⌜ r ≡ natAbs (getD (now (t .entry)) i (pos 0)) ⌝ }
+{
+    plain(t[i])
+}
+
+// Whether any of the six times of segment k is negative.
+fn negative_times_at(t: &[i64], k: usize) -> bool
     requires { ⌜ k * segmentStamps + segmentStamps ≤ length (now t) ⌝ }
-    ensures { λ r. ⌜ r ≡ timesOf (stampsAt (now (t .entry)) k) ⌝ }
+    ensures { λ r. ⌜ r ≡ timesOf (stampsAt (now (t .entry)) k) .negative ⌝ }
 {
     let d = k * STAMPS;
     let a = negative_at(t, d) | negative_at(t, d + 1);
     let b = negative_at(t, d + 2) | negative_at(t, d + 3);
     let c = negative_at(t, d + 4) | negative_at(t, d + 5);
+    (a | b) | c
+}
+
+// What the signed words of segment k say, whether or not a time is negative.
+fn any_times_at(t: &[i64], k: usize, negative: bool) -> Times
+    requires { ⌜ (k * segmentStamps + segmentStamps ≤ length (now t)) × (negative ≡ timesOf (stampsAt (now t) k) .negative) ⌝ }
+    ensures { λ r. ⌜ r ≡ timesOf (stampsAt (now (t .entry)) k) ⌝ }
+{
+    let d = k * STAMPS;
     Times {
-        negative: (a | b) | c,
+        negative,
         srcstart: magnitude_at(t, d),
         outstart: magnitude_at(t, d + 1),
         duration: magnitude_at(t, d + 2),
         srccap: magnitude_at(t, d + 3),
         outcap: magnitude_at(t, d + 4),
         capdur: magnitude_at(t, d + 5),
+        back: negative_at(t, d + 6),
+        shift: magnitude_at(t, d + 6),
+    }
+}
+
+// What the signed words of segment k say. Where no time is negative, as in every accepted table, its words are its numbers.
+fn times_at(t: &[i64], k: usize) -> Times
+    requires { ⌜ k * segmentStamps + segmentStamps ≤ length (now t) ⌝ }
+    ensures { λ r. ⌜ r ≡ timesOf (stampsAt (now (t .entry)) k) ⌝ }
+{
+    let d = k * STAMPS;
+    let negative = negative_times_at(t, k);
+    if negative {
+        return any_times_at(t, k, negative);
+    }
+    Times {
+        negative,
+        srcstart: plain_at(t, d),
+        outstart: plain_at(t, d + 1),
+        duration: plain_at(t, d + 2),
+        srccap: plain_at(t, d + 3),
+        outcap: plain_at(t, d + 4),
+        capdur: plain_at(t, d + 5),
         back: negative_at(t, d + 6),
         shift: magnitude_at(t, d + 6),
     }

@@ -1,7 +1,7 @@
 //! A fixed list of cases with their answers, for programs that read the cases from standard input and print.
 
 use std::{ collections::BTreeMap, fs, io, path::Path, process::exit };
-use crate::{ case::{ Call, Case, Part }, comparison, generate::{ self, tables }, random::Random, text };
+use crate::{ case::{ Call, Case, Part }, comparison, generate::{ self, tables }, random::Random, rust::{ self, Said }, text };
 
 /// The programs, and the calls that each of them is given. No program has the lookup over records, which lends a slice of structs
 const PROGRAMS: [(&str, &[Call]); 6] = [
@@ -51,22 +51,24 @@ fn fits(case: &Case) -> bool {
 /// Writes FOLDER/PROGRAM/stdin and stdout for each program, and prints how much there is of each
 pub fn write(folder: &Path) -> io::Result<()> {
     for (program, calls) in PROGRAMS {
-        let (mut cases, mut answers) = (String::new(), String::new());
-        for (case, answer) in calls.iter().flat_map(|call| chosen(*call)) {
+        let (mut cases, mut answers, mut rust) = (String::new(), String::new(), 0);
+        for (case, answer, by_rust) in calls.iter().flat_map(|call| chosen(*call)) {
             cases += &(case + "\n");
             answers += &(answer + "\n");
+            rust += by_rust as usize;
         }
         let folder = folder.join(program);
         fs::create_dir_all(&folder)?;
         fs::write(folder.join("stdin"), &cases)?;
         fs::write(folder.join("stdout"), &answers)?;
-        println!("{program}: {} cases, {} bytes in, {} bytes out", cases.lines().count(), cases.len(), answers.len());
+        println!("{program}: {} cases, {rust} answered so by the Rust, {} bytes in, {} bytes out", cases.lines().count(), cases.len(), answers.len());
     }
     Ok(())
 }
 
-/// The cases of a call and their answers, as lines: document 01's own, then as many of each kind as wanted
-fn chosen(call: Call) -> Vec<(String, String)> {
+/// The cases of a call and their answers, as lines, and whether the Rust answers so: document 01's own, then as many of each
+/// kind as wanted
+fn chosen(call: Call) -> Vec<(String, String, bool)> {
     let mut taken: BTreeMap<(u64, bool, bool), usize> = BTreeMap::new();
     let mut lines = Vec::new();
     let mut take = |case: Case| {
@@ -78,7 +80,8 @@ fn chosen(call: Call) -> Vec<(String, String)> {
         let longer = match case { Case::VideoFrameTimesOfMoov { .. } => 300, _ if answer.number == 2 && *taken == 0 => 1400, _ => 0 };
         if *taken < wanted && line.len() <= LINE + longer {
             *taken += 1;
-            lines.push((line, text::answer_line(call, &answer)));
+            let by_rust = matches!(rust::says(&case), Said::Answer(said) if said == answer);
+            lines.push((line, text::answer_line(call, &answer), by_rust));
         }
     };
     tables::in_the_document(call, &mut take);

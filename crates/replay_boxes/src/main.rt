@@ -1,4 +1,4 @@
-// Box sizes and searches on stored cases: stdin has the cases, stdout what the Rust answers to each.
+// Box sizes and searches on stored cases: stdin has the cases, stdout the answers (compare/README.md).
 use boxes::Place;
 use boxes::Sized;
 use cases::lines;

@@ -1,4 +1,4 @@
-// Tables against their videos and recordings on stored cases: stdin has the cases, stdout what the Rust answers to each.
+// Tables against their videos and recordings on stored cases: stdin has the cases, stdout the answers (compare/README.md).
 use cases::lent;
 use cases::lines;
 use cases::read;

@@ -1,4 +1,4 @@
-// Cuts, joins, merges and origins of frame maps on stored cases: stdin has the cases, stdout the answer to each.
+// Cuts, joins, merges and origins of frame maps on stored cases: stdin has the cases, stdout the answers (compare/README.md).
 use cases::lent;
 use cases::lines;
 use cases::read;

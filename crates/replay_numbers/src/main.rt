@@ -1,4 +1,4 @@
-// The UTC rule and ticks in microseconds on stored cases: stdin has the cases, stdout what the Rust answers to each.
+// The UTC rule and ticks in microseconds on stored cases: stdin has the cases, stdout the answers (compare/README.md).
 use cases::lines;
 use cases::read;
 use cases::read::Cursor;

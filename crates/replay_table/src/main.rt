@@ -1,4 +1,4 @@
-// The check of tables, their lookups and their rows on stored cases: stdin has the cases, stdout what the Rust answers to each.
+// The check of tables, their lookups and their rows on stored cases: stdin has the cases, stdout the answers (compare/README.md).
 use cases::lent;
 use cases::lines;
 use cases::read;

@@ -1,4 +1,4 @@
-// The frame times of moovs and of recordings on stored cases: stdin has the cases, stdout what the Rust answers to each.
+// The frame times of moovs and of recordings on stored cases: stdin has the cases, stdout the answers (compare/README.md).
 use cases::lent;
 use cases::lines;
 use cases::read;

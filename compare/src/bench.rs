@@ -272,13 +272,23 @@ fn recordings() -> Inputs {
     let mut inputs = Inputs::new();
     let mut r = Random::new(4);
     for n in [100usize, 10_000, 1_000_000] {
-        let mut at = 1_000_000_000;
-        let timestamps: Vec<i64> = (0..n).map(|_| { at += 40_000_000 + r.below(2000) as i64; at }).collect();
+        let timestamps = recording(n, || 40_000_000 + r.below(2000));
         inputs.push((format!("{n} timestamps"), Case::McrawTimes { timestamps: timestamps.clone(), room: [n; 2] }));
         let table = Lent::new(table_of(&timestamps, 32));
         inputs.push((format!("{n} timestamps, 32 segments"), Case::CheckMcraw { table, timestamps, room: [n; 2] }));
     }
+    // As far apart as can be: nothing that cameras write
+    for n in [10_000usize, 1_000_000] {
+        let timestamps = recording(n, || r.below((1 << 62) / n as u64));
+        inputs.push((format!("{n} timestamps, intervals of any length"), Case::McrawTimes { timestamps, room: [n; 2] }));
+    }
     inputs
+}
+
+/// `n` timestamps with these intervals
+fn recording(n: usize, mut interval: impl FnMut() -> u64) -> Vec<i64> {
+    let mut at = 1_000_000_000;
+    (0..n).map(|_| { at += interval() as i64; at }).collect()
 }
 
 /// A table of `segments` segments that fits a recording

@@ -152,6 +152,43 @@ static void table_calls(void) {
     REFUSED_AT(3, 0, st_continues(NULL, 0, NULL, 0, NULL, 0, false, NULL, 0, MOST, &x, &at));
 }
 
+/* The lookup over records: as over words, of the same table, whatever lies between a record's fields. */
+static void record_calls(void) {
+    st_trim_segment r[3];
+    for (int fill = 0; fill < 256; fill += 85) {
+        memset(r, fill, sizeof r);
+        for (size_t k = 0; k < 2; k++) {
+            const uint64_t *u = segments + 5 * k;
+            const int64_t *t = times + 7 * k;
+            r[k].source = u[0], r[k].src_first_frame = u[1], r[k].frame_count = u[2], r[k].out_first_frame = u[3];
+            r[k].src_start_us = t[0], r[k].out_start_us = t[1], r[k].duration_us = t[2], r[k].src_capture_start_us = t[3];
+            r[k].out_capture_start_us = t[4], r[k].capture_duration_us = t[5], r[k].shift_present = false, r[k].clock_shift = t[6];
+        }
+#define RECORDS(list, count, frame) st_segment_of_frame_records(sources, 20, NULL, 0, list, count, false, frame, &x, &at)
+        for (uint64_t frame = 0; frame < 60; frame++) {
+            uint64_t words;
+            ACCEPTED(st_segment_of_frame(T, frame, &x, &at));
+            words = x;
+            ACCEPTED(RECORDS(r, 2, frame));
+            IS(x == words && at == 0);
+        }
+        ACCEPTED(RECORDS(r, 2, MOST));
+        IS(x == 1);
+        REFUSED_AT(8, 0, RECORDS(NULL, 0, 0));
+        REFUSED_AT(3, 0, st_segment_of_frame_records(NULL, 0, NULL, 0, r, 2, false, MOST, &x, &at));
+        REFUSED_AT(1, 0, st_segment_of_frame_records(sources, 19, NULL, 0, r, 2, false, 0, &x, &at));
+        REFUSED_AT(7, 0, st_segment_of_frame_records(sources, 20, NULL, 0, r, 2, true, 0, &x, &at));
+        r[1].shift_present = true;
+        REFUSED_AT(17, 1, RECORDS(r, 2, 0));
+        r[1].shift_present = false, r[1].capture_duration_us = INT64_MIN;
+        REFUSED_AT(13, 1, RECORDS(r, 2, 0));
+        r[1].frame_count = MOST;
+        REFUSED_AT(11, 1, RECORDS(r, 2, 0));
+        r[0].source = MOST;
+        REFUSED_AT(9, 0, RECORDS(r, 2, 0));
+    }
+}
+
 /* Rows into room for three. */
 static uint64_t out[15];
 static int64_t moved[3];
@@ -357,6 +394,7 @@ static void judge_calls(void) {
 int main(void) {
     clock_calls();
     table_calls();
+    record_calls();
     map_calls();
     box_calls();
     recording_calls();

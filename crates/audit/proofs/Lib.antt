@@ -4,5 +4,6 @@ pub mod Meant
 pub mod Refused
 pub mod Judged
 pub mod Tiled
+pub mod Rounded
 pub mod Worked
 pub mod Audited

@@ -6,10 +6,11 @@ use mathlib.Core.Bool.{Bool, true}
 use mathlib.Core.List.{List}
 use mathlib.Core.Logic.{_↔_}
 use mathlib.Core.Path.{_≡_}
-use lib.IntN.{ℤ}
+use lib.IntN.{ℤ, negℤ}
 use lib.ListN.{length, take}
 use denote.Ref.{RefT, now}
 use Rattle.slices.specs.Slices.{All}
+use Rattle.signed.specs.Rounded.{nearest, rounded}
 use Rattle.utc.specs.Utc.{utcSecond}
 use Rattle.ticks.specs.declared.Us.{Us}
 use Rattle.ticks.specs.Ticks.{ticksToUs}
@@ -158,6 +159,12 @@ pub record Meanings : Type 0 where
   pub segment-of-frame-records : (sources text : List ℕ) (rs : List TrimSegment) (log : Bool) (f : ℕ) (r : Found)
       → calls.SegmentOfFrameRecords sources text rs log f r ↔ SegmentOfFrame (inWords sources text rs log) f r
 
+-- TO THE NEAREST WHOLE NUMBER, as `ticksToUs` has it by `rounded`: q is n / d rounded exactly when n / d is at least q - 1/2 and less than q + 1/2, so that a half
+-- goes up; and below zero it is the same with the sign, so that a half goes away from zero. (Document 01, `ticks_to_us`.)
+pub record Rounding : Type 0 where
+  pub halves : (n d q : ℕ) → 0 < d → (q ≡ nearest n d) ↔ ((2 * (q * d) ≤ 2 * n + d) × (2 * n < 2 * (q * d) + d))
+  pub signs : (z : ℤ) (d : ℕ) → 0 < d → rounded (negℤ z) d ≡ negℤ (rounded z d)
+
 pub record Claims : Type 0 where
   pub answers : Answers
   pub origins : Origins
@@ -169,6 +176,7 @@ pub record Claims : Type 0 where
   pub refusals : Refusals
   pub acceptances : Acceptances
   pub meanings : Meanings
+  pub rounding : Rounding
   -- Words of an absent thing (creation time, clock, modulus, shift) are ignored: tables that differ only in them get the same answers from every call.
   pub ignored : AbsentIgnored
   -- 7. THE STARRED NUMBERS of document 01, and the auditor's clip.

@@ -36,10 +36,6 @@ module _ (s r : RefT (List ℕ)) {p : Place} where
       subst (λ (p : Place). PartAt s p r) (sym e)
       (record { bytes = b ∙ ap (λ (k : ℕ). take k (drop a (now s))) (add-sub-cancel-left a n); place = q ∙ ap (λ (k : ℕ). (s .ptr .0, k)) (add-comm a (s .ptr .1)) })
 
--- a part's bytes and its place are fixed by the whole and the place
-pub part-once : {s r q : RefT (List ℕ)} {p : Place} → PartAt s p r → PartAt s p q → (now r ≡ now q) × (r .ptr ≡ q .ptr)
-part-once a b = (a .bytes ∙ sym (b .bytes), a .place ∙ sym (b .place))
-
 -- a walk that found nothing, as an `else` knows it
 abbrev Missed : Walk → Type 0
 Missed w = OneOf (1 ∷ 2 ∷ []) (tagOf the-type w)

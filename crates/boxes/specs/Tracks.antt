@@ -1,20 +1,14 @@
--- Full boxes (ISO/IEC 14496-12, 4.2) and the first video track of a moov (8.3.1, 8.4.1, 8.4.3).
+-- The first video track of a moov (ISO/IEC 14496-12, 8.3.1, 8.4.1, 8.4.3).
 use Prim.Native.Nat.{ℕ}
 use mathlib.Core.List.{List}
 use mathlib.Core.Bool.{Bool, false}
-use lib.ListN.{length, getD, take, drop}
+use lib.ListN.{length, take, drop}
 use lib.Dec.{ltb, eqb}
 use Rattle.choice.specs.Choice.{if_then_else_}
 use Rattle.boxes.specs.Bytes.{be32At, trak, mdia, hdlr, vide}
 use Rattle.boxes.specs.Boxes.{boxesOf, firstSuch}
 use Rattle.boxes.specs.Places.{childOf}
 use Rattle.boxes.specs.declared.Walk.{Walk}
-use Rattle.boxes.specs.declared.Full.{Full}
-use Rattle.boxes.specs.declared.Full.the-variants.{Version, Short}
-
--- the version of a full box: its first byte, of the four that it has at least
-abbrev pub fullOf : List ℕ → Full
-fullOf p = if ltb (length p) 4 then Short else Version (getD p 0 0)
 
 -- a track whose first mdia's first hdlr has `vide` at 8 (8.4.3: version and flags, four bytes, then the handler's type)
 unfoldable pub isVideo : List ℕ → Bool

@@ -59,12 +59,6 @@ pub enum Place {
     Refused(u64),
 }
 
-// The version of a full box.
-pub enum Full {
-    Version(u8),
-    Short,
-}
-
 // The size of the box at the start of data and of its header, where remaining bytes are left of what it is in: the Rust's box_size. 30, 31.
 pub fn box_size(data: &[u8], remaining: u64) -> Sized
     ensures { λ r. ⌜ r ≡ boxSize (now («data» .entry)) remaining ⌝ }

@@ -1,5 +1,4 @@
-// Full boxes, and the first video track of a moov.
-use crate::Full;
+// The first video track of a moov.
 use crate::Header;
 use crate::Walk;
 use crate::part::inner_child;
@@ -9,29 +8,9 @@ use crate::read::code;
 use crate::search::stopped;
 use crate::size::header_at;
 ghost use mathlib.Core.Path.{_≡_};
-ghost use Prim.Native.Nat.{_+_, _-_, _≤_};
+ghost use Prim.Native.Nat.{_+_, _≤_};
 ghost use lib.ListN.{length};
-ghost use Rattle.boxes.specs.declared.Place.the-variants.{At};
-ghost use Rattle.boxes.specs.Places.{PartAt};
-ghost use Rattle.boxes.specs.Tracks.{fullOf, isVideo, isVideoTrack, videoTrack};
-
-// The version of a full box: the first half of the Rust's full_box.
-pub fn full_box(p: &[u8]) -> Full
-    ensures { λ r. ⌜ r ≡ fullOf (now (p .entry)) ⌝ }
-{
-    if p.len() < 4 {
-        return Full::Short;
-    }
-    Full::Version(p[0])
-}
-
-// What follows a full box's version and flags: the second half.
-pub fn full_body(p: &[u8]) -> &[u8]
-    requires { ⌜ 4 ≤ length (now p) ⌝ }
-    ensures { λ r. ⌜ PartAt (p .entry) (At 4 (length (now (p .entry)) - 4)) r ⌝ }
-{
-    &p[4..]
-}
+ghost use Rattle.boxes.specs.Tracks.{isVideo, isVideoTrack, videoTrack};
 
 // Whether a track is a video track: its first mdia's first hdlr has `vide` at 8.
 fn is_video(trak: &[u8]) -> bool

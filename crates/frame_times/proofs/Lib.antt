@@ -4,5 +4,3 @@ pub mod FrameLaws
 pub mod KeepLaws
 pub mod ShowLaws
 pub mod TrackLaws
-pub mod Once
-pub mod Examples

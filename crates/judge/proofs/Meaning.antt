@@ -24,7 +24,6 @@ use Rattle.signed.proofs.Order.{eqZ-refl, eqZ-true}
 use Rattle.signed.proofs.Ranges.{in-range}
 use Rattle.ticks.specs.Ticks.{microsOf, endsNear}
 use Rattle.ticks.proofs.Microseconds.{micros-none, micros-some}
-use Rattle.rules.specs.declared.Checked.{Checked}
 use Rattle.rules.specs.declared.Checked.the-variants.{Frames}
 use Rattle.rules.specs.Records.{Table, noSegment, segment, outEnd, outEndUs, total}
 use Rattle.rules.specs.Rules.{refusal, answered, checkOf}
@@ -36,7 +35,7 @@ use Rattle.mcraw.proofs.Holds.{held}
 use Rattle.choice.proofs.Chains.{when-never, or-never}
 use Rattle.mcraw.proofs.Answers as answers
 use Rattle.judge.specs.Video.{Shown, timed}
-use Rattle.judge.specs.Judge.{startsAt, startRefusal, lastOf, videoRefusal, validateOf, single, timesRefusal, recordingRefusal, checkMcraw, Settled}
+use Rattle.judge.specs.Judge.{startsAt, startRefusal, lastOf, videoRefusal, validateOf, single, timesRefusal, recordingRefusal, checkMcraw}
 use Rattle.judge.specs.Means.{Fits, Recorded}
 use Rattle.judge.proofs.Chains.{fits, frames-never, rest-accepts, one-timestamp, by-times}
 
@@ -195,7 +194,3 @@ module _ (t : Table) (ts : List ℤ) (a b N : ℕ) where
     (λ e. let c = accepts t N (recordingRefusal (t .sources) (t .segments) ts a b) e in fits-recording (c .0) (c .1)),
     (λ h. let c = recording-fits h in sym (rest-accepts t (sym (c .0)) refl {rest = recordingRefusal (t .sources) (t .segments) ts a b} refl (c .1))),
   )
-
--- nothing else meets the promise
-pub settled-once : {t : Table} {ts a b : List ℤ} {r q : Checked} {v w x y : List ℤ} → Settled t ts a b r v w → Settled t ts a b q x y → (r ≡ q) × (v ≡ x) × (w ≡ y)
-settled-once p q = (p .answer ∙ sym (q .answer), p .first-cleared ∙ sym (q .first-cleared), p .second-cleared ∙ sym (q .second-cleared))

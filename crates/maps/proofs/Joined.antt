@@ -33,7 +33,7 @@ moved-none (r ∷ m) = let e : moved 0 r ≡ r = row-eq (moved 0 r) r refl refl 
 later-none : (u : List ℕ) (s : List ℤ) → later u s 0 ≡ rows u s
 later-none u s = sym (map-run (rowAt u s) (moved 0) 0 (length s)) ∙ moved-none (rows u s)
 
-length-rows : (u : List ℕ) (s : List ℤ) → length (rows u s) ≡ length s
+pub length-rows : (u : List ℕ) (s : List ℤ) → length (rows u s) ≡ length s
 length-rows u s = length-run (rowAt u s) 0 (length s)
 
 pub length-join : (u : List ℕ) (s : List ℤ) (v : List ℕ) (t : List ℤ) → length (join (rows u s) (rows v t)) ≡ length s + length t

@@ -8,7 +8,6 @@ use lib.IntN.{ℤ}
 use lib.ListN.{length, take}
 use Rattle.choice.specs.declared.Refusal.{Refusal}
 use Rattle.choice.specs.declared.Refusal.the-variants.{Never}
-use Rattle.choice.proofs.Runs.{length-run}
 use Rattle.choice.proofs.Tests.{le-or-lt}
 use Rattle.rows.specs.declared.Row.{Row}
 use Rattle.rows.specs.Rows.{largest, total, Origin, nowhere, from, origin, cut, join, merge}
@@ -17,14 +16,14 @@ use Rattle.maps.specs.declared.Mapped.{Mapped}
 use Rattle.maps.specs.declared.Mapped.the-variants.{Rows, Refused}
 use Rattle.maps.specs.declared.Traced.{Traced}
 use Rattle.maps.specs.declared.Traced.the-variants as traced
-use Rattle.rows.specs.Lent.{rowAt, rows}
+use Rattle.rows.specs.Lent.{rows}
 use Rattle.maps.specs.Answers.{mostRows, noRoom, pastMap, roomRefusal, cutRefusal, mergeRefusal, answered, told, tracedOf, Placed, placed-once, Cut, Join, Merge, Trace}
 use Rattle.maps.specs.Steps.{Sound}
 use Rattle.maps.specs.Laws.{LentMap, Wrote, Found, Laws}
 use Rattle.choice.proofs.Chains.{not-past}
 use Rattle.maps.proofs.Chains.{Fits, room-on, too-many, sound-map, cut-empty, cut-room, cut-never, cut-accepted, merge-room, merge-never, merge-accepted, join-room, join-never, join-accepted, origin-beyond, origin-accepted}
 use Rattle.maps.proofs.Spans.{origin-held, row-holder}
-use Rattle.maps.proofs.Joined.{length-join}
+use Rattle.maps.proofs.Joined.{length-rows, length-join}
 use Rattle.maps.proofs.ReadBack.{none, count, wrote, as-lent, frames-rows, rows-frames}
 
 -- ---- lent maps
@@ -34,11 +33,8 @@ lent m few = record { some = m .some; sizes = m .sizes; well = m .well; few = fe
 sound : {u : List ℕ} {s : List ℤ} → LentMap u s → Sound u s
 sound l = record { some = l .some; sizes = l .sizes; well = l .well }
 
-size : (u : List ℕ) (s : List ℤ) → length (rows u s) ≡ length s
-size u s = length-run (rowAt u s) 0 (length s)
-
 some-frames : (u : List ℕ) (s : List ℤ) → LentMap u s → 0 < total (rows u s)
-some-frames u s l = rows-frames (rows u s) (l .well) (omega (arith, size u s, l .some))
+some-frames u s l = rows-frames (rows u s) (l .well) (omega (arith, length-rows u s, l .some))
 
 -- two calls that are asked for the same rows, with the same refusal
 once : {x y : Refusal} {m l : List Row} {ou ou′ ou″ : List ℕ} {os os′ os″ : List ℤ} {r q : Mapped} → x ≡ y → m ≡ l
@@ -78,7 +74,7 @@ answer {x} {m} p e = p .answer ∙ ap (λ (y : Refusal). answered y m) e
 cut-accepts : (u : List ℕ) (s : List ℤ) (a b : ℕ) (ou ou′ : List ℕ) (os os′ : List ℤ) (r : Mapped) → LentMap u s → a < b → b ≤ total (rows u s)
     → 5 * length (cut a b (rows u s)) ≤ length ou → length (cut a b (rows u s)) ≤ length os → Cut u s a b ou os r ou′ os′ → r ≡ Rows (length (cut a b (rows u s)))
 cut-accepts u s a b ou ou′ os os′ r l h i x y p =
-    let f : Fits (length (cut a b (rows u s))) (length ou) (length os) = record { few = omega (arith, demanded .cut-rows (rows u s) a b, size u s, l .few); words = x; shifts = y } in
+    let f : Fits (length (cut a b (rows u s))) (length ou) (length os) = record { few = omega (arith, demanded .cut-rows (rows u s) a b, length-rows u s, l .few); words = x; shifts = y } in
     answer p (cut-accepted u s a b (length ou) (length os) (record { sound = sound l; few = l .few; some = h; inside = i; room = f }))
 
 join-accepts : (u v : List ℕ) (s t : List ℤ) (ou ou′ : List ℕ) (os os′ : List ℤ) (r : Mapped) → LentMap u s → LentMap v t → total (rows u s) + total (rows v t) ≤ largest
@@ -91,7 +87,7 @@ join-accepts u v s t ou ou′ os os′ r l k h few x y p =
 merge-accepts : (u : List ℕ) (s : List ℤ) (ou ou′ : List ℕ) (os os′ : List ℤ) (r : Mapped) → LentMap u s
     → 5 * length (merge (rows u s)) ≤ length ou → length (merge (rows u s)) ≤ length os → Merge u s ou os r ou′ os′ → r ≡ Rows (length (merge (rows u s)))
 merge-accepts u s ou ou′ os os′ r l x y p =
-    let f : Fits (length (merge (rows u s))) (length ou) (length os) = record { few = omega (arith, demanded .merge-rows (rows u s), size u s, l .few); words = x; shifts = y } in
+    let f : Fits (length (merge (rows u s))) (length ou) (length os) = record { few = omega (arith, demanded .merge-rows (rows u s), length-rows u s, l .few); words = x; shifts = y } in
     answer p (merge-accepted u s (length ou) (length os) (record { sound = sound l; few = l .few; room = f }))
 
 -- ---- origins
@@ -254,8 +250,8 @@ module _ (u : List ℕ) (s : List ℤ) (a b c i j : ℕ) (pu pu′ qu qu′ : Li
 
   sizes : (length (take i ps′) ≡ i) × (length (take j qs′) ≡ j)
   sizes = (
-    sym (size (take (5 * i) pu′) (take i ps′)) ∙ ap length (left .3 .is) ∙ sym (count p),
-    sym (size (take (5 * j) qu′) (take j qs′)) ∙ ap length (right .3 .is) ∙ sym (count q),
+    sym (length-rows (take (5 * i) pu′) (take i ps′)) ∙ ap length (left .3 .is) ∙ sym (count p),
+    sym (length-rows (take (5 * j) qu′) (take j qs′)) ∙ ap length (right .3 .is) ∙ sym (count q),
   )
 
   join-cuts-answer : (ju ju′ : List ℕ) (js js′ : List ℤ) (r : Mapped) → Join (take (5 * i) pu′) (take i ps′) (take (5 * j) qu′) (take j qs′) ju js r ju′ js′

@@ -19,7 +19,7 @@ use Rattle.signed.specs.Signed.{I64, eqZ}
 use Rattle.slices.specs.Slices.{laid}
 use Rattle.mcraw.specs.declared.Times.{Times}
 use Rattle.mcraw.specs.declared.Times.the-variants.{Timed, Refused}
-use Rattle.mcraw.specs.Mcraw.{mostTimestamps, nanoseconds, tooMany, noTimes, noRoom, outOfRange, outside, span, nominal, end, fallOf, refusalOf, timesUnless, timesOf, startsOf, written, Answered}
+use Rattle.mcraw.specs.Mcraw.{mostTimestamps, nanoseconds, tooMany, noTimes, noRoom, outOfRange, outside, span, nominal, end, fallOf, refusalOf, timesUnless, timesOf, startsOf, written}
 use Rattle.mcraw.proofs.Holds.{inside}
 
 -- the tests before the intervals are taken, none of which held
@@ -142,9 +142,3 @@ wrote ts n scale m e r h = sym (ap (λ (t : Times). written t ts) h)
 pub wrote-none : (ts o : List ℤ) (n i : ℕ) (r : Times) → r ≡ Refused n i → o ≡ laid (written r ts) o
 unfolding written
 wrote-none ts o n i r h = sym (ap (λ (t : Times). laid (written t ts) o) h)
-
--- nothing else meets the promise
-pub answered-once : {ts starts work : List ℤ} {r q : Times} {s t v w : List ℤ} → Answered ts starts work r s v → Answered ts starts work q t w → (r ≡ q) × (s ≡ t) × (v ≡ w)
-answered-once {ts} {starts} a b =
-    let e = a .answer ∙ sym (b .answer) in
-    (e, a .laid-out ∙ ap (λ (x : Times). laid (written x ts) starts) e ∙ sym (b .laid-out), a .cleared ∙ sym (b .cleared))

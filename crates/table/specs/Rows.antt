@@ -2,7 +2,7 @@
 use Prim.Native.Nat.{ℕ, _*_}
 use mathlib.Core.Bool.{Bool, _||_}
 use mathlib.Core.List.{List, map}
-use mathlib.Core.Path.{_≡_, sym, _∙_}
+use mathlib.Core.Path.{_≡_}
 use lib.ListN.{length}
 use lib.Dec.{eqb, ltb}
 use lib.IntN.{ℤ, pos}
@@ -59,11 +59,6 @@ pub record Rowed (t : Table) (ou : List ℕ) (os : List ℤ) (r : Filled) (ou′
   pub answer : r ≡ filled (rowsRefusal t (length ou) (length os)) (length (t .segments))
   pub words : ou′ ≡ after (rowsRefusal t (length ou) (length os)) (wordsOf (rowsOf t)) ou
   pub shifts : os′ ≡ after (rowsRefusal t (length ou) (length os)) (shiftsOf (rowsOf t)) os
-
--- nothing else meets it
-pub rowed-once : {t : Table} {ou : List ℕ} {os : List ℤ} {r r′ : Filled} {ou′ ou″ : List ℕ} {os′ os″ : List ℤ}
-    → Rowed t ou os r ou′ os′ → Rowed t ou os r′ ou″ os″ → (r ≡ r′) × (ou′ ≡ ou″) × (os′ ≡ os″)
-rowed-once p q = (p .answer ∙ sym (q .answer), p .words ∙ sym (q .words), p .shifts ∙ sym (q .shifts))
 
 -- the rows of an accepted table of N frames are a well-formed map of N frames, one row a segment; `mapped`, in proofs/Mapped.antt, proves it of every table
 pub record Mapped (t : Table) : Type 0 where

@@ -7,15 +7,15 @@ use lib.Arith.{digits-div}
 use lib.IntN.{ℤ, pos, negsuc, negℤ, negℤ-negℤ}
 use Rattle.signed.specs.Rounded.{nearest, rounded}
 
--- n / d is less than a half above it and at most a half below it, so that a half goes up,
-pub nearest-near : (n d : ℕ) → 0 < d → (2 * n < 2 * (nearest n d * d) + d) × (2 * (nearest n d * d) ≤ 2 * n + d)
+-- n / d is at most a half below it and less than a half above it, so that a half goes up,
+pub nearest-near : (n d : ℕ) → 0 < d → (2 * (nearest n d * d) ≤ 2 * n + d) × (2 * n < 2 * (nearest n d * d) + d)
 nearest-near n d h =
     let e : (2 * n + d) / (2 * d) * (2 * d) + (2 * n + d) % (2 * d) ≡ 2 * n + d = div-add-mod' (2 * n + d) (2 * d) in
     let b : (2 * n + d) % (2 * d) < 2 * d = mod-lt (2 * n + d) (omega arith) in
     (omega arith, omega arith)
 
 -- and of no other number is that true
-pub nearest-only : (n d q : ℕ) → 2 * n < 2 * (q * d) + d → 2 * (q * d) ≤ 2 * n + d → q ≡ nearest n d
+pub nearest-only : (n d q : ℕ) → 2 * (q * d) ≤ 2 * n + d → 2 * n < 2 * (q * d) + d → q ≡ nearest n d
 nearest-only n d q h k =
     let r = 2 * n + d - 2 * (q * d) in
     let e : 2 * n + d ≡ q * (2 * d) + r = omega arith in

@@ -1,8 +1,14 @@
--- What "to the nearest" means: by ticks' laws of the definitions. Assumes nothing.
+-- What "to the nearest", "most frequent" and "ascending" mean: by ticks' and order's laws of the definitions. Assumes nothing.
 use Prim.Native.Nat.{ℕ, _+_, _*_, _≤_, _<_}
 use mathlib.Core.Path.{sym, subst}
+use lib.IntN.{ℤ}
+use Rattle.signed.specs.Signed.{eqZ}
 use Rattle.ticks.specs.Nearest.{nearest-near, nearest-only, rounded-negated}
-use Rattle.audit.specs.Claims.{Rounding}
+use Rattle.order.specs.Order.{MostFrequent}
+use Rattle.order.proofs.Sorted.{asc-sorted}
+use Rattle.order.proofs.Counts.{count-sorted}
+use Rattle.order.proofs.Mode.{mode-is, only-mode}
+use Rattle.audit.specs.Claims.{Rounding, Ordering}
 
 pub rounding : Rounding
 rounding = record {
@@ -11,4 +17,11 @@ rounding = record {
     λ p. nearest-only n d q (p .0) (p .1),
   );
   signs = rounded-negated;
+}
+
+pub ordering : Ordering
+ordering = record {
+  most = λ l v h. (λ e. subst (MostFrequent l) (sym e) (mode-is l h), only-mode l v);
+  ascends = asc-sorted;
+  keeps = λ v l. count-sorted (λ (x : ℤ). eqZ x v) l;
 }

@@ -14,9 +14,10 @@ use Rattle.signed.specs.Rounded.{nearest, rounded}
 use Rattle.utc.specs.Utc.{utcSecond}
 use Rattle.ticks.specs.declared.Us.{Us}
 use Rattle.ticks.specs.Ticks.{ticksToUs}
+use Rattle.order.specs.Order.{sorted, count, Asc, MostFrequent, mode}
 use Rattle.rows.specs.declared.Row.{Row}
 use Rattle.rows.specs.Rows.{total}
-use Rattle.rows.specs.Demands.{Tiles}
+use Rattle.rows.specs.Demands.{Tiles, Demands}
 use Rattle.rules.specs.declared.Checked.{Checked}
 use Rattle.rules.specs.declared.Checked.the-variants.{Frames, Refused}
 use Rattle.rules.specs.declared.Found.{Found}
@@ -165,18 +166,27 @@ pub record Rounding : Type 0 where
   pub halves : (n d q : ℕ) → 0 < d → (q ≡ nearest n d) ↔ ((2 * (q * d) ≤ 2 * n + d) × (2 * n < 2 * (q * d) + d))
   pub signs : (z : ℤ) (d : ℕ) → 0 < d → rounded (negℤ z) d ≡ negℤ (rounded z d)
 
+-- THE NOMINAL DURATION AND THE ORDER OF THE FRAMES, as frame times have them by `mode` and `sorted`: of some durations the one that stands there most often, of
+-- several the smallest, and no other; and the times ascend, each as often as before. (Document 01, `video_frame_times_of_moov`; demand 2.)
+pub record Ordering : Type 0 where
+  pub most : (l : List ℤ) (v : ℤ) → 0 < length l → (v ≡ mode l) ↔ MostFrequent l v
+  pub ascends : (l : List ℤ) → Asc (sorted l)
+  pub keeps : (v : ℤ) (l : List ℤ) → count v (sorted l) ≡ count v l
+
 pub record Claims : Type 0 where
   pub answers : Answers
   pub origins : Origins
   -- 4. THE LAWS OF CUT, JOIN AND MERGE, of the calls: what is written is a map again; a cut keeps each frame's origin; a cut of a cut is the one cut of the combined
   -- range; a join has both maps' origins; merging keeps origins, twice is once, and two maps merge alike exactly when all origins agree; neighbouring cuts joined
-  -- and merged are the merged cut of the whole, where they have up to 1,024 rows. (Demand 3; maps/specs/Laws.antt, whose `Cut`, `Join`, `Merge` and `Trace` are
-  -- the calls' promises by `meanings`.)
-  pub laws : laws.Laws
+  -- and merged are the merged cut of the whole, where they have up to 1,024 rows. (Demand 3; maps/specs/Laws.antt has the lines.)
+  pub laws : laws.Laws calls.Cut calls.Join calls.Merge calls.Origin
+  -- The same of the maps themselves, whatever their length; among it, that an absent shift isn't a shift of 0. (Demand 3; rows/specs/Demands.antt.)
+  pub demands : Demands
   pub refusals : Refusals
   pub acceptances : Acceptances
   pub meanings : Meanings
   pub rounding : Rounding
+  pub ordering : Ordering
   -- Words of an absent thing (creation time, clock, modulus, shift) are ignored: tables that differ only in them get the same answers from every call.
   pub ignored : AbsentIgnored
   -- 7. THE STARRED NUMBERS of document 01, and the auditor's clip.

@@ -51,6 +51,7 @@ cut-gives u s a b k ou ou′ os os′ p =
 
 join-gives : (u v : List ℕ) (s t : List ℤ) (k : ℕ) (ou ou′ : List ℕ) (os os′ : List ℤ) → Join u s v t ou os (Rows k) ou′ os′
     → LentMap u s × LentMap v t × (total (rows u s) + total (rows v t) ≤ largest) × Wrote k ou′ os′ (join (rows u s) (rows v t)) × (k ≡ length s + length t)
+    × (total (join (rows u s) (rows v t)) ≡ total (rows u s) + total (rows v t))
 join-gives u v s t k ou ou′ os os′ p =
     let o = join-never u s v t (length ou) (length os) (none p) in
     let n = length-join u s v t in (
@@ -59,13 +60,20 @@ join-gives u v s t k ou ou′ os os′ p =
       o .short,
       wrote p (omega (arith, o .first .some)) (o .room .few) (demanded .join-well (rows u s) (rows v t) (o .first .well) (o .second .well) (o .short)),
       count p ∙ n,
+      demanded .join-total (rows u s) (rows v t),
     )
 
-merge-gives : (u : List ℕ) (s : List ℤ) (k : ℕ) (ou ou′ : List ℕ) (os os′ : List ℤ) → Merge u s ou os (Rows k) ou′ os′ → LentMap u s × Wrote k ou′ os′ (merge (rows u s))
+merge-gives : (u : List ℕ) (s : List ℤ) (k : ℕ) (ou ou′ : List ℕ) (os os′ : List ℤ) → Merge u s ou os (Rows k) ou′ os′
+    → LentMap u s × Wrote k ou′ os′ (merge (rows u s)) × (total (merge (rows u s)) ≡ total (rows u s))
 merge-gives u s k ou ou′ os os′ p =
     let o = merge-never u s (length ou) (length os) (none p) in
     let l = lent (o .sound) (o .few) in
-    (l, wrote p (frames-rows (merge (rows u s)) (omega (arith, demanded .merge-total (rows u s), some-frames u s l))) (o .room .few) (demanded .merge-well (rows u s) (l .well)))
+    (l, wrote p (frames-rows (merge (rows u s)) (omega (arith, demanded .merge-total (rows u s), some-frames u s l))) (o .room .few) (demanded .merge-well (rows u s) (l .well)), demanded .merge-total (rows u s))
+
+cut-whole : (u : List ℕ) (s : List ℤ) (k : ℕ) (ou ou′ : List ℕ) (os os′ : List ℤ) → Cut u s 0 (total (rows u s)) ou os (Rows k) ou′ os′ → Wrote k ou′ os′ (rows u s)
+cut-whole u s k ou ou′ os os′ p =
+    let g = cut-gives u s 0 (total (rows u s)) k ou ou′ os os′ p in
+    record { lent = g .3 .lent; is = g .3 .is ∙ demanded .cut-all (rows u s) (g .0 .well) }
 
 -- ---- where they answer
 answer : {x : Refusal} {m : List Row} {ou ou′ : List ℕ} {os os′ : List ℤ} {r : Mapped} → Placed x m ou os r ou′ os′ → x ≡ Never → r ≡ Rows (length m)
@@ -202,10 +210,10 @@ merge-same : (u v : List ℕ) (s t : List ℤ) (i j : ℕ) (ou ou′ ou″ : Lis
 merge-same u v s t i j ou ou′ ou″ os os′ os″ p x e = (forth, back)
   where
     g : LentMap u s × Wrote i ou′ os′ (merge (rows u s))
-    g = merge-gives u s i ou ou′ os os′ p
+    g = let y = merge-gives u s i ou ou′ os os′ p in (y .0, y .1)
 
     h : LentMap v t × Wrote j ou″ os″ (merge (rows v t))
-    h = merge-gives v t j ou ou″ os os″ x
+    h = let y = merge-gives v t j ou ou″ os os″ x in (y .0, y .1)
 
     same : (merge (rows u s) ≡ merge (rows v t)) ↔ ((f : ℕ) → f < total (rows u s) → origin (rows u s) f ≡ origin (rows v t) f)
     same = demanded .merge-same (rows u s) (rows v t) (g .0 .well) (h .0 .well) e
@@ -274,12 +282,15 @@ module _ (u : List ℕ) (s : List ℤ) (a b c i j : ℕ) (pu pu′ qu qu′ : Li
   join-cuts-rows w wu wu′ ws ws′ z =
       omega (arith, count p, count q, count z, demanded .join-cuts-rows (rows u s) a b c (left .0 .well) (omega (arith, left .1)) (omega (arith, right .1)))
 
-pub lawful : Laws
+pub lawful : Laws Cut Join Merge Trace
 lawful = record {
-  as-lent = λ p. as-lent _ p;
+  cut-leaves = λ u s a b ou ou′ os os′ r p. as-lent r p;
+  join-leaves = λ u v s t ou ou′ os os′ r p. as-lent r p;
+  merge-leaves = λ u s ou ou′ os os′ r p. as-lent r p;
   cut-gives = cut-gives;
   join-gives = join-gives;
   merge-gives = merge-gives;
+  cut-whole = cut-whole;
   cut-accepts = cut-accepts;
   join-accepts = join-accepts;
   merge-accepts = merge-accepts;

@@ -14,7 +14,7 @@ use Rattle.choice.proofs.Runs.{length-run, getD-run}
 use Rattle.choice.proofs.Tests.{le-or-lt, Test, was, wasnt, test}
 use Rattle.rows.specs.declared.Row.{Row}
 use Rattle.rows.specs.Rows.{largest, end, total, WellFrom, WellFormed, holds, originIn, origin, overlaps, clip, cut}
-use Rattle.rows.specs.Demands.{row}
+use Rattle.rows.specs.Demands.{noRow}
 use Rattle.rows.proofs.Origins.{holds-in, holds-lo, holds-hi}
 use Rattle.rows.proofs.Demanded.{demanded}
 use Rattle.rows.proofs.Well.{Ok, ok-facts}
@@ -231,10 +231,10 @@ module _ {u : List ℕ} {s : List ℤ} (m : Sound u s) where
   pub row-out : (k : ℕ) (r : Row) → r ≡ rowAt u s k → k < length s → r .out ≤ total (rows u s)
   row-out k r e h = let l = row-lies m k h in omega (arith, ap (λ (x : Row). x .out) e, l .begins, start-rises (rowAt u s) k (length s) (omega arith))
 
-  row-is : (j : ℕ) → j < length s → getD (rows u s) j (row 0 0 0 0) ≡ rowAt u s j
-  row-is j h = let z : 0 + j ≡ j = omega arith in getD-run (rowAt u s) 0 (length s) j (row 0 0 0 0) h ∙ ap (rowAt u s) z
+  row-is : (j : ℕ) → j < length s → getD (rows u s) j noRow ≡ rowAt u s j
+  row-is j h = let z : 0 + j ≡ j = omega arith in getD-run (rowAt u s) 0 (length s) j noRow h ∙ ap (rowAt u s) z
 
-  holds-row : (k j : ℕ) → j < length s → (rowAt u s j) .out ≤ k → k < end (rowAt u s j) → holds (getD (rows u s) j (row 0 0 0 0)) k ≡ true
+  holds-row : (k j : ℕ) → j < length s → (rowAt u s j) .out ≤ k → k < end (rowAt u s j) → holds (getD (rows u s) j noRow) k ≡ true
   holds-row k j h l t = ap (λ (r : Row). holds r k) (row-is j h) ∙ holds-in (rowAt u s j) k l t
 
   -- the row that was found gives the frame's origin
@@ -244,7 +244,7 @@ module _ {u : List ℕ} {s : List ℤ} (m : Sound u s) where
       let n = length-run (rowAt u s) 0 (length s) in
       let o = demanded .one-row (rows u s) k (m .well) (omega (arith, l .ends, start-rises (rowAt u s) (suc i) (length s) (omega (arith, x .within)), x .high)) in
       let same : i ≡ o .index = o .only i (omega (arith, x .within)) (holds-row k i (x .within) (x .low) (x .high)) in
-      o .gives ∙ ap (λ (j : ℕ). originIn (getD (rows u s) j (row 0 0 0 0)) k) (sym same) ∙ ap (λ (r : Row). originIn r k) (row-is i (x .within))
+      o .gives ∙ ap (λ (j : ℕ). originIn (getD (rows u s) j noRow) k) (sym same) ∙ ap (λ (r : Row). originIn r k) (row-is i (x .within))
 
   -- each frame has one row that holds it
   pub row-holder : (k : ℕ) → k < total (rows u s) → OneHolder u s k

@@ -1,12 +1,11 @@
--- WHAT THE CALLS GIVE TOGETHER: demand 3, of the calls. `Cut`, `Join`, `Merge` and `Trace` are the calls' promises (Answers.antt), so each law speaks of any
--- results that the promises allow. `lawful`, in proofs/Lawful.antt, proves every line; nothing else of proofs/ need be read.
+-- WHAT THE CALLS GIVE TOGETHER: demand 3, of any four calls. `Cut`, `Join`, `Merge` and `Trace` say which answers the calls allow, so that each law speaks of
+-- any such answers. `lawful`, in proofs/Lawful.antt, proves every line of the promises of Answers.antt, and the audit claims it of the promises in the source.
 use Prim.Native.Nat.{ℕ, _+_, _-_, _*_, _≤_, _<_}
 use mathlib.Core.List.{List}
 use mathlib.Core.Logic.{_↔_}
 use mathlib.Core.Path.{_≡_}
 use lib.IntN.{ℤ}
 use lib.ListN.{length, take, drop}
-use Rattle.choice.specs.declared.Refusal.{Refusal}
 use Rattle.rows.specs.declared.Row.{Row}
 use Rattle.rows.specs.Rows.{largest, end, total, WellFormed, cut, join, merge}
 use Rattle.maps.specs.declared.Mapped.{Mapped}
@@ -14,7 +13,7 @@ use Rattle.maps.specs.declared.Mapped.the-variants.{Rows, Refused}
 use Rattle.maps.specs.declared.Traced.{Traced}
 use Rattle.maps.specs.declared.Traced.the-variants as traced
 use Rattle.rows.specs.Lent.{rowAt, rows}
-use Rattle.maps.specs.Answers.{mostRows, noRoom, pastMap, Placed, Cut, Join, Merge, Trace}
+use Rattle.maps.specs.Answers.{mostRows, noRoom, pastMap}
 
 -- a lent map that no call refuses for itself (51, or 52 for its rows)
 pub record LentMap (u : List ℕ) (s : List ℤ) : Type 0 where
@@ -42,19 +41,33 @@ pub record Found (u : List ℕ) (s : List ℤ) (f : ℕ) (r : Traced) : Type 0 w
   pub only : (j : ℕ) → j < length s → (rowAt u s j) .out ≤ f → f < end (rowAt u s j) → j ≡ index
   pub gives : r ≡ traced.From ((rowAt u s index) .source) ((rowAt u s index) .first + (f - (rowAt u s index) .out)) ((rowAt u s index) .flag) ((rowAt u s index) .shift)
 
-pub record Laws : Type 0 where
-  -- 1. Every call leaves what it doesn't answer as it was lent. (`Cut`, `Join` and `Merge` are each a `Placed`.)
-  pub as-lent : {x : Refusal} {m : List Row} {ou : List ℕ} {os : List ℤ} {r : Mapped} {ou′ : List ℕ} {os′ : List ℤ} → Placed x m ou os r ou′ os′ → AsLent r ou os ou′ os′
-  -- 2. An accepted call was asked of lent maps, and what it wrote is again a map that can be lent: the cut, the join, the merge.
+-- what a call that writes rows allows after its own arguments: of the slices as lent, its answer, and the slices afterwards
+abbrev pub Writes : Type 1
+Writes = List ℕ → List ℤ → Mapped → List ℕ → List ℤ → Type 0
+
+pub record Laws
+    (Cut : List ℕ → List ℤ → ℕ → ℕ → Writes) (Join : List ℕ → List ℤ → List ℕ → List ℤ → Writes) (Merge : List ℕ → List ℤ → Writes)
+    (Trace : List ℕ → List ℤ → ℕ → Traced → Type 0)
+    : Type 0 where
+  -- 1. Every call leaves what it doesn't answer as it was lent.
+  pub cut-leaves : (u : List ℕ) (s : List ℤ) (a b : ℕ) (ou ou′ : List ℕ) (os os′ : List ℤ) (r : Mapped) → Cut u s a b ou os r ou′ os′ → AsLent r ou os ou′ os′
+  pub join-leaves : (u v : List ℕ) (s t : List ℤ) (ou ou′ : List ℕ) (os os′ : List ℤ) (r : Mapped) → Join u s v t ou os r ou′ os′ → AsLent r ou os ou′ os′
+  pub merge-leaves : (u : List ℕ) (s : List ℤ) (ou ou′ : List ℕ) (os os′ : List ℤ) (r : Mapped) → Merge u s ou os r ou′ os′ → AsLent r ou os ou′ os′
+  -- 2. An accepted call was asked of lent maps, and what it wrote is again a map that can be lent: the cut, the join, the merge, with b - a frames, with the
+  -- frames of both, with as many as before. A cut of all frames is the map itself, row for row.
   pub cut-gives : (u : List ℕ) (s : List ℤ) (a b k : ℕ) (ou ou′ : List ℕ) (os os′ : List ℤ)
       → Cut u s a b ou os (Rows k) ou′ os′
       → LentMap u s × (a < b) × (b ≤ total (rows u s)) × Wrote k ou′ os′ (cut a b (rows u s)) × (total (cut a b (rows u s)) ≡ b - a)
   pub join-gives : (u v : List ℕ) (s t : List ℤ) (k : ℕ) (ou ou′ : List ℕ) (os os′ : List ℤ)
       → Join u s v t ou os (Rows k) ou′ os′
       → LentMap u s × LentMap v t × (total (rows u s) + total (rows v t) ≤ largest) × Wrote k ou′ os′ (join (rows u s) (rows v t)) × (k ≡ length s + length t)
+      × (total (join (rows u s) (rows v t)) ≡ total (rows u s) + total (rows v t))
   pub merge-gives : (u : List ℕ) (s : List ℤ) (k : ℕ) (ou ou′ : List ℕ) (os os′ : List ℤ)
       → Merge u s ou os (Rows k) ou′ os′
-      → LentMap u s × Wrote k ou′ os′ (merge (rows u s))
+      → LentMap u s × Wrote k ou′ os′ (merge (rows u s)) × (total (merge (rows u s)) ≡ total (rows u s))
+  pub cut-whole : (u : List ℕ) (s : List ℤ) (k : ℕ) (ou ou′ : List ℕ) (os os′ : List ℤ)
+      → Cut u s 0 (total (rows u s)) ou os (Rows k) ou′ os′
+      → Wrote k ou′ os′ (rows u s)
   -- And a call on lent maps is refused for nothing but its range, its frames or the room: a cut and a merge never have more rows than the map.
   pub cut-accepts : (u : List ℕ) (s : List ℤ) (a b : ℕ) (ou ou′ : List ℕ) (os os′ : List ℤ) (r : Mapped)
       → LentMap u s → a < b → b ≤ total (rows u s)

@@ -50,7 +50,7 @@ unfoldable pub turnedOf : SoFar → Turn → SoFar
 turnedOf s (Stop number) = record { frame = s .frame; prev = s .prev; ended = s .ended; n = s .n + 1; stopped = true; number = number; at = s .n }
 turnedOf s (Go to) = record { frame = s .frame; prev = to; ended = cond (leb (to .frame) (s .frame)) (min (s .ended + 1) (s .n + 1)) (s .ended); n = s .n + 1; stopped = false; number = 0; at = 0 }
 
--- one record more, which is only countedOf
+-- one record more, which is only counted
 unfoldable pub countedOf : SoFar → SoFar
 countedOf s = record { frame = s .frame; prev = s .prev; ended = s .ended; n = s .n + 1; stopped = true; number = s .number; at = s .at }
 

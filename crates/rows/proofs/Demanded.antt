@@ -2,7 +2,7 @@
 use Prim.Native.Nat.{ℕ}
 use native.Mathlib.Omega.{arith}
 use native.Mathlib.Nat.{zero-sub}
-use mathlib.Core.Path.{_≡_, refl, sym, _∙_}
+use mathlib.Core.Path.{_≡_, sym, _∙_}
 use Rattle.rows.specs.Rows.{total}
 use Rattle.rows.specs.Demands.{Demands}
 use Rattle.rows.proofs.Origins as origins
@@ -35,5 +35,4 @@ demanded = record {
   join-cuts-rows = λ m a b c w h l. cuts.cuts-rows m 0 a b c (well.well-tiles m 0 w) h l;
   cut-rows = cuts.cut-rows;
   merge-rows = merging.merge-rows;
-  worked = refl;
 }

@@ -11,7 +11,7 @@ use borrow.Author.Tests.{lt-ltb, le-ltb, le-leb, lt-leb, ltb-true, leb-true}
 use Rattle.choice.proofs.Tests.{le-or-lt, and-false, and-left, and-right}
 use Rattle.rows.specs.declared.Row.{Row}
 use Rattle.rows.specs.Rows.{nowhere, end, holds, originIn, origin, total}
-use Rattle.rows.specs.Demands.{row, Tiles, OneRow}
+use Rattle.rows.specs.Demands.{noRow, Tiles, OneRow}
 
 -- rows are equal where their fields are
 pub row-eq : (r s : Row) → r .source ≡ s .source → r .first ≡ s .first → r .count ≡ s .count → r .out ≡ s .out → r .flag ≡ s .flag → r .shift ≡ s .shift → r ≡ s
@@ -52,16 +52,12 @@ origin-first r m p k t l u = rw (holds-in r k (omega (arith, t .0)) (omega (arit
 pub origin-rest : (r : Row) (m : List Row) (k : ℕ) → end r ≤ k → origin (r ∷ m) k ≡ origin m k
 origin-rest r m k l = rw (holds-after r k l)
 
-pub origin-before : (m : List Row) (p k : ℕ) → Tiles p m → k < p → origin m k ≡ nowhere
-origin-before [] p k t h = refl
-origin-before (r ∷ m) p k t h = rw (holds-before r k (omega (arith, t .0))) (origin-before m (p + r .count) k (t .2) (omega arith))
-
 pub origin-past : (m : List Row) (p k : ℕ) → Tiles p m → p + total m ≤ k → origin m k ≡ nowhere
 origin-past [] p k t h = refl
 origin-past (r ∷ m) p k t h = rw (holds-after r k (omega (arith, t .0))) (origin-past m (p + r .count) k (t .2) (omega arith))
 
 -- no row from p on holds an earlier frame
-tiles-after : (m : List Row) (p k j : ℕ) → Tiles p m → k < p → j < length m → holds (getD m j (row 0 0 0 0)) k ≡ true → ⊥
+tiles-after : (m : List Row) (p k j : ℕ) → Tiles p m → k < p → j < length m → holds (getD m j noRow) k ≡ true → ⊥
 tiles-after [] p k j t h l e = absurd (omega arith)
 tiles-after (r ∷ m) p k zero t h l e = let z = holds-lo r k e in omega (arith, t .0)
 tiles-after (r ∷ m) p k (suc j) t h l e = tiles-after m (p + r .count) k j (t .2) (omega arith) (omega arith) e
@@ -73,12 +69,12 @@ one-row-from (r ∷ m) p k t l h = go (le-or-lt (end r) k) (λ q. one-row-from m
     first : k < end r → holds r k ≡ true
     first u = holds-in r k (omega (arith, t .0)) u
 
-    only-first : k < end r → (j : ℕ) → j < length (r ∷ m) → holds (getD (r ∷ m) j (row 0 0 0 0)) k ≡ true → j ≡ 0
+    only-first : k < end r → (j : ℕ) → j < length (r ∷ m) → holds (getD (r ∷ m) j noRow) k ≡ true → j ≡ 0
     only-first u zero b e = refl
     only-first u (suc j) b e = absurd (tiles-after m (p + r .count) k j (t .2) (omega (arith, t .0)) (omega arith) e)
 
-    later : end r ≤ k → (i : ℕ) → ((j : ℕ) → j < length m → holds (getD m j (row 0 0 0 0)) k ≡ true → j ≡ i)
-        → (j : ℕ) → j < length (r ∷ m) → holds (getD (r ∷ m) j (row 0 0 0 0)) k ≡ true → j ≡ suc i
+    later : end r ≤ k → (i : ℕ) → ((j : ℕ) → j < length m → holds (getD m j noRow) k ≡ true → j ≡ i)
+        → (j : ℕ) → j < length (r ∷ m) → holds (getD (r ∷ m) j noRow) k ≡ true → j ≡ suc i
     later u i f zero b e = let z = holds-hi r k e in absurd (omega arith)
     later u i f (suc j) b e = ap suc (f j (omega arith) e)
 

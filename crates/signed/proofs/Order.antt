@@ -1,6 +1,6 @@
 -- The order of ℤ as equations of its tests, `leZ a b ≡ true`, and equality as a test. Assumes nothing.
 use mathlib.Core.Path.{_≡_, refl, sym, ap, _∙_}
-use mathlib.Core.Bool.{Bool, true, false, true≢false}
+use mathlib.Core.Bool.{true, false}
 use native.Mathlib.Omega.{arith}
 use native.Mathlib.Nat.{le-antisymm}
 use borrow.Author.Tests.{leb-true, leb-false, ltb-true, ltb-false, le-leb, lt-leb, eq-eqb, ne-eqb, eqb-true}
@@ -47,14 +47,6 @@ not-lt-le (pos a) (pos b) h = le-leb b a (ltb-false a b h)
 not-lt-le (pos a) (negsuc b) h = refl
 not-lt-le (negsuc a) (pos b) h = tf h
 not-lt-le (negsuc a) (negsuc b) h = le-leb a b (ltb-false b a h)
-
-is-false : (t : Bool) → (t ≡ true → ⊥) → t ≡ false
-is-false true h = absurd (h refl)
-is-false false h = refl
-
--- x is above v, and y is at least x
-pub above : (x y v : ℤ) → leZ x v ≡ false → leZ x y ≡ true → leZ y v ≡ false
-above x y v e h = is-false (leZ y v) (λ k. true≢false (sym (le-trans x y v h k) ∙ e))
 
 pub lt-le : (a b : ℤ) → ltZ a b ≡ true → leZ a b ≡ true
 lt-le a b h = le-total b a (lt-not-le a b h)

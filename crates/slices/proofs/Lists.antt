@@ -1,7 +1,7 @@
 -- Loops that write a slice from its start, over any element type, at the code's `i + 1`. Assumes nothing.
 --     fill-, copy-     a store after i stores, and the end, where a slice is filled or copied over
 use mathlib.Core.Path.{_≡_, refl, ap}
-use mathlib.Core.List.{List, [], _∷_, _++_, append-nil, map}
+use mathlib.Core.List.{List, [], _∷_, _++_, append-nil}
 use Prim.Native.Nat.{ℕ, zero, suc, _+_, _<_}
 use native.Mathlib.Nat.{not-suc-le-zero, le-of-suc-le-suc}
 use native.Mathlib.Numerals.{add-one}
@@ -33,9 +33,3 @@ copy-more src dst i d h k = rw add-one (store-suc src dst i d h k)
 
 pub copy-all : {A : Type 0} (src dst : List A) (i : ℕ) → i ≡ length src → take i src ++ drop i dst ≡ src ++ drop (length src) dst
 copy-all src dst i e = rw (e, take-all (length src) src (native.Mathlib.Nat.le-refl (length src)))
-
--- ---- a loop that maps in place: after i turns, `map f (take i l) ++ drop i l`
-pub mapped-at : {A : Type 0} (f : A → A) (l : List A) (i : ℕ) (d : A) → i < length l → getD (map f (take i l) ++ drop i l) i d ≡ getD l i d
-mapped-at f [] i d h = absurd (not-suc-le-zero h)
-mapped-at f (x ∷ l) zero d h = refl
-mapped-at f (x ∷ l) (suc i) d h = mapped-at f l i d (le-of-suc-le-suc h)

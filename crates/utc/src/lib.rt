@@ -1,7 +1,7 @@
 // The UTC rule of creation times: YYYY-MM-DDTHH:MM:SSZ.
 ghost use mathlib.Core.Path.{_≡_};
-ghost use Prim.Native.Nat.{_+_, _*_, _-_, _≤_, _<_};
-ghost use lib.ListN.{length, getD};
+ghost use Prim.Native.Nat.{_+_, _*_, _-_, _<_};
+ghost use lib.ListN.{length};
 ghost use Rattle.utc.specs.Utc.{figures, two, allFigures, marks, leap, days, dated, timed, utcBytes, utcSecond};
 
 // What a figure is worth; 0 for a byte below `0`, which no answer rests on.

@@ -3,10 +3,10 @@
 use std::{ collections::BTreeMap, fs, io, path::Path, process::exit };
 use crate::{ case::{ Call, Case, Part }, comparison, generate::{ self, tables }, random::Random, rust::{ self, Said }, text };
 
-/// The programs, and the calls that each of them is given. No program has the lookup over records, which lends a slice of structs
+/// The programs, and the calls that each of them is given
 const PROGRAMS: [(&str, &[Call]); 6] = [
     ("replay_numbers", &[Call::IsUtcSecond, Call::TicksToUs]),
-    ("replay_table", &[Call::Check, Call::SegmentOfFrame, Call::SegmentOfTimeUs, Call::Continues, Call::RowsOfTable]),
+    ("replay_table", &[Call::Check, Call::SegmentOfFrame, Call::SegmentOfTimeUs, Call::Continues, Call::RowsOfTable, Call::SegmentOfFrameRecords]),
     ("replay_judge", &[Call::ValidateNoVideo, Call::ValidateConstant, Call::ValidateTimes, Call::CheckMcraw]),
     ("replay_boxes", &[Call::BoxSize, Call::Child, Call::FindBox, Call::TableText]),
     ("replay_times", &[Call::VideoFrameTimesOfMoov, Call::McrawTimes]),

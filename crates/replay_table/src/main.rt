@@ -1,13 +1,16 @@
 // The check of tables, their lookups and their rows on stored cases: stdin has the cases, stdout the answers (compare/README.md).
+mod found;
+mod listed;
+
 use cases::lent;
 use cases::lines;
 use cases::read;
 use cases::read::Cursor;
 use cases::say;
 use cases::tables;
+use found::say_found;
 use rules::Checked;
 use rules::Continued;
-use rules::Found;
 use table::Filled;
 
 // 2^64 - 1.
@@ -28,18 +31,6 @@ fn check(line: &[u8], c: Cursor, sources: &[u64], u: &[u64], t: &[i64], log: boo
             say::value(n);
         }
         Checked::Refused(number, index) => say::refused(number, index),
-    }
-    say::end(true);
-}
-
-// The line of a segment.
-fn say_found(answer: Found) {
-    match answer {
-        Found::Index(k) => {
-            say::accepted();
-            say::value(k as u64);
-        }
-        Found::NoIndex(number, index) => say::refused(number, index),
     }
     say::end(true);
 }
@@ -171,6 +162,8 @@ fn answer_to(
         check(line, c, sources, u, t, log, text);
     } else if read::is(line, b"segment_of_frame") {
         segment_of_frame(line, c, sources, u, t, log, text);
+    } else if read::is(line, b"segment_of_frame_records") {
+        listed::segment_of_frame_records(line, c, sources, u, t, log, text);
     } else if read::is(line, b"segment_of_time_us") {
         segment_of_time_us(line, c, sources, u, t, log, text);
     } else if read::is(line, b"continues") {

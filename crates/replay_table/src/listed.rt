@@ -8,8 +8,9 @@ use rules::Found;
 ghost use mathlib.Core.Path.{_≡_};
 ghost use Prim.Native.Nat.{_+_, _*_, _≤_};
 ghost use lib.ListN.{length, take};
-ghost use Rattle.table.specs.Layout.{segmentWords, segmentStamps};
-ghost use Rattle.records.specs.Records.{locate};
+ghost use Rattle.table.specs.Layout.{segmentWords, segmentStamps, wordsAt, stampsAt};
+ghost use Rattle.records.specs.Records.{stampsOf, locate};
+ghost use Rattle.replay_table.specs.Listed.{HasWords};
 
 // Unsigned words of a record, signed words of a record.
 const WORDS: usize = 5;
@@ -22,6 +23,7 @@ const MOST: usize = 9;
 // Record k of the words.
 fn record_at(u: &[u64], t: &[i64], k: usize) -> TrimSegment
     requires { ⌜ (k * segmentWords + segmentWords ≤ length (now u)) × (k * segmentStamps + segmentStamps ≤ length (now t)) ⌝ }
+    ensures { λ r. ⌜ HasWords r (wordsAt (now (u .entry)) k) × (stampsOf r ≡ stampsAt (now (t .entry)) k) ⌝ }
 {
     let b = k * WORDS;
     let d = k * STAMPS;

@@ -2,7 +2,7 @@
 
 use std::hint::black_box;
 use released::segment_table::{ SegmentTable, TrimSegment, VideoFrameTimes, VideoFrames, reach };
-use crate::{ case::{ Call, Case, Lent, Map, Table }, generate::{ boxes::{ Form, boxed }, moovs::{ Edits, Head, Moov } }, ours, plain, random::Random, reference, rust };
+use crate::{ case::{ Call, Case, Lent, Map, Row, Table }, generate::{ boxes::{ Form, boxed }, moovs::{ Edits, Head, Moov } }, ours, plain, random::Random, reference, rust };
 
 /// The microseconds that the turns of one measurement take together, at least
 const LEAST: f64 = 20_000.0;
@@ -130,8 +130,8 @@ fn rust_side(case: &Case) -> Work<'_> {
     }
 }
 
-fn row(segment: &TrimSegment) -> plain::Row {
-    plain::Row {
+fn row(segment: &TrimSegment) -> Row {
+    Row {
         source: segment.source as u64,
         source_first: segment.src_first_frame,
         count: segment.frame_count,
@@ -145,13 +145,13 @@ fn row(segment: &TrimSegment) -> plain::Row {
 fn plain_side(case: &Case) -> Work<'_> {
     let mut out = Vec::new();
     match case {
-        Case::Cut { map, a, b, .. } => { let rows = plain::rows(map); Box::new(move || plain::cut(black_box(&rows), *a, *b, black_box(&mut out)).unwrap() as u64) }
+        Case::Cut { map, a, b, .. } => { let rows = map.rows(); Box::new(move || plain::cut(black_box(&rows), *a, *b, black_box(&mut out)).unwrap() as u64) }
         Case::Join { first, second, .. } => {
-            let (first, second) = (plain::rows(first), plain::rows(second));
+            let (first, second) = (first.rows(), second.rows());
             Box::new(move || plain::join(black_box(&first), black_box(&second), black_box(&mut out)).unwrap() as u64)
         }
-        Case::Merge { map, .. } => { let rows = plain::rows(map); Box::new(move || plain::merge(black_box(&rows), black_box(&mut out)).unwrap() as u64) }
-        Case::Origin { map, frame } => { let rows = plain::rows(map); Box::new(move || plain::origin(black_box(&rows), *frame).unwrap().1) }
+        Case::Merge { map, .. } => { let rows = map.rows(); Box::new(move || plain::merge(black_box(&rows), black_box(&mut out)).unwrap() as u64) }
+        Case::Origin { map, frame } => { let rows = map.rows(); Box::new(move || plain::origin(black_box(&rows), *frame).unwrap().1) }
         _ => unreachable!(),
     }
 }
@@ -160,13 +160,13 @@ fn plain_side(case: &Case) -> Work<'_> {
 fn plain_agrees(case: &Case) -> bool {
     let mut out = Vec::new();
     let done = match case {
-        Case::Cut { map, a, b, .. } => plain::cut(&plain::rows(map), *a, *b, &mut out),
-        Case::Join { first, second, .. } => plain::join(&plain::rows(first), &plain::rows(second), &mut out),
-        Case::Merge { map, .. } => plain::merge(&plain::rows(map), &mut out),
+        Case::Cut { map, a, b, .. } => plain::cut(&map.rows(), *a, *b, &mut out),
+        Case::Join { first, second, .. } => plain::join(&first.rows(), &second.rows(), &mut out),
+        Case::Merge { map, .. } => plain::merge(&map.rows(), &mut out),
         _ => return true,
     };
     let answer = reference::answer(case);
-    done.is_ok() && out == plain::rows(&Map { words: answer.words, shifts: answer.longs })
+    done.is_ok() && out == Map { words: answer.words, shifts: answer.longs }.rows()
 }
 
 type Inputs = Vec<(String, Case)>;

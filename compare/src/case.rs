@@ -113,6 +113,25 @@ pub struct Map {
     pub shifts: Vec<i64>,
 }
 
+/// One row: document 01's six numbers
+#[derive(Clone, Copy, Debug, PartialEq)]
+pub struct Row {
+    pub source: u64,
+    pub source_first: u64,
+    pub count: u64,
+    pub out_first: u64,
+    pub flag: u64,
+    pub shift: i64,
+}
+
+impl Map {
+    /// The rows, as far as there are words and shifts
+    pub fn rows(&self) -> Vec<Row> {
+        let row = |(w, shift): (&[u64], &i64)| Row { source: w[0], source_first: w[1], count: w[2], out_first: w[3], flag: w[4], shift: *shift };
+        self.words.chunks_exact(5).zip(&self.shifts).map(row).collect()
+    }
+}
+
 /// A call with its arguments. A room is the length of a slice that is lent to be written
 #[derive(Clone, Hash)]
 pub enum Case {

@@ -1,26 +1,27 @@
-//! The numbers that document 01 works out, each with its answer in the form of `text`.
+//! The numbers that document 01 works out, and those of docs/AUDIT.md and crates/audit/specs/Examples.antt, each with its
+//! answer in the form of `text`.
 
+use std::rc::Rc;
 use crate::{ case::{ Case, Lent, Map, Table }, comparison, generate::{ moovs, tables, videos }, text };
+
+pub type Worked = (Case, &'static str);
 
 /// Whether every worked number comes out; those that don't are printed
 pub fn holds() -> bool {
     worked().into_iter().fold(true, |all, (case, expected)| {
         let said = comparison::compare(&case).map(|answer| text::answer_line(case.call(), &answer));
         let right = said.as_ref().is_ok_and(|line| line == expected);
-        if !right { println!("document 01 has {expected} for\n{}\nand it is {said:?}", text::case_line(&case)); }
+        if !right { println!("{expected} is worked out for\n{}\nand it is {said:?}", text::case_line(&case)); }
         all && right
     })
 }
 
-fn worked() -> Vec<(Case, &'static str)> {
-    let t = Lent::new(tables::t());
-    let frame = |frame| Case::SegmentOfFrame { table: t.clone(), frame };
-    let time = |time| Case::SegmentOfTimeUs { table: t.clone(), time };
+/// All of them
+pub fn worked() -> Vec<Worked> { [numbers(), table(), maps(), times(), clip(), clip_maps()].concat() }
+
+/// Ticks, ends that are near, and days
+fn numbers() -> Vec<Worked> {
     let ends_at = |end| Case::ValidateConstant { table: Lent::new(videos::one_segment(30, 0, end)), frames: 30, num: 30000, den: 1001 };
-    let rows = |words: &[u64]| Map { words: words.to_vec(), shifts: vec![0; words.len() / 5] };
-    let cut = |words: &[u64], a, b| Case::Cut { map: rows(words), a, b, room: [10, 2] };
-    let of_t = [0, 10, 30, 0, 0, 1, 5, 20, 30, 0];
-    let moov = |edited| Case::VideoFrameTimesOfMoov { moov: moovs::in_the_document(edited).in_order(&[]), room: [3; 3] };
     vec![
         (Case::TicksToUs { ticks: 1001, scale: 30000 }, "0 0 33367"),
         (Case::TicksToUs { ticks: 1, scale: 2_000_000 }, "0 0 1"),
@@ -30,23 +31,16 @@ fn worked() -> Vec<(Case, &'static str)> {
         (ends_at(1_034_367), "0 0 30"),
         (ends_at(967_632), "25 0"),
         (ends_at(1_034_368), "25 0"),
-        (Case::IsUtcSecond { bytes: b"0000-02-29T00:00:00Z".to_vec() }, "1"),
-        (Case::Check { table: Lent::new(created(b"1900-02-29T00:00:00Z")) }, "5 0"),
-        (Case::Check { table: t.clone() }, "0 0 50"),
-        (frame(29), "0 0 0"),
-        (frame(30), "0 0 1"),
-        (frame(50), "0 0 1"),
-        (time(-5), "0 0 0"),
-        (time(1_200_000), "0 0 1"),
-        (cut(&of_t, 25, 40), "0 0 2 0 35 5 0 0 1 5 10 5 0 0 0"),
-        (cut(&[0, 35, 5, 0, 0, 1, 5, 10, 5, 0], 3, 8), "0 0 2 0 38 2 0 0 1 5 3 2 0 0 0"),
-        (cut(&of_t, 28, 33), "0 0 2 0 38 2 0 0 1 5 3 2 0 0 0"),
-        (moov(false), "0 0 3 100 10 50 10 20 40"),
-        (moov(true), "0 0 3 100 10 40 0 10 30"),
-        (lasting(&[5, 7, 7, 5]), "0 0 4 100 5 24 0 5 12 19"),
-        (Case::McrawTimes { timestamps: vec![1000, 1010, 1025], room: [3; 2] }, "0 0 3 1000000000 10 35 0 10 25"),
+        (Case::IsUtcSecond { bytes: LEAP.to_vec() }, "1"),
+        (Case::IsUtcSecond { bytes: NO_LEAP.to_vec() }, "0"),
+        (Case::Check { table: Lent::new(created(LEAP)) }, "0 0 50"),
+        (Case::Check { table: Lent::new(created(NO_LEAP)) }, "5 0"),
     ]
 }
+
+/// A day that there was, and one that there wasn't
+const LEAP: &[u8] = b"0000-02-29T00:00:00Z";
+const NO_LEAP: &[u8] = b"1900-02-29T00:00:00Z";
 
 /// Table T, its first source with a creation time
 fn created(time: &[u8]) -> Table {
@@ -55,10 +49,121 @@ fn created(time: &[u8]) -> Table {
     table
 }
 
+/// Table T
+fn table() -> Vec<Worked> {
+    let t = Lent::new(tables::t());
+    let time = |time| Case::SegmentOfTimeUs { table: t.clone(), time };
+    let mut worked = vec![
+        (Case::Check { table: t.clone() }, "0 0 50"),
+        (time(-5), "0 0 0"),
+        (time(1_200_000), "0 0 1"),
+        (Case::RowsOfTable { table: t.clone(), room: [10, 2] }, "0 0 2 0 10 30 0 0 1 5 20 30 0 0 0"),
+    ];
+    for (frame, answer) in [(29, "0 0 0"), (30, "0 0 1"), (50, "0 0 1")] { worked.extend(looked_up(&t, frame, answer)); }
+    worked
+}
+
+/// A frame's segment, looked up over words and over records
+fn looked_up(table: &Rc<Lent>, frame: u64, answer: &'static str) -> [Worked; 2] {
+    [(Case::SegmentOfFrame { table: table.clone(), frame }, answer), (Case::SegmentOfFrameRecords { table: table.clone(), frame }, answer)]
+}
+
+/// A row as docs/AUDIT.md shows it: source, first frame there, frames, first frame of the map, shift
+type Shown = (u64, u64, u64, u64, Option<i64>);
+
+fn map(rows: &[Shown]) -> Map {
+    Map {
+        words: rows.iter().flat_map(|(source, first, count, out, shift)| [*source, *first, *count, *out, shift.is_some() as u64]).collect(),
+        shifts: rows.iter().map(|row| row.4.unwrap_or(0)).collect(),
+    }
+}
+
+/// A cut, and a merge, with room for as many rows as are written
+fn cut(rows: &[Shown], a: u64, b: u64, written: usize) -> Case { Case::Cut { map: map(rows), a, b, room: [5 * written, written] } }
+fn merge(rows: &[Shown], written: usize) -> Case { Case::Merge { map: map(rows), room: [5 * written, written] } }
+
+/// The cuts of T, and what a cut and a merge leave apart
+fn maps() -> Vec<Worked> {
+    let of_t = [(0, 10, 30, 0, None), (1, 5, 20, 30, None)];
+    let continued = [(0, 0, 10, 0, None), (0, 10, 10, 10, None)];
+    vec![
+        (cut(&of_t, 25, 40, 2), "0 0 2 0 35 5 0 0 1 5 10 5 0 0 0"),
+        (cut(&[(0, 35, 5, 0, None), (1, 5, 10, 5, None)], 3, 8, 2), "0 0 2 0 38 2 0 0 1 5 3 2 0 0 0"),
+        (cut(&of_t, 28, 33, 2), "0 0 2 0 38 2 0 0 1 5 3 2 0 0 0"),
+        (cut(&continued, 0, 20, 2), "0 0 2 0 0 10 0 0 0 10 10 10 0 0 0"),
+        (merge(&continued, 1), "0 0 1 0 0 20 0 0 0"),
+        (merge(&[(0, 0, 10, 0, None), (0, 10, 10, 10, Some(0))], 2), "0 0 2 0 0 10 0 0 0 10 10 10 1 0 0"),
+        (merge(&[(0, 0, 10, 0, Some(5)), (0, 10, 10, 10, Some(6))], 2), "0 0 2 0 0 10 0 1 0 10 10 10 1 5 6"),
+    ]
+}
+
+/// M1, M2, moovs whose durations differ, and a recording
+fn times() -> Vec<Worked> {
+    let moov = |edited| Case::VideoFrameTimesOfMoov { moov: moovs::in_the_document(edited).in_order(&[]), room: [3; 3] };
+    vec![
+        (moov(false), "0 0 3 100 10 50 10 20 40"),
+        (moov(true), "0 0 3 100 10 40 0 10 30"),
+        (lasting(&[5, 7, 7, 5]), "0 0 4 100 5 24 0 5 12 19"),
+        (lasting(&[5, 5, 7, 8, 9]), "0 0 5 100 5 34 0 5 10 17 25"),
+        (Case::McrawTimes { timestamps: vec![1000, 1010, 1025], room: [3; 2] }, "0 0 3 1000000000 10 35 0 10 25"),
+    ]
+}
+
 /// A moov of frames of these durations
 fn lasting(durations: &[u32]) -> Case {
     let mut moov = moovs::in_the_document(false);
     moov.stts = durations.iter().map(|delta| (1, *delta)).collect();
     moov.ctts = None;
-    Case::VideoFrameTimesOfMoov { moov: moov.in_order(&[]), room: [4; 3] }
+    Case::VideoFrameTimesOfMoov { moov: moov.in_order(&[]), room: [durations.len(); 3] }
+}
+
+/// The auditor's clip, of three originals at 25 frames a second, the second with a clock
+const CLIP: [Shown; 3] = [(0, 1500, 40000, 0, None), (1, 12000, 38500, 40000, Some(-1800)), (2, 0, 30000, 78500, None)];
+
+/// Its frames up to 50,000, and those after them
+const HEAD: [Shown; 2] = [(0, 1500, 40000, 0, None), (1, 12000, 10000, 40000, Some(-1800))];
+const TAIL: [Shown; 2] = [(1, 22000, 28500, 0, Some(-1800)), (2, 0, 30000, 28500, None)];
+
+fn clip_table() -> Table {
+    let source = |frames, clock: [u64; 4]| [&[frames, 25, 1, 0, 0, 0][..], &clock].concat();
+    Table {
+        sources: [source(90000, [0; 4]), source(60000, [1, 1_000_000, 1, 0]), source(45000, [0; 4])].concat(),
+        segments: map(&CLIP).words,
+        // 40,000 microseconds a frame
+        times: CLIP.iter().flat_map(|(_, _, count, out, shift)| [0, *out as i64 * 40000, *count as i64 * 40000, 0, 0, 0, shift.unwrap_or(0)]).collect(),
+        ..Table::default()
+    }
+}
+
+/// The clip's table: accepted, judged, its rows, and frame 56,200 of it
+fn clip() -> Vec<Worked> {
+    let table = Lent::new(clip_table());
+    let mut worked = vec![
+        (Case::Check { table: table.clone() }, "0 0 108500"),
+        (Case::ValidateConstant { table: table.clone(), frames: 108500, num: 25, den: 1 }, "0 0 108500"),
+        (Case::RowsOfTable { table: table.clone(), room: [15, 3] }, "0 0 3 0 1500 40000 0 0 1 12000 38500 40000 1 2 0 30000 78500 0 0 -1800 0"),
+    ];
+    worked.extend(looked_up(&table, 56200, "0 0 1"));
+    worked
+}
+
+/// The clip cut twice and cut at once, frame 41,200 of that; two neighbouring cuts, joined and merged
+fn clip_maps() -> Vec<Worked> {
+    let once = [(0, 6500, 35000, 0, None), (1, 12000, 38500, 35000, Some(-1800)), (2, 0, 26500, 73500, None)];
+    let twice = [(0, 16500, 25000, 0, None), (1, 12000, 38500, 25000, Some(-1800)), (2, 0, 16500, 63500, None)];
+    let joined = [HEAD[0], HEAD[1], (1, 22000, 28500, 50000, Some(-1800)), (2, 0, 30000, 78500, None)];
+    vec![
+        (cut(&CLIP, 5000, 105000, 3), "0 0 3 0 6500 35000 0 0 1 12000 38500 35000 1 2 0 26500 73500 0 0 -1800 0"),
+        (cut(&once, 10000, 90000, 3), "0 0 3 0 16500 25000 0 0 1 12000 38500 25000 1 2 0 16500 63500 0 0 -1800 0"),
+        (cut(&CLIP, 15000, 95000, 3), "0 0 3 0 16500 25000 0 0 1 12000 38500 25000 1 2 0 16500 63500 0 0 -1800 0"),
+        (Case::Origin { map: map(&twice), frame: 41200 }, "0 0 1 28200 1 -1800"),
+        (Case::Origin { map: map(&CLIP), frame: 56200 }, "0 0 1 28200 1 -1800"),
+        (cut(&CLIP, 0, 50000, 2), "0 0 2 0 1500 40000 0 0 1 12000 10000 40000 1 0 -1800"),
+        (cut(&CLIP, 50000, 108500, 2), "0 0 2 1 22000 28500 0 1 2 0 30000 28500 0 -1800 0"),
+        (
+            Case::Join { first: map(&HEAD), second: map(&TAIL), room: [20, 4] },
+            "0 0 4 0 1500 40000 0 0 1 12000 10000 40000 1 1 22000 28500 50000 1 2 0 30000 78500 0 0 -1800 -1800 0",
+        ),
+        (merge(&joined, 3), "0 0 3 0 1500 40000 0 0 1 12000 38500 40000 1 2 0 30000 78500 0 0 -1800 0"),
+    ]
 }

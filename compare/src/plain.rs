@@ -1,17 +1,7 @@
 //! Frame maps as one writes them in plain Rust: what the library is timed against. Rows are structs of document 01's six
 //! numbers; they are tested first, as the library does, and results go into a vector that is used again.
 
-use crate::case::Map;
-
-#[derive(Clone, Copy, Debug, PartialEq)]
-pub struct Row {
-    pub source: u64,
-    pub source_first: u64,
-    pub count: u64,
-    pub out_first: u64,
-    pub flag: u64,
-    pub shift: i64,
-}
+use crate::case::Row;
 
 /// The most rows of a map
 const MOST: usize = 1024;
@@ -19,17 +9,6 @@ const MOST: usize = 1024;
 /// Why a call is refused
 #[derive(Debug, PartialEq)]
 pub enum Refused { Rows, TooMany, Range, Wraps }
-
-pub fn rows(map: &Map) -> Vec<Row> {
-    map.words.chunks(5).zip(&map.shifts).map(|(w, shift)| Row {
-        source: w[0],
-        source_first: w[1],
-        count: w[2],
-        out_first: w[3],
-        flag: w[4],
-        shift: *shift,
-    }).collect()
-}
 
 /// How many frames a map has, where its rows are well formed
 fn frames(rows: &[Row]) -> Result<u64, Refused> {

@@ -1,7 +1,7 @@
 //! A fixed list of cases with their answers, for programs that read the cases from standard input and print.
 
 use std::{ collections::BTreeMap, fs, io, path::Path, process::exit };
-use crate::{ case::{ Call, Case, Part }, comparison, generate::{ self, tables }, random::Random, rust::{ self, Said }, text };
+use crate::{ case::{ Call, Case, Part }, comparison, document, generate::{ self, tables }, random::Random, rust::{ self, Said }, text };
 
 /// The programs, and the calls that each of them is given
 const PROGRAMS: [(&str, &[Call]); 6] = [
@@ -66,26 +66,28 @@ pub fn write(folder: &Path) -> io::Result<()> {
     Ok(())
 }
 
-/// The cases of a call and their answers, as lines, and whether the Rust answers so: document 01's own, then as many of each
-/// kind as wanted
+/// The cases of a call and their answers, as lines, and whether the Rust answers so: all that are worked out, then as many of
+/// each kind as wanted
 fn chosen(call: Call) -> Vec<(String, String, bool)> {
     let mut taken: BTreeMap<(u64, bool, bool), usize> = BTreeMap::new();
     let mut lines = Vec::new();
-    let mut take = |case: Case| {
-        if !fits(&case) { return; }
+    let mut take = |case: Case, worked: bool| {
+        if !worked && !fits(&case) { return; }
         let line = text::case_line(&case);
         let Ok(answer) = comparison::compare(&case) else { comparison::show(&case); exit(1) };
         let taken = taken.entry((answer.number, answer.values[0] == 0, answer.index == 0)).or_default();
         let wanted = if answer.number == 0 { wanted(call).0 } else { wanted(call).1 };
         let longer = match case { Case::VideoFrameTimesOfMoov { .. } => 300, _ if answer.number == 2 && *taken == 0 => 1400, _ => 0 };
-        if *taken < wanted && line.len() <= LINE + longer {
+        if worked || *taken < wanted && line.len() <= LINE + longer {
             *taken += 1;
             let by_rust = matches!(rust::says(&case), Said::Answer(said) if said == answer);
             lines.push((line, text::answer_line(call, &answer), by_rust));
         }
     };
-    tables::in_the_document(call, &mut take);
+    for (case, _) in document::worked().into_iter().filter(|(case, _)| case.call() == call) { take(case, true); }
+    let mut more = |case: Case| take(case, false);
+    tables::too_many_sources(call, &mut more);
     let mut r = Random::of(SEED, 0, call as u64);
-    for _ in 0..TURNS { generate::random(call, &mut r, &mut take); }
+    for _ in 0..TURNS { generate::random(call, &mut r, &mut more); }
     lines
 }

@@ -272,19 +272,10 @@ fn asked(call: Call, r: &mut Random, lent: &Rc<Lent>, k: usize, emit: Emit) {
     })
 }
 
-/// Cases of document 01's own table, and one source too many, for the calls that take a table alone or with one word
-pub fn in_the_document(call: Call, emit: Emit) {
+/// A table of a source too many, once
+pub fn too_many_sources(call: Call, emit: Emit) {
     if matches!(call, Call::Check | Call::SegmentOfFrame | Call::SegmentOfFrameRecords | Call::Continues | Call::ValidateNoVideo) {
-        let mut r = Random::new(3);
-        once(call, &mut r, with_sources(65), emit);
-    }
-    let table = Lent::new(t());
-    match call {
-        Call::Check => emit(Case::Check { table }),
-        Call::SegmentOfFrame => for frame in [29, 30, 50] { emit(Case::SegmentOfFrame { table: table.clone(), frame }) },
-        Call::SegmentOfFrameRecords => for frame in [29, 30, 50] { emit(Case::SegmentOfFrameRecords { table: table.clone(), frame }) },
-        Call::SegmentOfTimeUs => for time in [-5, 1_200_000] { emit(Case::SegmentOfTimeUs { table: table.clone(), time }) },
-        _ => {}
+        once(call, &mut Random::new(3), with_sources(65), emit);
     }
 }
 

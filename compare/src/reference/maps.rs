@@ -1,30 +1,18 @@
 //! Frame maps: cut, join, merge and origin, with their refusals.
 
 use super::Refusal;
-use crate::case::{ Answer, Map };
+use crate::case::{ Answer, Map, Row };
 
 const MOST_ROWS: usize = 1024;
-
-#[derive(Clone, Debug, PartialEq)]
-pub struct Row {
-    pub source: u64,
-    pub source_first: u64,
-    pub count: u64,
-    pub out_first: u64,
-    pub flag: u64,
-    pub shift: i64,
-}
 
 /// The rows of a lent map: 51 with the row's index, 0 for lengths or no rows
 fn lent(map: &Map) -> Result<Vec<Row>, Refusal> {
     let (words, shifts) = (&map.words, &map.shifts);
     if words.len() % 5 != 0 || words.len() / 5 != shifts.len() || shifts.is_empty() { return Err((51, 0)); }
-    let mut rows = Vec::with_capacity(shifts.len());
+    let rows = map.rows();
     let mut next = 0u64;
-    for (k, (w, shift)) in words.chunks(5).zip(shifts).enumerate() {
-        let row = Row { source: w[0], source_first: w[1], count: w[2], out_first: w[3], flag: w[4], shift: *shift };
+    for (k, row) in rows.iter().enumerate() {
         next = row.end_from(next).ok_or((51, k as u64))?;
-        rows.push(row);
     }
     Ok(rows)
 }
@@ -73,7 +61,7 @@ pub fn cut(map: &Map, a: u64, b: u64, room: &[usize; 2]) -> Result<Answer, Refus
 pub fn cut_rows(rows: &[Row], a: u64, b: u64) -> Vec<Row> {
     let overlap = |row: &Row| {
         let (from, to) = (row.out_first.max(a), row.end().min(b));
-        (from < to).then(|| Row { source_first: row.source_first + (from - row.out_first), count: to - from, out_first: from - a, ..row.clone() })
+        (from < to).then(|| Row { source_first: row.source_first + (from - row.out_first), count: to - from, out_first: from - a, ..*row })
     };
     rows.iter().filter_map(overlap).collect()
 }

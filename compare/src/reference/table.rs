@@ -1,7 +1,7 @@
 //! A lent table: refusals 1 to 17, the lookups, `continues`, and its rows.
 
-use super::{ Refusal, maps::Row, numbers::is_utc_second };
-use crate::case;
+use super::{ Refusal, numbers::is_utc_second };
+use crate::case::{ self, Row };
 
 const MOST_SOURCES: usize = 64;
 const MOST_SEGMENTS: usize = 512;

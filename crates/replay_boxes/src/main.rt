@@ -9,8 +9,24 @@ use cases::say;
 // 2^64 - 1.
 const LARGEST: u64 = 0xffff_ffff_ffff_ffff;
 
-// The line of a place.
-fn say_place(place: Place) {
+// Whether a part is the one that a place says: those of the bytes, none on a refusal.
+fn is_at(part: &[u8], bytes: &[u8], place: Place) -> bool {
+    match place {
+        Place::At { start, len } => {
+            if bytes.len() < start {
+                return false;
+            }
+            if bytes.len() - start < len {
+                return false;
+            }
+            steps::same(part, &bytes[start..start + len])
+        }
+        Place::Refused(_) => part.len() == 0,
+    }
+}
+
+// The line of a place, and whether the part that is answered for the same arguments lies there.
+fn say_place(place: Place, kept: bool) {
     match place {
         Place::At { start, len } => {
             say::accepted();
@@ -19,7 +35,7 @@ fn say_place(place: Place) {
         }
         Place::Refused(number) => say::refused(number, 0),
     }
-    say::end(true);
+    say::end(kept);
 }
 
 // box_size BYTES REMAINING
@@ -47,7 +63,10 @@ fn child(line: &[u8], c: Cursor, bytes: &[u8]) {
         say::malformed();
         return;
     }
-    say_place(boxes::child_place(bytes, kind.number as u32));
+    let code = kind.number as u32;
+    let place = boxes::child_place(bytes, code);
+    let part = boxes::child(bytes, code);
+    say_place(place, is_at(part, bytes, place));
 }
 
 // find_box BYTES FROM TO KIND TEXT_TYPES
@@ -63,7 +82,10 @@ fn find_box(line: &[u8], c: Cursor, bytes: &[u8]) {
     let start = from.number as usize;
     let end = to.number as usize;
     let code = kind.number as u32;
-    say_place(boxes::find_box_place(bytes, start, end, code, text.number == 1));
+    let texts = text.number == 1;
+    let place = boxes::find_box_place(bytes, start, end, code, texts);
+    let part = boxes::find_box(bytes, start, end, code, texts);
+    say_place(place, is_at(part, bytes, place));
 }
 
 // table_text BYTES
@@ -72,7 +94,9 @@ fn table_text(line: &[u8], c: Cursor, bytes: &[u8]) {
         say::malformed();
         return;
     }
-    say_place(boxes::table_text_place(bytes));
+    let place = boxes::table_text_place(bytes);
+    let part = boxes::table_text(bytes);
+    say_place(place, is_at(part, bytes, place));
 }
 
 // One case: every call begins with its bytes.

@@ -37,7 +37,7 @@ constant frames num den = record {
   nominal = pos den;
 }
 
--- times: frame k lies at its start; index = length gives the end
+-- times: frame k lies at its start; index = length gives the end, and so do larger ones, which no answer rests on
 abbrev pub timed : List ℤ → ℕ → ℤ → ℤ → Shown
 timed starts scale end nominal = record {
   given = true;

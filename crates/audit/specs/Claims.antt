@@ -18,14 +18,14 @@ use Rattle.rows.specs.declared.Row.{Row}
 use Rattle.rows.specs.Rows.{total}
 use Rattle.rows.specs.Demands.{Tiles}
 use Rattle.rules.specs.declared.Checked.{Checked}
-use Rattle.rules.specs.declared.Checked.the-variants.{Frames, Refused}
+use Rattle.rules.specs.declared.Checked.the-variants.{Frames}
 use Rattle.rules.specs.declared.Found.{Found}
 use Rattle.rules.specs.declared.Found.the-variants.{Index}
 use Rattle.rules.specs.declared.Continued.{Continued}
 use Rattle.rules.specs.Records.{segment}
 use Rattle.rules.specs.Records as records
 use Rattle.rules.specs.Rules.{checkOf}
-use Rattle.rules.specs.Paper.{tests, First, None}
+use Rattle.rules.specs.Paper.{tests, Rightly}
 use Rattle.rules.specs.Lookups.{segmentOfFrame, segmentOfTime, continuesAt}
 use Rattle.table.specs.declared.Filled.{Filled}
 use Rattle.table.specs.declared.Filled.the-variants.{Rows}
@@ -36,6 +36,7 @@ use Rattle.judge.specs.declared.Video.{Video}
 use Rattle.judge.specs.Video.{shownBy}
 use Rattle.judge.specs.Judge.{validateOf, Settled}
 use Rattle.judge.specs.Means.{Fits, Recorded}
+use Rattle.judge.specs.Paper.{validateTests, mcrawTests}
 use Rattle.records.specs.declared.TrimSegment.{TrimSegment}
 use Rattle.maps.specs.declared.Mapped.{Mapped}
 use Rattle.maps.specs.declared.Mapped.the-variants as mapped
@@ -116,10 +117,14 @@ pub record Origins : Type 0 where
       → (i < length (table l .segments)) × (r ≡ told (rowOf (segment (table l) i)) (a + (c + f)))
 
 -- 5. A REFUSAL IS RIGHT. Whatever is lent, `check` refuses with n at i exactly when the paper's condition n holds there and none that is tested before it does, and
--- accepts with N exactly when none holds and the segments have N frames. (The auditor's third question; rules/specs/Paper.antt has document 01's table.)
+-- accepts with N exactly when none holds and the segments have N frames. So do `validate` and `check_mcraw`, whose conditions are those of `check` and then those of
+-- the video or recording. (The auditor's third question; `Rightly`, in rules/specs/Paper.antt, says it; that file and judge/specs/Paper.antt have document 01's table.)
 pub record Refusals : Type 0 where
-  pub refuses : (l : Lent) (r : Checked) → Check l r → (n i : ℕ) → (r ≡ Refused n i) ↔ First (tests (table l)) n i
-  pub accepts : (l : Lent) (r : Checked) → Check l r → (N : ℕ) → (r ≡ Frames N) ↔ (None (tests (table l)) × (N ≡ records.total (table l .segments)))
+  pub check : (l : Lent) (r : Checked) → Check l r → Rightly r (tests (table l)) (records.total (table l .segments))
+  pub validate : (l : Lent) (video : Video) (starts : List ℤ) (r : Checked) → Validate l video starts r
+      → Rightly r (validateTests (table l) video starts) (records.total (table l .segments))
+  pub check-mcraw : (l : Lent) (ts a b a′ b′ : List ℤ) (r : Checked) → CheckMcraw l ts a b r a′ b′
+      → Rightly r (mcrawTests (table l) ts (length a) (length b)) (records.total (table l .segments))
   -- Of condition 1, what `uneven` is of the lent words: a length that is no multiple of its record's, or segment slices that disagree.
   pub uneven : (l : Lent) → (table l .uneven ≡ true) ↔ Uneven (length (l .sources)) (length (l .words)) (length (l .stamps))
 

@@ -26,11 +26,11 @@ use Rattle.rules.specs.Records.{segment}
 use Rattle.rules.specs.Records as records
 use Rattle.rules.specs.Rules.{checkOf}
 use Rattle.rules.specs.Paper.{tests, Rightly}
+use Rattle.rules.specs.Absent.{clean}
 use Rattle.rules.specs.Lookups.{segmentOfFrame, segmentOfTime, continuesAt}
 use Rattle.table.specs.declared.Filled.{Filled}
 use Rattle.table.specs.declared.Filled.the-variants.{Rows}
 use Rattle.table.specs.Answers.{Uneven}
-use Rattle.table.specs.Same.{AbsentIgnored}
 use Rattle.table.specs.Rows.{rowOf, rowsOf, Rowed}
 use Rattle.judge.specs.declared.Video.{Video}
 use Rattle.judge.specs.Video.{shownBy}
@@ -170,6 +170,25 @@ pub record Rounding : Type 0 where
   pub halves : (n d q : ℕ) → 0 < d → (q ≡ nearest n d) ↔ ((2 * (q * d) ≤ 2 * n + d) × (2 * n < 2 * (q * d) + d))
   pub signs : (z : ℤ) (d : ℕ) → 0 < d → rounded (negℤ z) d ≡ negℤ (rounded z d)
 
+-- each call that takes a table answers of m what it answers of l: its promise allows of m what it allows of l, which by `answers` is one answer
+pub record SameAnswers (l m : Lent) : Type 0 where
+  pub check : (r : Checked) → Check l r → Check m r
+  pub segment-of-frame : (f : ℕ) (r : Found) → SegmentOfFrame l f r → SegmentOfFrame m f r
+  pub segment-of-time-us : (t : ℤ) (r : Found) → SegmentOfTimeUs l t r → SegmentOfTimeUs m t r
+  pub continues : (k : ℕ) (r : Continued) → Continues l k r → Continues m k r
+  pub rows-of-table : (ou ou′ : List ℕ) (os os′ : List ℤ) (r : Filled) → RowsOfTable l ou os r ou′ os′ → RowsOfTable m ou os r ou′ os′
+  pub validate : (video : Video) (starts : List ℤ) (r : Checked) → Validate l video starts r → Validate m video starts r
+  pub check-mcraw : (ts a b a′ b′ : List ℤ) (r : Checked) → CheckMcraw l ts a b r a′ b′ → CheckMcraw m ts a b r a′ b′
+
+-- WORDS OF AN ABSENT THING (creation time, clock, modulus, shift) ARE IGNORED: tables that differ only in them, that are the same when these words are set to 0, get
+-- the same answers from every call that takes a table. (Document 01, 'How a table is lent'; rules/specs/Absent.antt says which words.)
+pub record Ignored : Type 0 where
+  pub words : (l m : Lent) → clean (table l) ≡ clean (table m) → SameAnswers l m
+  -- and so does the lookup over records, of whose absent things some are words and some are fields
+  pub segment-of-frame-records : (sources sources′ text text′ : List ℕ) (rs rs′ : List TrimSegment) (log log′ : Bool)
+      → clean (table (inWords sources text rs log)) ≡ clean (table (inWords sources′ text′ rs′ log′))
+      → (f : ℕ) (r : Found) → calls.SegmentOfFrameRecords sources text rs log f r → calls.SegmentOfFrameRecords sources′ text′ rs′ log′ f r
+
 pub record Claims : Type 0 where
   pub answers : Answers
   pub origins : Origins
@@ -182,7 +201,6 @@ pub record Claims : Type 0 where
   pub acceptances : Acceptances
   pub meanings : Meanings
   pub rounding : Rounding
-  -- Words of an absent thing (creation time, clock, modulus, shift) are ignored: tables that differ only in them get the same answers from every call.
-  pub ignored : AbsentIgnored
+  pub ignored : Ignored
   -- 7. THE STARRED NUMBERS of document 01, and the auditor's clip.
   pub worked : All Holds examples

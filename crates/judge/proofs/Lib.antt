@@ -4,4 +4,5 @@ pub mod Ready
 pub mod Recordings
 pub mod Meaning
 pub mod Exact
+pub mod Ignored
 pub mod Examples

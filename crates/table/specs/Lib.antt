@@ -1,5 +1,4 @@
 pub mod Layout
 pub mod Answers
 pub mod Rows
-pub mod Same
 pub mod Steps

@@ -1,12 +1,11 @@
 -- Refusals are right: of every answer, by the theorems of rules and judge on the definitions and table's on lengths. Assumes nothing.
-use mathlib.Core.Path.{refl, sym, subst}
+use mathlib.Core.Path.{sym, subst}
 use lib.ListN.{length}
 use Rattle.rules.specs.declared.Checked.{Checked}
 use Rattle.rules.specs.Records.{total}
-use Rattle.rules.specs.Rules.{checkOf}
 use Rattle.rules.specs.Paper.{tests, Rightly}
 use Rattle.rules.proofs.Exact.{rightly}
-use Rattle.table.proofs.Told.{answers}
+use Rattle.table.proofs.Lengths.{uneven}
 use Rattle.judge.specs.Paper.{validateTests, mcrawTests}
 use Rattle.judge.proofs.Exact.{validated-rightly, recorded-rightly}
 use Rattle.audit.specs.Words.{table}
@@ -20,5 +19,5 @@ right = record {
   check-mcraw = λ l ts a b a′ b′ r p.
       subst (λ (c : Checked). Rightly c (mcrawTests (table l) ts (length a) (length b)) (total (table l .segments))) (sym (p .answer))
       (recorded-rightly (table l) ts (length a) (length b));
-  uneven = λ l. answers (l .sources) (l .words) (l .stamps) (l .log) (l .text) (checkOf (table l)) refl .uneven;
+  uneven = λ l. uneven (l .sources) (l .words) (l .stamps) (l .log) (l .text);
 }

@@ -30,7 +30,7 @@ use Rattle.rules.specs.Absent.{clean}
 use Rattle.rules.specs.Lookups.{segmentOfFrame, segmentOfTime, continuesAt}
 use Rattle.table.specs.declared.Filled.{Filled}
 use Rattle.table.specs.declared.Filled.the-variants.{Rows}
-use Rattle.table.specs.Answers.{Uneven}
+use Rattle.table.specs.Layout.{Uneven}
 use Rattle.table.specs.Rows.{rowOf, rowsOf, Rowed}
 use Rattle.judge.specs.declared.Video.{Video}
 use Rattle.judge.specs.Video.{shownBy}

@@ -97,7 +97,7 @@ timedTests t ts a b = timesTests ts a b ++ videoTests t (Times nanoseconds (end 
 abbrev pub firstSource : Table → Source
 firstSource t = sourceOf (t .sources) (segment t 0)
 
--- one timestamp is a constant video of one frame at the fps of segment 0's source
+-- one timestamp is a constant video of one frame at the fps of segment 0's source; any other recording is judged by its times
 abbrev pub recordingTests : Table → List ℤ → ℕ → ℕ → List Test
 recordingTests t [] a b = timedTests t [] a b
 recordingTests t (x ∷ []) a b = videoTests t (Constant 1 (firstSource t .num) (firstSource t .den)) []

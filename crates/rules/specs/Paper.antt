@@ -145,8 +145,8 @@ abbrev pub None : List Test → Type 0
 None [] = Unit
 None (c ∷ l) = (c .holds → ⊥) × None l
 
--- r is right by the conditions of l, whose frame total is given: it refuses with n at i exactly when condition n holds there and none that is tested before it
--- does, and accepts exactly when none holds
+-- r is right by the conditions of l, where the segments have so many frames in total: it refuses with n at i exactly when condition n holds there and none that is
+-- tested before it does, and accepts with the total exactly when none holds
 pub record Rightly (r : Checked) (l : List Test) (total : ℕ) : Type 0 where
   pub refuses : (n i : ℕ) → (r ≡ Refused n i) ↔ First l n i
   pub accepts : (N : ℕ) → (r ≡ Frames N) ↔ (None l × (N ≡ total))

@@ -1,4 +1,3 @@
 pub mod Layout
-pub mod Answers
 pub mod Rows
 pub mod Steps

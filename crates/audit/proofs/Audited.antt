@@ -1,7 +1,6 @@
 -- Every claim holds.
 use Rattle.rows.proofs.Demanded.{demanded}
 use Rattle.maps.proofs.Lawful.{lawful}
-use Rattle.table.proofs.Alike.{same}
 use Rattle.audit.specs.Claims.{Claims}
 use Rattle.audit.proofs.Once.{once}
 use Rattle.audit.proofs.Tiled.{tiled}
@@ -9,7 +8,8 @@ use Rattle.audit.proofs.Refused.{right}
 use Rattle.audit.proofs.Judged.{fitting}
 use Rattle.audit.proofs.Meant.{meant}
 use Rattle.audit.proofs.Rounded.{rounding, ordering}
+use Rattle.audit.proofs.Absent.{absent}
 use Rattle.audit.proofs.Worked.{all-hold}
 
 pub audited : Claims
-audited = record { answers = once; origins = tiled; laws = lawful; demands = demanded; refusals = right; acceptances = fitting; meanings = meant; rounding = rounding; ordering = ordering; ignored = same; worked = all-hold }
+audited = record { answers = once; origins = tiled; laws = lawful; demands = demanded; refusals = right; acceptances = fitting; meanings = meant; rounding = rounding; ordering = ordering; ignored = absent; worked = all-hold }

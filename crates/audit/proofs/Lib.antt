@@ -5,5 +5,6 @@ pub mod Refused
 pub mod Judged
 pub mod Tiled
 pub mod Rounded
+pub mod Absent
 pub mod Worked
 pub mod Audited

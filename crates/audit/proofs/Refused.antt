@@ -1,14 +1,23 @@
--- Refusals are right: of every answer, by rules' theorem on the definition and table's on lengths. Assumes nothing.
-use mathlib.Core.Path.{refl, sym, _∙_}
-use Rattle.rules.specs.Rules.{checkOf}
+-- Refusals are right: of every answer, by the theorems of rules and judge on the definitions and table's on lengths. Assumes nothing.
+use mathlib.Core.Path.{sym, subst}
+use lib.ListN.{length}
+use Rattle.rules.specs.declared.Checked.{Checked}
+use Rattle.rules.specs.Records.{total}
+use Rattle.rules.specs.Paper.{tests, Rightly}
 use Rattle.rules.proofs.Exact.{rightly}
-use Rattle.table.proofs.Told.{answers}
+use Rattle.table.proofs.Lengths.{uneven}
+use Rattle.judge.specs.Paper.{validateTests, mcrawTests}
+use Rattle.judge.proofs.Exact.{validated-rightly, recorded-rightly}
 use Rattle.audit.specs.Words.{table}
 use Rattle.audit.specs.Claims.{Refusals}
 
 pub right : Refusals
 right = record {
-  refuses = λ l r p n i. let x = rightly (table l) .refuses n i in (λ e. x .0 (sym p ∙ e), λ c. p ∙ x .1 c);
-  accepts = λ l r p N. let x = rightly (table l) .accepts N in (λ e. x .0 (sym p ∙ e), λ c. p ∙ x .1 c);
-  uneven = λ l. answers (l .sources) (l .words) (l .stamps) (l .log) (l .text) (checkOf (table l)) refl .uneven;
+  check = λ l r p. subst (λ (c : Checked). Rightly c (tests (table l)) (total (table l .segments))) (sym p) (rightly (table l));
+  validate = λ l video starts r p.
+      subst (λ (c : Checked). Rightly c (validateTests (table l) video starts) (total (table l .segments))) (sym p) (validated-rightly (table l) video starts);
+  check-mcraw = λ l ts a b a′ b′ r p.
+      subst (λ (c : Checked). Rightly c (mcrawTests (table l) ts (length a) (length b)) (total (table l .segments))) (sym (p .answer))
+      (recorded-rightly (table l) ts (length a) (length b));
+  uneven = λ l. uneven (l .sources) (l .words) (l .stamps) (l .log) (l .text);
 }

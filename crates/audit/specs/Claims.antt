@@ -19,24 +19,25 @@ use Rattle.rows.specs.declared.Row.{Row}
 use Rattle.rows.specs.Rows.{total}
 use Rattle.rows.specs.Demands.{Tiles, Demands}
 use Rattle.rules.specs.declared.Checked.{Checked}
-use Rattle.rules.specs.declared.Checked.the-variants.{Frames, Refused}
+use Rattle.rules.specs.declared.Checked.the-variants.{Frames}
 use Rattle.rules.specs.declared.Found.{Found}
 use Rattle.rules.specs.declared.Found.the-variants.{Index}
 use Rattle.rules.specs.declared.Continued.{Continued}
 use Rattle.rules.specs.Records.{segment}
 use Rattle.rules.specs.Records as records
 use Rattle.rules.specs.Rules.{checkOf}
-use Rattle.rules.specs.Paper.{tests, First, None}
+use Rattle.rules.specs.Paper.{tests, Rightly}
+use Rattle.rules.specs.Absent.{clean}
 use Rattle.rules.specs.Lookups.{segmentOfFrame, segmentOfTime, continuesAt}
 use Rattle.table.specs.declared.Filled.{Filled}
 use Rattle.table.specs.declared.Filled.the-variants.{Rows}
-use Rattle.table.specs.Answers.{Uneven}
-use Rattle.table.specs.Same.{AbsentIgnored}
+use Rattle.table.specs.Layout.{Uneven}
 use Rattle.table.specs.Rows.{rowOf, rowsOf, Rowed}
 use Rattle.judge.specs.declared.Video.{Video}
 use Rattle.judge.specs.Video.{shownBy}
 use Rattle.judge.specs.Judge.{validateOf, Settled}
 use Rattle.judge.specs.Means.{Fits, Recorded}
+use Rattle.judge.specs.Paper.{validateTests, mcrawTests}
 use Rattle.records.specs.declared.TrimSegment.{TrimSegment}
 use Rattle.maps.specs.declared.Mapped.{Mapped}
 use Rattle.maps.specs.declared.Mapped.the-variants as mapped
@@ -117,10 +118,14 @@ pub record Origins : Type 0 where
       → (i < length (table l .segments)) × (r ≡ told (rowOf (segment (table l) i)) (a + (c + f)))
 
 -- 5. A REFUSAL IS RIGHT. Whatever is lent, `check` refuses with n at i exactly when the paper's condition n holds there and none that is tested before it does, and
--- accepts with N exactly when none holds and the segments have N frames. (The auditor's third question; rules/specs/Paper.antt has document 01's table.)
+-- accepts with N exactly when none holds and the segments have N frames. So do `validate` and `check_mcraw`, whose conditions are those of `check` and then those of
+-- the video or recording. (The auditor's third question; `Rightly`, in rules/specs/Paper.antt, says it; that file and judge/specs/Paper.antt have document 01's table.)
 pub record Refusals : Type 0 where
-  pub refuses : (l : Lent) (r : Checked) → Check l r → (n i : ℕ) → (r ≡ Refused n i) ↔ First (tests (table l)) n i
-  pub accepts : (l : Lent) (r : Checked) → Check l r → (N : ℕ) → (r ≡ Frames N) ↔ (None (tests (table l)) × (N ≡ records.total (table l .segments)))
+  pub check : (l : Lent) (r : Checked) → Check l r → Rightly r (tests (table l)) (records.total (table l .segments))
+  pub validate : (l : Lent) (video : Video) (starts : List ℤ) (r : Checked) → Validate l video starts r
+      → Rightly r (validateTests (table l) video starts) (records.total (table l .segments))
+  pub check-mcraw : (l : Lent) (ts a b a′ b′ : List ℤ) (r : Checked) → CheckMcraw l ts a b r a′ b′
+      → Rightly r (mcrawTests (table l) ts (length a) (length b)) (records.total (table l .segments))
   -- Of condition 1, what `uneven` is of the lent words: a length that is no multiple of its record's, or segment slices that disagree.
   pub uneven : (l : Lent) → (table l .uneven ≡ true) ↔ Uneven (length (l .sources)) (length (l .words)) (length (l .stamps))
 
@@ -173,6 +178,25 @@ pub record Ordering : Type 0 where
   pub ascends : (l : List ℤ) → Asc (sorted l)
   pub keeps : (v : ℤ) (l : List ℤ) → count v (sorted l) ≡ count v l
 
+-- each call that takes a table answers of m what it answers of l: its promise allows of m what it allows of l, which by `answers` is one answer
+pub record SameAnswers (l m : Lent) : Type 0 where
+  pub check : (r : Checked) → Check l r → Check m r
+  pub segment-of-frame : (f : ℕ) (r : Found) → SegmentOfFrame l f r → SegmentOfFrame m f r
+  pub segment-of-time-us : (t : ℤ) (r : Found) → SegmentOfTimeUs l t r → SegmentOfTimeUs m t r
+  pub continues : (k : ℕ) (r : Continued) → Continues l k r → Continues m k r
+  pub rows-of-table : (ou ou′ : List ℕ) (os os′ : List ℤ) (r : Filled) → RowsOfTable l ou os r ou′ os′ → RowsOfTable m ou os r ou′ os′
+  pub validate : (video : Video) (starts : List ℤ) (r : Checked) → Validate l video starts r → Validate m video starts r
+  pub check-mcraw : (ts a b a′ b′ : List ℤ) (r : Checked) → CheckMcraw l ts a b r a′ b′ → CheckMcraw m ts a b r a′ b′
+
+-- WORDS OF AN ABSENT THING (creation time, clock, modulus, shift) ARE IGNORED: tables that differ only in them, that are the same when these words are set to 0, get
+-- the same answers from every call that takes a table. (Document 01, 'How a table is lent'; rules/specs/Absent.antt says which words.)
+pub record Ignored : Type 0 where
+  pub words : (l m : Lent) → clean (table l) ≡ clean (table m) → SameAnswers l m
+  -- and so does the lookup over records, of whose absent things some are words and some are fields
+  pub segment-of-frame-records : (sources sources′ text text′ : List ℕ) (rs rs′ : List TrimSegment) (log log′ : Bool)
+      → clean (table (inWords sources text rs log)) ≡ clean (table (inWords sources′ text′ rs′ log′))
+      → (f : ℕ) (r : Found) → calls.SegmentOfFrameRecords sources text rs log f r → calls.SegmentOfFrameRecords sources′ text′ rs′ log′ f r
+
 pub record Claims : Type 0 where
   pub answers : Answers
   pub origins : Origins
@@ -187,7 +211,6 @@ pub record Claims : Type 0 where
   pub meanings : Meanings
   pub rounding : Rounding
   pub ordering : Ordering
-  -- Words of an absent thing (creation time, clock, modulus, shift) are ignored: tables that differ only in them get the same answers from every call.
-  pub ignored : AbsentIgnored
+  pub ignored : Ignored
   -- 7. THE STARRED NUMBERS of document 01, and the auditor's clip.
   pub worked : All Holds examples

@@ -1,4 +1,5 @@
 pub mod Video
 pub mod Judge
 pub mod Means
+pub mod Paper
 pub mod Steps

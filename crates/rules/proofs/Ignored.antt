@@ -16,7 +16,7 @@ use Rattle.rules.specs.declared.Ends.{Ends}
 use Rattle.rules.specs.Records.{Segment, Table, noSource, noSegment, source, segment, sourceOf, total}
 use Rattle.rules.specs.Rules.{negative, badWords, badSource, badSegment, malformed, badDate, badClock, badShift, sourceRefusal, timesOf, judged, segmentRefusal, start, endsOf, ends, segmentsFrom, frontRefusal, refusal, answered, checkOf}
 use Rattle.rules.specs.Lookups.{count, ended, overBy, overByUs, found, segmentOfFrame, segmentOfTime, sameShift, runsOn, continued, continuesAt}
-use Rattle.rules.specs.Absent.{cleanSource, cleanSegment, clean, Ignored}
+use Rattle.rules.specs.Absent.{cleanSource, cleanSegment, clean}
 
 -- ---- lists of records that are changed where no one looks
 any-map : {A : Type 0} (p : A → Bool) (f : A → A) (l : List A) → ((a : A) → p (f a) ≡ p a) → any p (map f l) ≡ any p l
@@ -29,7 +29,7 @@ unfolding count
 count-map p f [] h = refl
 count-map p f (a ∷ l) h = rw (h a, count-map p f l h)
 
-first-map : {A : Type 0} (g : A → ℕ) (f : A → A) (i : ℕ) (l : List A) → ((a : A) → g (f a) ≡ g a) → firstRefused g i (map f l) ≡ firstRefused g i l
+pub first-map : {A : Type 0} (g : A → ℕ) (f : A → A) (i : ℕ) (l : List A) → ((a : A) → g (f a) ≡ g a) → firstRefused g i (map f l) ≡ firstRefused g i l
 unfolding firstRefused
 first-map g f i [] h = refl
 first-map g f i (a ∷ l) h = rw (h a, first-map g f (suc i) l h)
@@ -82,10 +82,10 @@ no-segment : cleanSegment noSegment ≡ noSegment
 unfolding cleanSegment noSegment when
 no-segment = refl
 
-source-at : (l : List Source) (k : ℕ) → getD (map cleanSource l) k noSource ≡ cleanSource (getD l k noSource)
+pub source-at : (l : List Source) (k : ℕ) → getD (map cleanSource l) k noSource ≡ cleanSource (getD l k noSource)
 source-at l k = ap (getD (map cleanSource l) k) (sym no-source) ∙ List·getD-map cleanSource l k noSource
 
-segment-at : (l : List Segment) (k : ℕ) → getD (map cleanSegment l) k noSegment ≡ cleanSegment (getD l k noSegment)
+pub segment-at : (l : List Segment) (k : ℕ) → getD (map cleanSegment l) k noSegment ≡ cleanSegment (getD l k noSegment)
 segment-at l k = ap (getD (map cleanSegment l) k) (sym no-segment) ∙ List·getD-map cleanSegment l k noSegment
 
 segment-clean : (srcs : List Source) (prev : Ends) (e : Segment) → segmentRefusal (map cleanSource srcs) prev (cleanSegment e) ≡ segmentRefusal srcs prev e
@@ -105,7 +105,7 @@ unfolding segmentsFrom
 segments-clean srcs i prev [] = refl
 segments-clean srcs i prev (e ∷ l) = rw (segment-clean srcs prev e, ends-clean e, segments-clean srcs (suc i) (ends e) l)
 
-total-clean : (l : List Segment) → total (map cleanSegment l) ≡ total l
+pub total-clean : (l : List Segment) → total (map cleanSegment l) ≡ total l
 unfolding total cleanSegment
 total-clean [] = refl
 total-clean (e ∷ l) = ap (λ (n : ℕ). e .words .count + n) (total-clean l)
@@ -136,7 +136,7 @@ refusal-clean t = sym λ i. orRefused (first i) (segments-clean (t .sources) 0 s
         rw (malformed-clean t, length-map (t .segments) cleanSegment)
         (front-clean (t .log) (t .text) (t .sources) (malformed t) (length (t .segments)))
 
-check-clean : (t : Table) → checkOf t ≡ checkOf (clean t)
+pub check-clean : (t : Table) → checkOf t ≡ checkOf (clean t)
 unfolding checkOf clean
 check-clean t = λ i. answered (refusal-clean t i) (sym (total-clean (t .segments)) i)
 
@@ -154,16 +154,23 @@ runs-clean : (p e : Segment) → runsOn (cleanSegment p) (cleanSegment e) ≡ ru
 unfolding runsOn cleanSegment
 runs-clean p e = rw (same-clean (p .words .flag) (e .words .flag) (p .stamps .shift) (e .stamps .shift))
 
--- of every table
-pub ignored : (t : Table) → Ignored t
-unfolding segmentOfFrame segmentOfTime continuesAt clean cleanSegment
-ignored t = record {
-  check = check-clean t;
-  frame = λ k. λ i. found (check-clean t i) (ended-clean (overBy k) (t .segments) (λ e. refl) i);
-  time = λ z. λ i. found (check-clean t i) (ended-clean (overByUs z) (t .segments) (λ e. refl) i);
-  continues = λ r. λ i. continued (check-clean t i) (asked r i);
-}
+-- ---- of every table: each answer is that of the clean one
+pub frame-clean : (k : ℕ) (t : Table) → segmentOfFrame t k ≡ segmentOfFrame (clean t) k
+unfolding segmentOfFrame clean cleanSegment
+frame-clean k t = λ i. found (check-clean t i) (ended-clean (overBy k) (t .segments) (λ e. refl) i)
+
+pub time-clean : (z : ℤ) (t : Table) → segmentOfTime t z ≡ segmentOfTime (clean t) z
+unfolding segmentOfTime clean cleanSegment
+time-clean z t = λ i. found (check-clean t i) (ended-clean (overByUs z) (t .segments) (λ e. refl) i)
+
+pub continues-clean : (r : ℕ) (t : Table) → continuesAt t r ≡ continuesAt (clean t) r
+unfolding continuesAt clean cleanSegment
+continues-clean r t = λ i. continued (check-clean t i) (asked i)
   where
-    asked : (r : ℕ) → ((leb 1 r && ltb r (length (t .segments))) && runsOn (segment t (r - 1)) (segment t r))
+    asked : ((leb 1 r && ltb r (length (t .segments))) && runsOn (segment t (r - 1)) (segment t r))
         ≡ ((leb 1 r && ltb r (length (map cleanSegment (t .segments)))) && runsOn (segment (clean t) (r - 1)) (segment (clean t) r))
-    asked r = rw (length-map (t .segments) cleanSegment, segment-at (t .segments) (r - 1), segment-at (t .segments) r, runs-clean (segment t (r - 1)) (segment t r))
+    asked = rw (length-map (t .segments) cleanSegment, segment-at (t .segments) (r - 1), segment-at (t .segments) r, runs-clean (segment t (r - 1)) (segment t r))
+
+-- so it is the same of tables that are clean alike
+pub alike : {A : Type 0} (f : Table → A) → ((t : Table) → f t ≡ f (clean t)) → (a b : Table) → clean a ≡ clean b → f a ≡ f b
+alike f h a b e = h a ∙ ap f e ∙ sym (h b)

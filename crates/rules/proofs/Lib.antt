@@ -3,6 +3,7 @@ mod Chain
 pub mod Turns
 pub mod Walks
 pub mod Says
+pub mod Conditions
 pub mod Exact
 pub mod Holder
 pub mod Accepted

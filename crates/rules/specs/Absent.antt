@@ -1,15 +1,11 @@
--- Words of an absent thing are ignored: a table with these words set to 0 gets the same answers, so two tables that differ only in them do.
-use Prim.Native.Nat.{ℕ}
-use mathlib.Core.Path.{_≡_}
+-- Words of an absent thing, which are ignored: a table with these words set to 0, `clean`, gets the same answers, so two tables that differ only in them do.
 use mathlib.Core.Bool.{_||_}
 use mathlib.Core.List.{map}
 use lib.Dec.{eqb}
-use lib.IntN.{ℤ, pos}
+use lib.IntN.{pos}
 use Rattle.choice.specs.Choice.{when}
 use Rattle.rules.specs.declared.Source.{Source}
 use Rattle.rules.specs.Records.{Segment, Table}
-use Rattle.rules.specs.Rules.{checkOf}
-use Rattle.rules.specs.Lookups.{segmentOfFrame, segmentOfTime, continuesAt}
 
 -- offset and length of an absent creation time; clock numbers of kind 0; modulus of kinds 0 and 1
 unfoldable pub cleanSource : Source → Source
@@ -50,10 +46,3 @@ clean t = record {
   sources = map cleanSource (t .sources);
   segments = map cleanSegment (t .segments);
 }
-
--- every answer is that of the clean table; `ignored`, in proofs/Ignored.antt, proves it of every table
-pub record Ignored (t : Table) : Type 0 where
-  pub check : checkOf t ≡ checkOf (clean t)
-  pub frame : (k : ℕ) → segmentOfFrame t k ≡ segmentOfFrame (clean t) k
-  pub time : (z : ℤ) → segmentOfTime t z ≡ segmentOfTime (clean t) z
-  pub continues : (r : ℕ) → continuesAt t r ≡ continuesAt (clean t) r

@@ -1,6 +1,5 @@
 -- DOCUMENT 01'S TABLE OF REFUSALS, 1 to 17, in its own words: what each condition says of the records, and the order in which they are tested.
--- `rightly`, in proofs/Exact.antt, proves that a check refuses with n at i exactly when condition n holds there and none that is tested
--- before it does, and that it accepts exactly when none holds. Sums of times are integers here, without bounds.
+-- `rightly`, in proofs/Exact.antt, proves of every table that what `check` answers is right by them. Sums of times are integers here, without bounds.
 use Prim.Native.Nat.{ℕ, zero, suc, _+_, _≤_, _<_}
 use mathlib.Core.Path.{_≡_}
 use mathlib.Core.Bool.{Bool, true, false}
@@ -11,10 +10,10 @@ use lib.IntN.{pos, _+ℤ_}
 use lib.Signed.{_<ℤ_, _≤ℤ_}
 use Rattle.utc.specs.Utc.{utcSecond}
 use Rattle.rules.specs.declared.Source.{Source}
+use Rattle.rules.specs.declared.Checked.{Checked}
 use Rattle.rules.specs.declared.Checked.the-variants.{Frames, Refused}
 use Rattle.rules.specs.Limits.{maxSources, maxSegments, maxU64, maxI64}
-use Rattle.rules.specs.Records.{Segment, Table, noSource, noSegment, source, segment, sourceOf, outEnd, outEndUs, captureEndUs, total}
-use Rattle.rules.specs.Rules.{checkOf}
+use Rattle.rules.specs.Records.{Segment, Table, noSource, noSegment, source, segment, sourceOf, outEnd, outEndUs, captureEndUs}
 
 -- some record of a list has it
 abbrev pub Some : {A : Type 0} → A → (A → Type 0) → List A → Type 0
@@ -146,7 +145,8 @@ abbrev pub None : List Test → Type 0
 None [] = Unit
 None (c ∷ l) = (c .holds → ⊥) × None l
 
--- a check of t answers what the paper says
-pub record Rightly (t : Table) : Type 0 where
-  pub refuses : (n i : ℕ) → (checkOf t ≡ Refused n i) ↔ First (tests t) n i
-  pub accepts : (N : ℕ) → (checkOf t ≡ Frames N) ↔ (None (tests t) × (N ≡ total (t .segments)))
+-- r is right by the conditions of l, where the segments have so many frames in total: it refuses with n at i exactly when condition n holds there and none that is
+-- tested before it does, and accepts with the total exactly when none holds
+pub record Rightly (r : Checked) (l : List Test) (total : ℕ) : Type 0 where
+  pub refuses : (n i : ℕ) → (r ≡ Refused n i) ↔ First l n i
+  pub accepts : (N : ℕ) → (r ≡ Frames N) ↔ (None l × (N ≡ total))

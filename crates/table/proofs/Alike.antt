@@ -1,9 +1,10 @@
--- Tables that differ only in words of absent things get the same answers. Assumes nothing.
+-- Tables that differ only in words of absent things get the same rows. Assumes nothing.
 use Prim.Native.Nat.{ℕ}
-use mathlib.Core.Path.{_≡_, refl, sym, ap, _∙_}
+use mathlib.Core.Path.{_≡_, refl, sym, _∙_}
 use mathlib.Core.List.{List, [], _∷_, map}
 use lib.ListN.{length, length-map}
 use lib.Dec.{eqb}
+use lib.IntN.{ℤ}
 use Rattle.choice.specs.declared.Refusal.the-variants.{Never, At}
 use Rattle.choice.specs.Choice.{when}
 use Rattle.choice.specs.Records.{orRefused}
@@ -11,12 +12,10 @@ use Rattle.choice.proofs.Tests.{decide}
 use Rattle.slices.specs.Slices.{after}
 use Rattle.rows.specs.Lent.{wordsOf, shiftsOf}
 use Rattle.rules.specs.Records.{Segment, Table}
-use Rattle.rules.specs.Rules.{checkOf}
-use Rattle.rules.specs.Lookups.{segmentOfFrame, segmentOfTime, continuesAt}
 use Rattle.rules.specs.Absent.{cleanSegment, clean}
-use Rattle.rules.proofs.Ignored.{refusal-clean, ignored}
-use Rattle.table.specs.Rows.{rowOf, rowsOf, tooSmall, rowsRefusal, filled}
-use Rattle.table.specs.Same.{AbsentIgnored}
+use Rattle.rules.proofs.Ignored.{refusal-clean, alike}
+use Rattle.table.specs.declared.Filled.{Filled}
+use Rattle.table.specs.Rows.{rowOf, rowsOf, tooSmall, rowsRefusal, filled, Rowed}
 
 row-clean : (e : Segment) → rowOf (cleanSegment e) ≡ rowOf e
 unfolding rowOf cleanSegment when
@@ -38,23 +37,14 @@ room-clean : (nu ns : ℕ) (t : Table) → rowsRefusal t nu ns ≡ rowsRefusal (
 unfolding rowsRefusal
 room-clean nu ns t = λ i. orRefused (refusal-clean t i) (when (tooSmall (length-clean t i) nu ns) (At 32 0) Never)
 
--- what is the same of every clean table is the same of tables that are clean alike
-alike : {A : Type 0} (f : Table → A) → ((t : Table) → f t ≡ f (clean t)) → (a b : Table) → clean a ≡ clean b → f a ≡ f b
-alike f h a b e = h a ∙ ap f e ∙ sym (h b)
-
-pub same : AbsentIgnored
-same a b e = record {
-  check = alike checkOf (λ t. ignored t .check) a b e;
-  frame = λ k. alike (λ t. segmentOfFrame t k) (λ t. ignored t .frame k) a b e;
-  time = λ z. alike (λ t. segmentOfTime t z) (λ t. ignored t .time z) a b e;
-  continues = λ r. alike (λ t. continuesAt t r) (λ t. ignored t .continues r) a b e;
-  rows = λ ou os r ou′ os′ p.
-      let refusals = alike (λ t. rowsRefusal t (length ou) (length os)) (room-clean (length ou) (length os)) a b e in
-      let rows = alike rowsOf rows-of-clean a b e in
-      let lengths = alike (λ t. length (t .segments)) length-clean a b e in
-      record {
-        answer = p .answer ∙ λ i. filled (refusals i) (lengths i);
-        words = p .words ∙ λ i. after (refusals i) (wordsOf (rows i)) ou;
-        shifts = p .shifts ∙ λ i. after (refusals i) (shiftsOf (rows i)) os;
-      };
-}
+-- what rows_of_table may answer and leave of one of two tables that are clean alike, it may of the other
+pub rows-alike : (a b : Table) → clean a ≡ clean b → (ou ou′ : List ℕ) (os os′ : List ℤ) (r : Filled) → Rowed a ou os r ou′ os′ → Rowed b ou os r ou′ os′
+rows-alike a b e ou ou′ os os′ r p =
+    let refusals = alike (λ t. rowsRefusal t (length ou) (length os)) (room-clean (length ou) (length os)) a b e in
+    let rows = alike rowsOf rows-of-clean a b e in
+    let lengths = alike (λ t. length (t .segments)) length-clean a b e in
+    record {
+      answer = p .answer ∙ λ i. filled (refusals i) (lengths i);
+      words = p .words ∙ λ i. after (refusals i) (wordsOf (rows i)) ou;
+      shifts = p .shifts ∙ λ i. after (refusals i) (shiftsOf (rows i)) os;
+    }

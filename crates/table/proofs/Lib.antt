@@ -3,6 +3,6 @@ pub mod Asked
 pub mod Written
 pub mod Mapped
 pub mod Alike
-pub mod Told
+pub mod Lengths
 pub mod Examples
 mod Signs

@@ -2,6 +2,8 @@
 use Prim.Native.Nat.{ℕ, _+_, _*_, _/_, _%_}
 use mathlib.Core.Bool.{Bool, not, _||_}
 use mathlib.Core.List.{List}
+use mathlib.Core.Logic.{_⊎_}
+use mathlib.Core.Path.{_≡_}
 use lib.ListN.{getD, length}
 use lib.Dec.{eqb}
 use lib.IntN.{ℤ, pos}
@@ -71,6 +73,11 @@ abbrev pub badLengths : ℕ → ℕ → ℕ → Bool
 badLengths s u t =
     (not (eqb (s % sourceWords) 0) || not (eqb (u % segmentWords) 0))
     || (not (eqb (t % segmentStamps) 0) || not (eqb (u / segmentWords) (t / segmentStamps)))
+
+-- the same as a condition, in the paper's words; `uneven`, in proofs/Lengths.antt, proves that it is
+abbrev pub Uneven : ℕ → ℕ → ℕ → Type 0
+Uneven s u t =
+    (s % sourceWords ≡ 0 → ⊥) ⊎ (u % segmentWords ≡ 0 → ⊥) ⊎ (t % segmentStamps ≡ 0 → ⊥) ⊎ (u / segmentWords ≡ t / segmentStamps → ⊥)
 
 -- the table that is lent
 unfoldable pub tableOf : List ℕ → List ℕ → List ℤ → Bool → List ℕ → Table

@@ -1,5 +1,3 @@
 pub mod Layout
-pub mod Answers
 pub mod Rows
-pub mod Same
 pub mod Steps

@@ -1,18 +1,14 @@
--- An answer of `check` in the paper's words. Assumes nothing.
+-- Lengths of lent words that condition 1 refuses, in the paper's words. Assumes nothing.
 use Prim.Native.Nat.{ℕ, _/_, _%_}
-use mathlib.Core.Path.{_≡_, sym, _∙_}
+use mathlib.Core.Path.{_≡_}
 use mathlib.Core.Bool.{Bool, true}
 use mathlib.Core.List.{List}
 use mathlib.Core.Logic.{_⊎_, _↔_, inl, inr, ⊎-elim}
 use lib.ListN.{length}
 use lib.IntN.{ℤ}
 use Rattle.choice.proofs.Tests.{decide}
-use Rattle.rules.specs.declared.Checked.{Checked}
-use Rattle.rules.specs.Rules.{checkOf}
 use Rattle.rules.proofs.Says.{Says, equal, either, unless}
-use Rattle.rules.proofs.Exact.{rightly}
-use Rattle.table.specs.Layout.{sourceWords, segmentWords, segmentStamps, badLengths, tableOf}
-use Rattle.table.specs.Answers.{Uneven, Answers}
+use Rattle.table.specs.Layout.{sourceWords, segmentWords, segmentStamps, badLengths, Uneven, tableOf}
 
 -- a test that says the same as a condition holds exactly when it does
 exactly : {b : Bool} {C : Type 0} → Says b C → (b ≡ true) ↔ C
@@ -24,20 +20,14 @@ four = (
   ⊎-elim (λ a. inl (inl a)) (⊎-elim (λ b. inl (inr b)) inr),
 )
 
-uneven : (s u t : ℕ) → (badLengths s u t ≡ true) ↔ Uneven s u t
-uneven s u t =
+lengths : (s u t : ℕ) → (badLengths s u t ≡ true) ↔ Uneven s u t
+lengths s u t =
     let e = exactly (either
     (either (unless (equal (s % sourceWords) 0)) (unless (equal (u % segmentWords) 0)))
     (either (unless (equal (t % segmentStamps) 0)) (unless (equal (u / segmentWords) (t / segmentStamps))))) in
     (λ h. four .0 (e .0 h), λ x. e .1 (four .1 x))
 
--- of every answer that the promise of `check` allows
-pub answers : (s u : List ℕ) (t : List ℤ) (log : Bool) (text : List ℕ) (r : Checked) → r ≡ checkOf (tableOf s u t log text) → Answers s u t log text r
+-- of every table that is lent
+pub uneven : (s u : List ℕ) (t : List ℤ) (log : Bool) (text : List ℕ) → (tableOf s u t log text .uneven ≡ true) ↔ Uneven (length s) (length u) (length t)
 unfolding tableOf
-answers s u t log text r e =
-    let x = rightly (tableOf s u t log text) in
-    record {
-      refuses = λ n i. (λ q. x .refuses n i .0 (sym e ∙ q), λ f. e ∙ x .refuses n i .1 f);
-      accepts = λ N. (λ q. x .accepts N .0 (sym e ∙ q), λ f. e ∙ x .accepts N .1 f);
-      uneven = uneven (length s) (length u) (length t);
-    }
+uneven s u t log text = lengths (length s) (length u) (length t)

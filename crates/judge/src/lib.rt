@@ -16,6 +16,9 @@ use choice::Refusal;
 use mcraw::Times;
 use rules::Checked;
 use signed::Held;
+use table::SOURCE;
+use table::STAMPS;
+use table::WORDS;
 use wide::Big;
 
 // The most starts.
@@ -31,13 +34,6 @@ pub const OTHER_START: u64 = 24;
 pub const NOT_NEAR: u64 = 25;
 
 pub const NO_FRAMES: u64 = 35;
-
-// Words of a source, unsigned words of a segment, signed words of a segment.
-const SOURCE: usize = 10;
-
-const WORDS: usize = 5;
-
-const STAMPS: usize = 7;
 
 // The video that a table is judged by: none; frames at num / den a second; or times in ticks, their starts lent beside it.
 // The Rust's VideoFrames.

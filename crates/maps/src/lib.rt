@@ -13,7 +13,7 @@ ghost use Rattle.maps.specs.Answers.{sized, fits, firstBad, mapRefusal, 
 ghost use Rattle.maps.specs.Steps.{Sound, Room, Holder, counted, Span, Planned};
 
 // The rows that a map may have, in or out.
-const MOST_ROWS: usize = 1024;
+pub const MOST_ROWS: usize = 1024;
 
 // The refusals' numbers: a cut's range, rows malformed, too many rows or too little room, joined frames past 2^64 - 1, a frame past the map.
 const BAD_RANGE: u64 = 50;

@@ -1,8 +1,6 @@
 // Frame maps, origins and refusals as text on standard output, for programs.
+use maps::MOST_ROWS;
 use maps::Traced;
-
-// The rows that a map may have.
-const MOST_ROWS: usize = 1024;
 
 // 2^64 - 1.
 const LARGEST: u64 = 0xffff_ffff_ffff_ffff;

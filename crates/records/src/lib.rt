@@ -3,9 +3,11 @@
 use choice::Refusal;
 use rules::Ends;
 use rules::Found;
+use rules::MAX_SEGMENTS;
 use rules::Times;
 use rules::Turn;
 use rules::Words;
+use table::SOURCE;
 ghost use mathlib.Core.Path.{_≡_};
 ghost use Prim.Native.Nat.{_+_, _-_, _≤_, min};
 ghost use Rattle.rules.specs.Limits.{maxSegments};
@@ -15,12 +17,6 @@ ghost use Rattle.rules.specs.Steps.{turnOf};
 ghost use Rattle.table.specs.Layout.{sourcesOf};
 ghost use Rattle.records.specs.Records.{wordsOf, stampsOf, segmentOf, locate};
 ghost use Rattle.records.specs.Steps.{begun, turnedOf, countedOf, nextOf, decided, answerOf};
-
-// The most segments of a table.
-const MAX_SEGMENTS: usize = 512;
-
-// Words of a source.
-const SOURCE: usize = 10;
 
 // A segment as one record, with its times in microseconds: the Rust's TrimSegment.
 #[repr(C)]

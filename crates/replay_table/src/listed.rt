@@ -5,17 +5,14 @@ use cases::read::Cursor;
 use cases::say;
 use records::TrimSegment;
 use rules::Found;
+use table::STAMPS;
+use table::WORDS;
 ghost use mathlib.Core.Path.{_≡_};
 ghost use Prim.Native.Nat.{_+_, _*_, _≤_};
 ghost use lib.ListN.{length, take};
 ghost use Rattle.table.specs.Layout.{segmentWords, segmentStamps, wordsAt, stampsAt};
 ghost use Rattle.records.specs.Records.{stampsOf, locate};
 ghost use Rattle.replay_table.specs.Listed.{HasWords};
-
-// Unsigned words of a record, signed words of a record.
-const WORDS: usize = 5;
-
-const STAMPS: usize = 7;
 
 // The most records of a case: 64 signed words, which is all that there is room for, are nine of seven.
 const MOST: usize = 9;

@@ -6,7 +6,7 @@ ghost use Rattle.rules.specs.Steps.{framesOr, timesOr, turned};
 // Limits of 2.
 const MAX_SOURCES: usize = 64;
 
-const MAX_SEGMENTS: usize = 512;
+pub const MAX_SEGMENTS: usize = 512;
 
 // The largest u64 and i64.
 const MAX_U64: u64 = 0xffff_ffff_ffff_ffff;

@@ -26,11 +26,11 @@ ghost use Rattle.table.specs.Rows.{rowOf, Rowed};
 ghost use Rattle.table.specs.Steps.{endAt, endUsAt};
 
 // Words of a source, unsigned words of a segment, signed words of a segment.
-const SOURCE: usize = 10;
+pub const SOURCE: usize = 10;
 
-const WORDS: usize = 5;
+pub const WORDS: usize = 5;
 
-const STAMPS: usize = 7;
+pub const STAMPS: usize = 7;
 
 // Source k.
 pub fn source_at(s: &[u64], k: usize) -> Source

@@ -8,13 +8,11 @@
 //
 // Every map goes through the proved calls; this program only holds the rows and prints.
 use libc::STDIN_FILENO;
+use maps::MOST_ROWS;
 use maps::Mapped;
 use steps::Step;
 ghost use Prim.Native.Nat.{_≤_};
 ghost use lib.ListN.{length};
-
-// The rows that a map may have.
-const MOST_ROWS: usize = 1024;
 
 // The bytes of input that are held.
 const ROOM: usize = 65536;

@@ -1,5 +1,5 @@
 -- Exactly one answer meets each promise. Assumes nothing.
-use mathlib.Core.Path.{refl, sym, ap, _∙_}
+use mathlib.Core.Path.{refl, ap, _∙_}
 use denote.Ref.{now}
 use Rattle.slices.specs.Slices.{laid}
 use Rattle.mcraw.specs.declared.Times.{Times}
@@ -35,7 +35,7 @@ once = record {
   merge = λ κs a. (tt, record { the = record { result = _; last = _ }; said = record { answer = refl; words = refl; shifts = refl }; only = λ e p i. record { result = p .answer i; last = (tt, (tt, (p .words i, (p .shifts i, tt)))) } });
   origin = λ κs a. (tt, record { the = record { result = _; last = _ }; said = refl; only = λ e p i. record { result = p i; last = e .last } });
   segment-of-frame-records = λ κs a. (tt, record { the = record { result = _; last = _ }; said = refl; only = λ e p i. record { result = p i; last = e .last } });
-  child = λ κs a. (tt, λ e e′ p q. (p .place ∙ sym (q .place), p .bytes ∙ sym (q .bytes)));
-  find-box = λ κs a. (tt, λ e e′ p q. (p .place ∙ sym (q .place), p .bytes ∙ sym (q .bytes)));
-  table-text = λ κs a. (tt, λ e e′ p q. (p .place ∙ sym (q .place), p .bytes ∙ sym (q .bytes)));
+  child = λ κs a. (tt, record { the = record { result = record { ptr = _; name = 0; now = _ }; last = _ }; said = record { bytes = refl; place = refl }; bytes = λ e p. p .bytes; address = λ e p. p .place });
+  find-box = λ κs a. (tt, record { the = record { result = record { ptr = _; name = 0; now = _ }; last = _ }; said = record { bytes = refl; place = refl }; bytes = λ e p. p .bytes; address = λ e p. p .place });
+  table-text = λ κs a. (tt, record { the = record { result = record { ptr = _; name = 0; now = _ }; last = _ }; said = record { bytes = refl; place = refl }; bytes = λ e p. p .bytes; address = λ e p. p .place });
 }

@@ -10,76 +10,54 @@ use Rattle.judge.specs.declared.Video.{Video}
 use Rattle.records.specs.Records.{locate}
 use Rattle.records.specs.declared.TrimSegment.{TrimSegment}
 use Rattle.ticks.proofs.ticks_to_us as ticks-to-us·
-use Rattle.ticks.proofs.ticks_to_us.Kinds as ticks-to-us·kinds
 use Rattle.ticks.proofs.ticks_to_us.Reads as ticks-to-us·reads
 use Rattle.utc.proofs.is_utc_second as is-utc-second·
-use Rattle.utc.proofs.is_utc_second.Kinds as is-utc-second·kinds
 use Rattle.utc.proofs.is_utc_second.Reads as is-utc-second·reads
 use Rattle.table.proofs.check as check·
-use Rattle.table.proofs.check.Kinds as check·kinds
 use Rattle.table.proofs.check.Reads as check·reads
 use Rattle.table.proofs.segment_of_frame as segment-of-frame·
-use Rattle.table.proofs.segment_of_frame.Kinds as segment-of-frame·kinds
 use Rattle.table.proofs.segment_of_frame.Reads as segment-of-frame·reads
 use Rattle.table.proofs.segment_of_time_us as segment-of-time-us·
-use Rattle.table.proofs.segment_of_time_us.Kinds as segment-of-time-us·kinds
 use Rattle.table.proofs.segment_of_time_us.Reads as segment-of-time-us·reads
 use Rattle.table.proofs.continues as continues·
-use Rattle.table.proofs.continues.Kinds as continues·kinds
 use Rattle.table.proofs.continues.Reads as continues·reads
 use Rattle.table.proofs.rows_of_table as rows-of-table·
-use Rattle.table.proofs.rows_of_table.Kinds as rows-of-table·kinds
 use Rattle.table.proofs.rows_of_table.Reads as rows-of-table·reads
 use Rattle.judge.proofs.validate as validate·
-use Rattle.judge.proofs.validate.Kinds as validate·kinds
 use Rattle.judge.proofs.validate.Reads as validate·reads
 use Rattle.judge.proofs.check_mcraw as check-mcraw·
-use Rattle.judge.proofs.check_mcraw.Kinds as check-mcraw·kinds
 use Rattle.judge.proofs.check_mcraw.Reads as check-mcraw·reads
 use Rattle.boxes.proofs.box_size as box-size·
-use Rattle.boxes.proofs.box_size.Kinds as box-size·kinds
 use Rattle.boxes.proofs.box_size.Reads as box-size·reads
 use Rattle.boxes.proofs.child_place as child-place·
-use Rattle.boxes.proofs.child_place.Kinds as child-place·kinds
 use Rattle.boxes.proofs.child_place.Reads as child-place·reads
 use Rattle.boxes.proofs.child as child·
-use Rattle.boxes.proofs.child.Kinds as child·kinds
 use Rattle.boxes.proofs.child.Reads as child·reads
 use Rattle.boxes.proofs.find_box_place as find-box-place·
-use Rattle.boxes.proofs.find_box_place.Kinds as find-box-place·kinds
 use Rattle.boxes.proofs.find_box_place.Reads as find-box-place·reads
 use Rattle.boxes.proofs.find_box as find-box·
-use Rattle.boxes.proofs.find_box.Kinds as find-box·kinds
 use Rattle.boxes.proofs.find_box.Reads as find-box·reads
 use Rattle.boxes.proofs.table_text_place as table-text-place·
-use Rattle.boxes.proofs.table_text_place.Kinds as table-text-place·kinds
 use Rattle.boxes.proofs.table_text_place.Reads as table-text-place·reads
 use Rattle.boxes.proofs.table_text as table-text·
-use Rattle.boxes.proofs.table_text.Kinds as table-text·kinds
 use Rattle.boxes.proofs.table_text.Reads as table-text·reads
 use Rattle.frame_times.proofs.video_frame_times_of_moov as video-frame-times-of-moov·
-use Rattle.frame_times.proofs.video_frame_times_of_moov.Kinds as video-frame-times-of-moov·kinds
 use Rattle.frame_times.proofs.video_frame_times_of_moov.Reads as video-frame-times-of-moov·reads
 use Rattle.mcraw.proofs.mcraw_times as mcraw-times·
-use Rattle.mcraw.proofs.mcraw_times.Kinds as mcraw-times·kinds
 use Rattle.mcraw.proofs.mcraw_times.Reads as mcraw-times·reads
 use Rattle.maps.proofs.cut as cut·
-use Rattle.maps.proofs.cut.Kinds as cut·kinds
 use Rattle.maps.proofs.cut.Reads as cut·reads
 use Rattle.maps.proofs.merge as merge·
-use Rattle.maps.proofs.merge.Kinds as merge·kinds
 use Rattle.maps.proofs.merge.Reads as merge·reads
 use Rattle.maps.proofs.join as join·
-use Rattle.maps.proofs.join.Kinds as join·kinds
 use Rattle.maps.proofs.join.Reads as join·reads
 use Rattle.maps.proofs.origin as origin·
-use Rattle.maps.proofs.origin.Kinds as origin·kinds
 use Rattle.maps.proofs.origin.Reads as origin·reads
 use Rattle.records.proofs.segment_of_frame_records as segment-of-frame-records·
 
 -- ticks::ticks_to_us
 abbrev pub ticks-to-us : Promise
-ticks-to-us = record { types = ticks-to-us·.ended; Fits = ticks-to-us·kinds.r .is .Ok; Asked = ticks-to-us·reads.Asked; Learnt = ticks-to-us·reads.Learnt }
+ticks-to-us = record { types = ticks-to-us·.ended; Asked = ticks-to-us·reads.Asked; Learnt = ticks-to-us·reads.Learnt }
 
 -- ticks_to_us(ticks, scale) answers ans
 abbrev pub TicksToUs : ℤ → ℕ → Result ticks-to-us tt → Type 0
@@ -90,7 +68,7 @@ ticks-to-us·anywhere κs a e = refl
 
 -- utc::is_utc_second
 abbrev pub is-utc-second : Promise
-is-utc-second = record { types = is-utc-second·.ended; Fits = is-utc-second·kinds.r .is .Ok; Asked = is-utc-second·reads.Asked; Learnt = is-utc-second·reads.Learnt }
+is-utc-second = record { types = is-utc-second·.ended; Asked = is-utc-second·reads.Asked; Learnt = is-utc-second·reads.Learnt }
 
 -- is_utc_second(b) answers ans
 abbrev pub IsUtcSecond : List ℕ → Result is-utc-second ([], tt) → Type 0
@@ -101,7 +79,7 @@ is-utc-second·anywhere κs a e = refl
 
 -- table::check
 abbrev pub check : Promise
-check = record { types = check·.ended; Fits = check·kinds.r .is .Ok; Asked = check·reads.Asked; Learnt = check·reads.Learnt }
+check = record { types = check·.ended; Asked = check·reads.Asked; Learnt = check·reads.Learnt }
 
 -- check(sources, u, t, log, text) answers ans
 abbrev pub Check : List ℕ → List ℕ → List ℤ → Bool → List ℕ → Result check ([], ([], ([], ([], tt)))) → Type 0
@@ -112,7 +90,7 @@ check·anywhere κs a e = refl
 
 -- table::segment_of_frame
 abbrev pub segment-of-frame : Promise
-segment-of-frame = record { types = segment-of-frame·.ended; Fits = segment-of-frame·kinds.r .is .Ok; Asked = segment-of-frame·reads.Asked; Learnt = segment-of-frame·reads.Learnt }
+segment-of-frame = record { types = segment-of-frame·.ended; Asked = segment-of-frame·reads.Asked; Learnt = segment-of-frame·reads.Learnt }
 
 -- segment_of_frame(sources, u, t, log, text, frame) answers ans
 abbrev pub SegmentOfFrame : List ℕ → List ℕ → List ℤ → Bool → List ℕ → ℕ → Result segment-of-frame ([], ([], ([], ([], tt)))) → Type 0
@@ -123,7 +101,7 @@ segment-of-frame·anywhere κs a e = refl
 
 -- table::segment_of_time_us
 abbrev pub segment-of-time-us : Promise
-segment-of-time-us = record { types = segment-of-time-us·.ended; Fits = segment-of-time-us·kinds.r .is .Ok; Asked = segment-of-time-us·reads.Asked; Learnt = segment-of-time-us·reads.Learnt }
+segment-of-time-us = record { types = segment-of-time-us·.ended; Asked = segment-of-time-us·reads.Asked; Learnt = segment-of-time-us·reads.Learnt }
 
 -- segment_of_time_us(sources, u, t, log, text, time) answers ans
 abbrev pub SegmentOfTimeUs : List ℕ → List ℕ → List ℤ → Bool → List ℕ → ℤ → Result segment-of-time-us ([], ([], ([], ([], tt)))) → Type 0
@@ -134,7 +112,7 @@ segment-of-time-us·anywhere κs a e = refl
 
 -- table::continues
 abbrev pub continues : Promise
-continues = record { types = continues·.ended; Fits = continues·kinds.r .is .Ok; Asked = continues·reads.Asked; Learnt = continues·reads.Learnt }
+continues = record { types = continues·.ended; Asked = continues·reads.Asked; Learnt = continues·reads.Learnt }
 
 -- continues(sources, u, t, log, text, r) answers ans
 abbrev pub Continues : List ℕ → List ℕ → List ℤ → Bool → List ℕ → ℕ → Result continues ([], ([], ([], ([], tt)))) → Type 0
@@ -145,7 +123,7 @@ continues·anywhere κs a e = refl
 
 -- table::rows_of_table
 abbrev pub rows-of-table : Promise
-rows-of-table = record { types = rows-of-table·.ended; Fits = rows-of-table·kinds.r .is .Ok; Asked = rows-of-table·reads.Asked; Learnt = rows-of-table·reads.Learnt }
+rows-of-table = record { types = rows-of-table·.ended; Asked = rows-of-table·reads.Asked; Learnt = rows-of-table·reads.Learnt }
 
 -- rows_of_table(sources, u, t, log, text, ou, os) answers ans, and leaves ou′, os′
 abbrev pub RowsOfTable : List ℕ → List ℕ → List ℤ → Bool → List ℕ → List ℕ → List ℤ → Result rows-of-table ([], ([], ([], ([], ([], ([], tt)))))) → List ℕ → List ℤ → Type 0
@@ -156,7 +134,7 @@ rows-of-table·anywhere κs a e = refl
 
 -- judge::validate
 abbrev pub validate : Promise
-validate = record { types = validate·.ended; Fits = validate·kinds.r .is .Ok; Asked = validate·reads.Asked; Learnt = validate·reads.Learnt }
+validate = record { types = validate·.ended; Asked = validate·reads.Asked; Learnt = validate·reads.Learnt }
 
 -- validate(sources, u, t, log, text, video, starts) answers ans
 abbrev pub Validate : List ℕ → List ℕ → List ℤ → Bool → List ℕ → Video → List ℤ → Result validate ([], ([], ([], ([], ([], tt))))) → Type 0
@@ -167,7 +145,7 @@ validate·anywhere κs a e = refl
 
 -- judge::check_mcraw
 abbrev pub check-mcraw : Promise
-check-mcraw = record { types = check-mcraw·.ended; Fits = check-mcraw·kinds.r .is .Ok; Asked = check-mcraw·reads.Asked; Learnt = check-mcraw·reads.Learnt }
+check-mcraw = record { types = check-mcraw·.ended; Asked = check-mcraw·reads.Asked; Learnt = check-mcraw·reads.Learnt }
 
 -- check_mcraw(sources, u, t, log, text, timestamps, work-a, work-b) answers ans, and leaves work-a′, work-b′
 abbrev pub CheckMcraw : List ℕ → List ℕ → List ℤ → Bool → List ℕ → List ℤ → List ℤ → List ℤ → Result check-mcraw ([], ([], ([], ([], ([], ([], ([], tt))))))) → List ℤ → List ℤ → Type 0
@@ -178,7 +156,7 @@ check-mcraw·anywhere κs a e = refl
 
 -- boxes::box_size
 abbrev pub box-size : Promise
-box-size = record { types = box-size·.ended; Fits = box-size·kinds.r .is .Ok; Asked = box-size·reads.Asked; Learnt = box-size·reads.Learnt }
+box-size = record { types = box-size·.ended; Asked = box-size·reads.Asked; Learnt = box-size·reads.Learnt }
 
 -- box_size(«data», remaining) answers ans
 abbrev pub BoxSize : List ℕ → ℕ → Result box-size ([], tt) → Type 0
@@ -189,7 +167,7 @@ box-size·anywhere κs a e = refl
 
 -- boxes::child_place
 abbrev pub child-place : Promise
-child-place = record { types = child-place·.ended; Fits = child-place·kinds.r .is .Ok; Asked = child-place·reads.Asked; Learnt = child-place·reads.Learnt }
+child-place = record { types = child-place·.ended; Asked = child-place·reads.Asked; Learnt = child-place·reads.Learnt }
 
 -- child_place(payload, kind) answers ans
 abbrev pub ChildPlace : List ℕ → ℕ → Result child-place ([], tt) → Type 0
@@ -200,7 +178,7 @@ child-place·anywhere κs a e = refl
 
 -- boxes::child
 abbrev pub child : Promise
-child = record { types = child·.ended; Fits = child·kinds.r .is .Ok; Asked = child·reads.Asked; Learnt = child·reads.Learnt }
+child = record { types = child·.ended; Asked = child·reads.Asked; Learnt = child·reads.Learnt }
 
 -- child(payload, kind) answers ans
 abbrev pub Child : RefT (List ℕ) → ℕ → Result child ([], tt) → Type 0
@@ -211,7 +189,7 @@ child·anywhere κs a e = refl
 
 -- boxes::find_box_place
 abbrev pub find-box-place : Promise
-find-box-place = record { types = find-box-place·.ended; Fits = find-box-place·kinds.r .is .Ok; Asked = find-box-place·reads.Asked; Learnt = find-box-place·reads.Learnt }
+find-box-place = record { types = find-box-place·.ended; Asked = find-box-place·reads.Asked; Learnt = find-box-place·reads.Learnt }
 
 -- find_box_place(bytes, start, end, kind, text-types) answers ans
 abbrev pub FindBoxPlace : List ℕ → ℕ → ℕ → ℕ → Bool → Result find-box-place ([], tt) → Type 0
@@ -222,7 +200,7 @@ find-box-place·anywhere κs a e = refl
 
 -- boxes::find_box
 abbrev pub find-box : Promise
-find-box = record { types = find-box·.ended; Fits = find-box·kinds.r .is .Ok; Asked = find-box·reads.Asked; Learnt = find-box·reads.Learnt }
+find-box = record { types = find-box·.ended; Asked = find-box·reads.Asked; Learnt = find-box·reads.Learnt }
 
 -- find_box(bytes, start, end, kind, text-types) answers ans
 abbrev pub FindBox : RefT (List ℕ) → ℕ → ℕ → ℕ → Bool → Result find-box ([], tt) → Type 0
@@ -233,7 +211,7 @@ find-box·anywhere κs a e = refl
 
 -- boxes::table_text_place
 abbrev pub table-text-place : Promise
-table-text-place = record { types = table-text-place·.ended; Fits = table-text-place·kinds.r .is .Ok; Asked = table-text-place·reads.Asked; Learnt = table-text-place·reads.Learnt }
+table-text-place = record { types = table-text-place·.ended; Asked = table-text-place·reads.Asked; Learnt = table-text-place·reads.Learnt }
 
 -- table_text_place(file) answers ans
 abbrev pub TableTextPlace : List ℕ → Result table-text-place ([], tt) → Type 0
@@ -244,7 +222,7 @@ table-text-place·anywhere κs a e = refl
 
 -- boxes::table_text
 abbrev pub table-text : Promise
-table-text = record { types = table-text·.ended; Fits = table-text·kinds.r .is .Ok; Asked = table-text·reads.Asked; Learnt = table-text·reads.Learnt }
+table-text = record { types = table-text·.ended; Asked = table-text·reads.Asked; Learnt = table-text·reads.Learnt }
 
 -- table_text(file) answers ans
 abbrev pub TableText : RefT (List ℕ) → Result table-text ([], tt) → Type 0
@@ -255,7 +233,7 @@ table-text·anywhere κs a e = refl
 
 -- frame_times::video_frame_times_of_moov
 abbrev pub video-frame-times-of-moov : Promise
-video-frame-times-of-moov = record { types = video-frame-times-of-moov·.ended; Fits = video-frame-times-of-moov·kinds.r .is .Ok; Asked = video-frame-times-of-moov·reads.Asked; Learnt = video-frame-times-of-moov·reads.Learnt }
+video-frame-times-of-moov = record { types = video-frame-times-of-moov·.ended; Asked = video-frame-times-of-moov·reads.Asked; Learnt = video-frame-times-of-moov·reads.Learnt }
 
 -- video_frame_times_of_moov(moov, starts, work-a, work-b) answers ans, and leaves starts′, work-a′, work-b′
 abbrev pub VideoFrameTimesOfMoov : List ℕ → List ℤ → List ℤ → List ℤ → Result video-frame-times-of-moov ([], ([], ([], ([], tt)))) → List ℤ → List ℤ → List ℤ → Type 0
@@ -266,7 +244,7 @@ video-frame-times-of-moov·anywhere κs a e = refl
 
 -- mcraw::mcraw_times
 abbrev pub mcraw-times : Promise
-mcraw-times = record { types = mcraw-times·.ended; Fits = mcraw-times·kinds.r .is .Ok; Asked = mcraw-times·reads.Asked; Learnt = mcraw-times·reads.Learnt }
+mcraw-times = record { types = mcraw-times·.ended; Asked = mcraw-times·reads.Asked; Learnt = mcraw-times·reads.Learnt }
 
 -- mcraw_times(timestamps, starts, work) answers ans, and leaves starts′, work′
 abbrev pub McrawTimes : List ℤ → List ℤ → List ℤ → Result mcraw-times ([], ([], ([], tt))) → List ℤ → List ℤ → Type 0
@@ -277,7 +255,7 @@ mcraw-times·anywhere κs a e = refl
 
 -- maps::cut
 abbrev pub cut : Promise
-cut = record { types = cut·.ended; Fits = cut·kinds.r .is .Ok; Asked = cut·reads.Asked; Learnt = cut·reads.Learnt }
+cut = record { types = cut·.ended; Asked = cut·reads.Asked; Learnt = cut·reads.Learnt }
 
 -- cut(u, s, a, b, ou, os) answers ans, and leaves ou′, os′
 abbrev pub Cut : List ℕ → List ℤ → ℕ → ℕ → List ℕ → List ℤ → Result cut ([], ([], ([], ([], tt)))) → List ℕ → List ℤ → Type 0
@@ -288,7 +266,7 @@ cut·anywhere κs a e = refl
 
 -- maps::merge
 abbrev pub merge : Promise
-merge = record { types = merge·.ended; Fits = merge·kinds.r .is .Ok; Asked = merge·reads.Asked; Learnt = merge·reads.Learnt }
+merge = record { types = merge·.ended; Asked = merge·reads.Asked; Learnt = merge·reads.Learnt }
 
 -- merge(u, s, ou, os) answers ans, and leaves ou′, os′
 abbrev pub Merge : List ℕ → List ℤ → List ℕ → List ℤ → Result merge ([], ([], ([], ([], tt)))) → List ℕ → List ℤ → Type 0
@@ -299,7 +277,7 @@ merge·anywhere κs a e = refl
 
 -- maps::join
 abbrev pub join : Promise
-join = record { types = join·.ended; Fits = join·kinds.r .is .Ok; Asked = join·reads.Asked; Learnt = join·reads.Learnt }
+join = record { types = join·.ended; Asked = join·reads.Asked; Learnt = join·reads.Learnt }
 
 -- join(u, s, v, t, ou, os) answers ans, and leaves ou′, os′
 abbrev pub Join : List ℕ → List ℤ → List ℕ → List ℤ → List ℕ → List ℤ → Result join ([], ([], ([], ([], ([], ([], tt)))))) → List ℕ → List ℤ → Type 0
@@ -310,7 +288,7 @@ join·anywhere κs a e = refl
 
 -- maps::origin
 abbrev pub origin : Promise
-origin = record { types = origin·.ended; Fits = origin·kinds.r .is .Ok; Asked = origin·reads.Asked; Learnt = origin·reads.Learnt }
+origin = record { types = origin·.ended; Asked = origin·reads.Asked; Learnt = origin·reads.Learnt }
 
 -- origin(u, s, frame) answers ans
 abbrev pub Origin : List ℕ → List ℤ → ℕ → Result origin ([], ([], tt)) → Type 0
@@ -321,7 +299,7 @@ origin·anywhere κs a e = refl
 
 -- records::segment_of_frame_records, proved by hand: its clause, as the source has it
 abbrev pub segment-of-frame-records : Promise
-segment-of-frame-records = record { types = segment-of-frame-records·.ended; Fits = λ κs z. Unit {0}; Asked = λ κs a. Unit {0}; Learnt = λ κs a z e. z ≡ locate (now (a .0)) (now (a .1 .0)) (now (a .1 .1 .0)) (a .1 .1 .1 .0) (a .1 .1 .1 .1 .0) }
+segment-of-frame-records = record { types = segment-of-frame-records·.ended; Asked = λ κs a. Unit {0}; Learnt = λ κs a z e. z ≡ locate (now (a .0)) (now (a .1 .0)) (now (a .1 .1 .0)) (a .1 .1 .1 .0) (a .1 .1 .1 .1 .0) }
 
 -- segment_of_frame_records(sources, text, records, log, frame) answers ans
 abbrev pub SegmentOfFrameRecords : List ℕ → List ℕ → List TrimSegment → Bool → ℕ → Result segment-of-frame-records ([], ([], ([], tt))) → Type 0

@@ -55,6 +55,7 @@ use Rattle.mcraw.specs.declared.Times.{Times}
 use Rattle.mcraw.specs.Mcraw.{Answered}
 use Rattle.audit.specs.Promise.{OneAnswer, OnePart}
 use Rattle.audit.specs.Calls as calls
+use Rattle.audit.specs.Face as face
 use Rattle.audit.specs.Words.{Lent, table, Check, SegmentOfFrame, SegmentOfTimeUs, Continues, RowsOfTable, Validate, CheckMcraw, inWords, written}
 use Rattle.audit.specs.Examples.{Holds, examples}
 
@@ -86,6 +87,32 @@ pub record Answers : Type 0 where
   pub child : OnePart calls.child (λ κs r. r)
   pub find-box : OnePart calls.find-box (λ κs r. r)
   pub table-text : OnePart calls.table-text (λ κs r. r)
+
+-- THE C FACE: of each exported call too exactly one answer meets the promise: the number that it returns, and what each word and each slice that is lent holds
+-- afterwards. It asks nothing either. (segment_table/specs/Told.antt and Written.antt have what is told of an answer.)
+pub record Face : Type 0 where
+  pub st-check : OneAnswer face.st-check
+  pub st-segment-of-frame : OneAnswer face.st-segment-of-frame
+  pub st-segment-of-time-us : OneAnswer face.st-segment-of-time-us
+  pub st-continues : OneAnswer face.st-continues
+  pub st-rows-of-table : OneAnswer face.st-rows-of-table
+  pub st-validate-no-video : OneAnswer face.st-validate-no-video
+  pub st-validate-constant : OneAnswer face.st-validate-constant
+  pub st-validate-times : OneAnswer face.st-validate-times
+  pub st-check-mcraw : OneAnswer face.st-check-mcraw
+  pub st-segment-of-frame-records : OneAnswer face.st-segment-of-frame-records
+  pub st-cut : OneAnswer face.st-cut
+  pub st-join : OneAnswer face.st-join
+  pub st-merge : OneAnswer face.st-merge
+  pub st-origin : OneAnswer face.st-origin
+  pub st-box-size : OneAnswer face.st-box-size
+  pub st-child : OneAnswer face.st-child
+  pub st-find-box : OneAnswer face.st-find-box
+  pub st-table-text : OneAnswer face.st-table-text
+  pub st-video-frame-times-of-moov : OneAnswer face.st-video-frame-times-of-moov
+  pub st-mcraw-times : OneAnswer face.st-mcraw-times
+  pub st-is-utc-second : OneAnswer face.st-is-utc-second
+  pub st-ticks-to-us : OneAnswer face.st-ticks-to-us
 
 -- what `origin` answers of frame f, where it lies in row r
 abbrev pub told : Row → ℕ → Traced
@@ -199,6 +226,7 @@ pub record Ignored : Type 0 where
 
 pub record Claims : Type 0 where
   pub answers : Answers
+  pub face : Face
   pub origins : Origins
   -- 4. THE LAWS OF CUT, JOIN AND MERGE, of the calls: what is written is a map again; a cut keeps each frame's origin; a cut of a cut is the one cut of the combined
   -- range; a join has both maps' origins; merging keeps origins, twice is once, and two maps merge alike exactly when all origins agree; neighbouring cuts joined

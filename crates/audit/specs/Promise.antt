@@ -7,11 +7,10 @@ use denote.Ref.{RefT, now}
 use denote.Triple.Entry.{Args, Res}
 use denote.Triple.Clauses.{Ended, Lasts, AtExit, atExit}
 
--- A promise, quoted from the modules that Rattle generates of a function's source: the types of its parameters and of its result, that a result is in its
--- type's range, what its `requires` asks of the arguments, and what its `ensures` says of the result and of the parameters at exit.
+-- A promise, quoted from the modules that Rattle generates of a function's source: the types of its parameters and of its result, what its
+-- `requires` asks of the arguments, and what its `ensures` says of the result and of the parameters at exit.
 pub record Promise : Type 2 where
   pub types : Ended
-  pub Fits : (κs : Lfts (types .signature .lifetimes)) → Res (types .signature) κs → Type 0
   pub Asked : (κs : Lfts (types .signature .lifetimes)) → Args (types .signature) κs → Type 0
   pub Learnt : (κs : Lfts (types .signature .lifetimes)) → Args (types .signature) κs → Res (types .signature) κs → AtExit types κs → Type 0
 
@@ -35,26 +34,27 @@ module _ (f : Promise) where
   abbrev pub Says : (κs : Regions) (a : Given κs) → End κs a → Type 0
   Says κs a e = f .Learnt κs a (e .result) (atExit (f .types) κs a (e .last))
 
-  -- the promise allows it
-  pub record Allows (κs : Regions) (a : Given κs) (e : End κs a) : Type 0 where
-    pub fits : f .Fits κs (e .result)
-    pub says : Says κs a e
-
   -- an end meets the promise, and no other does
   pub record ExactlyOne (κs : Regions) (a : Given κs) : Type 0 where
     pub the : End κs a
     pub said : Says κs a the
-    pub only : (e : End κs a) → Allows κs a e → e ≡ the
+    pub only : (e : End κs a) → Says κs a e → e ≡ the
 
   -- ONE ANSWER: the call asks nothing of its arguments, and whatever they are, exactly one end meets the promise
   abbrev pub OneAnswer : Type 0
   OneAnswer = (κs : Regions) (a : Given κs) → f .Asked κs a × ExactlyOne κs a
 
-  -- ONE PART, of a call that answers a part of the caller's bytes: it asks nothing, and of two ends that meet the promise the parts have the same bytes at the
-  -- same address. What stays open is the name that the proofs give a reference, which no program sees
+  -- a part of the caller's bytes meets the promise, and every part that does has the same bytes at the same address
+  pub record ExactlyOnePart (part : (κs : Regions) → Result κs → RefT (List ℕ)) (κs : Regions) (a : Given κs) : Type 0 where
+    pub the : End κs a
+    pub said : Says κs a the
+    pub bytes : (e : End κs a) → Says κs a e → now (part κs (e .result)) ≡ now (part κs (the .result))
+    pub address : (e : End κs a) → Says κs a e → part κs (e .result) .ptr ≡ part κs (the .result) .ptr
+
+  -- ONE PART, of a call that answers a part of the caller's bytes: it asks nothing, and exactly one part meets the promise. What stays open is the name that the
+  -- proofs give a reference, which no program sees
   abbrev pub OnePart : ((κs : Regions) → Result κs → RefT (List ℕ)) → Type 0
-  OnePart part = (κs : Regions) (a : Given κs)
-      → f .Asked κs a × ((e e′ : End κs a) → Allows κs a e → Allows κs a e′ → (part κs (e .result) .ptr ≡ part κs (e′ .result) .ptr) × (now (part κs (e .result)) ≡ now (part κs (e′ .result))))
+  OnePart part = (κs : Regions) (a : Given κs) → f .Asked κs a × ExactlyOnePart part κs a
 
   -- the promise of any call, wherever its slices live and lie, is P of it
   abbrev pub Anywhere : ((κs : Regions) (a : Given κs) → End κs a → Type 0) → Type 1

@@ -61,10 +61,10 @@
 // 52 over 1,024 rows in or out, or lent room too small
 // 53 joined frames pass 2^64 - 1
 // 54 frame past the map
-mod clock;
-mod cutting;
-mod judging;
-mod listed;
-mod recordings;
-mod tables;
-mod walk;
+pub mod clock;
+pub mod cutting;
+pub mod judging;
+pub mod listed;
+pub mod recordings;
+pub mod tables;
+pub mod walk;

@@ -60,7 +60,7 @@ use Rattle.audit.specs.Words.{Lent, table, Check, SegmentOfFrame, Segmen
 use Rattle.audit.specs.Examples.{Holds, examples}
 
 -- 1 and 2. ONE ANSWER. No public call has a `requires`; and whatever its arguments, exactly one result, with exactly one content of each lent slice, meets its
--- promise. (Document 01, 'The strength asked': each promise determines the answer and every lent slice, for all inputs.)
+-- promise. (Demand 1, and the auditor's second question; document 01, 'The strength asked': each promise determines the answer and every lent slice, for all inputs.)
 pub record Answers : Type 0 where
   pub ticks-to-us : OneAnswer calls.ticks-to-us
   pub is-utc-second : OneAnswer calls.is-utc-second
@@ -89,7 +89,7 @@ pub record Answers : Type 0 where
   pub table-text : OnePart calls.table-text (λ κs r. r)
 
 -- THE C FACE: of each exported call too exactly one answer meets the promise: the number that it returns, and what each word and each slice that is lent holds
--- afterwards. It asks nothing either. (segment_table/specs/Told.antt and Written.antt have what is told of an answer.)
+-- afterwards. It asks nothing either. (Demand 1; segment_table/specs/Told.antt and Written.antt have what is told of an answer.)
 pub record Face : Type 0 where
   pub st-check : OneAnswer face.st-check
   pub st-segment-of-frame : OneAnswer face.st-segment-of-frame
@@ -146,7 +146,7 @@ pub record Origins : Type 0 where
 
 -- 5. A REFUSAL IS RIGHT. Whatever is lent, `check` refuses with n at i exactly when the paper's condition n holds there and none that is tested before it does, and
 -- accepts with N exactly when none holds and the segments have N frames. So do `validate` and `check_mcraw`, whose conditions are those of `check` and then those of
--- the video or recording. (The auditor's third question; `Rightly`, in rules/specs/Paper.antt, says it; that file and judge/specs/Paper.antt have document 01's table.)
+-- the video or recording. (Demand 1, and the auditor's third question; `Rightly`, in rules/specs/Paper.antt, says it; that file and judge/specs/Paper.antt have document 01's table.)
 pub record Refusals : Type 0 where
   pub check : (l : Lent) (r : Checked) → Check l r → Rightly r (tests (table l)) (records.total (table l .segments))
   pub validate : (l : Lent) (video : Video) (starts : List ℤ) (r : Checked) → Validate l video starts r
@@ -193,7 +193,7 @@ pub record Meanings : Type 0 where
       → calls.SegmentOfFrameRecords sources text rs log f r ↔ SegmentOfFrame (inWords sources text rs log) f r
 
 -- TO THE NEAREST WHOLE NUMBER, as `ticksToUs` has it by `rounded`: q is n / d rounded exactly when n / d is at least q - 1/2 and less than q + 1/2, so that a half
--- goes up; and below zero it is the same with the sign, so that a half goes away from zero. (Document 01, `ticks_to_us`.)
+-- goes up; and below zero it is the same with the sign, so that a half goes away from zero. (Document 01, `ticks_to_us`; demand 2.)
 pub record Rounding : Type 0 where
   pub halves : (n d q : ℕ) → 0 < d → (q ≡ nearest n d) ↔ ((2 * (q * d) ≤ 2 * n + d) × (2 * n < 2 * (q * d) + d))
   pub signs : (z : ℤ) (d : ℕ) → 0 < d → rounded (negℤ z) d ≡ negℤ (rounded z d)
@@ -216,7 +216,7 @@ pub record SameAnswers (l m : Lent) : Type 0 where
   pub check-mcraw : (ts a b a′ b′ : List ℤ) (r : Checked) → CheckMcraw l ts a b r a′ b′ → CheckMcraw m ts a b r a′ b′
 
 -- WORDS OF AN ABSENT THING (creation time, clock, modulus, shift) ARE IGNORED: tables that differ only in them, that are the same when these words are set to 0, get
--- the same answers from every call that takes a table. (Document 01, 'How a table is lent'; rules/specs/Absent.antt says which words.)
+-- the same answers from every call that takes a table. (Document 01, 'How a table is lent'; demand 2; rules/specs/Absent.antt says which words.)
 pub record Ignored : Type 0 where
   pub words : (l m : Lent) → clean (table l) ≡ clean (table m) → SameAnswers l m
   -- and so does the lookup over records, of whose absent things some are words and some are fields
@@ -240,5 +240,5 @@ pub record Claims : Type 0 where
   pub rounding : Rounding
   pub ordering : Ordering
   pub ignored : Ignored
-  -- 7. THE STARRED NUMBERS of document 01, and the auditor's clip.
+  -- 7. THE STARRED NUMBERS of document 01, and the auditor's clip. (Demands 2 and 3.)
   pub worked : All Holds examples

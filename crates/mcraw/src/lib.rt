@@ -64,13 +64,13 @@ fn write_intervals(ts: &[i64], out: &mut [i64])
     }
 }
 
-// The lower middle one of the intervals, which are left in out.
+// The lower middle one of the intervals, which are moved about in out.
 fn middle_interval(ts: &[i64], out: &mut [i64]) -> i64
     requires { ⌜ (2 ≤ length (now ts)) × (length (now out) ≡ length (now ts) - 1) × All I64 (gaps (now ts)) ⌝ }
     ensures { λ r. ⌜ r ≡ nominal (now (ts .entry)) ⌝ }
 {
     write_intervals(ts, out);
-    order::kth(out, (ts.len() - 2) / 2)
+    order::select(out, (ts.len() - 2) / 2)
 }
 
 // Writes each timestamp less the first over the start of starts.
@@ -85,7 +85,7 @@ fn write_starts(ts: &[i64], starts: &mut [i64])
     }
 }
 
-// Answers with so much room in starts, and leaves the intervals in work.
+// Answers with so much room in starts. What work holds afterwards isn't said.
 fn times_of(ts: &[i64], room: usize, work: &mut [i64]) -> Times
     ensures { λ r. ⌜ r ≡ timesOf (now (ts .entry)) room (length (now (work .entry))) ⌝ }
 {

@@ -4,6 +4,8 @@ pub mod Settling
 pub mod Merging
 pub mod Joining
 pub mod Halves
+pub mod Keeping
+pub mod Selecting
 pub mod Runs
 pub mod Mode
 pub mod Examples

@@ -13,8 +13,8 @@ use Rattle.mcraw.proofs.middle_interval.Tie as tie
 returns : tie.Need-returns
 unfolding nominal
 returns c =
-    let n = length (c .before .before .before .before .before .args .ts .now) in
-    reads (record { sfits = c .kth .ok }) ∙ c .kth .ensures ∙ ap (λ (l : List ℤ). getD (sorted l) ((n - 2) / 2) (pos 0)) (c .before .before .before .write-intervals .ensures)
+    let n = length (c .before .before .before .before .before .before .args .ts .now) in
+    reads (record { sfits = c .before .select .ok }) ∙ c .before .select .ensures ∙ ap (λ (l : List ℤ). getD (sorted l) ((n - 2) / 2) (pos 0)) (c .before .before .before .before .write-intervals .ensures)
 
 pub middle-interval-spec : {M : Type 1} → statement M
 middle-interval-spec =

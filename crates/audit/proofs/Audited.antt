@@ -4,6 +4,7 @@ use Rattle.maps.proofs.Lawful.{lawful}
 use Rattle.audit.specs.Claims.{Claims}
 use Rattle.audit.proofs.Once.{once}
 use Rattle.audit.proofs.Faced.{faced}
+use Rattle.audit.proofs.Telling.{telling}
 use Rattle.audit.proofs.Tiled.{tiled}
 use Rattle.audit.proofs.Refused.{right}
 use Rattle.audit.proofs.Judged.{fitting}
@@ -13,4 +14,4 @@ use Rattle.audit.proofs.Absent.{absent}
 use Rattle.audit.proofs.Worked.{all-hold}
 
 pub audited : Claims
-audited = record { answers = once; face = faced; origins = tiled; laws = lawful; demands = demanded; refusals = right; acceptances = fitting; meanings = meant; rounding = rounding; ordering = ordering; ignored = absent; worked = all-hold }
+audited = record { answers = once; face = faced; telling = telling; origins = tiled; laws = lawful; demands = demanded; refusals = right; acceptances = fitting; meanings = meant; rounding = rounding; ordering = ordering; ignored = absent; worked = all-hold }

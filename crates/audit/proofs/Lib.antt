@@ -2,6 +2,7 @@ pub mod Quoted
 pub mod FaceQuoted
 pub mod Once
 pub mod Faced
+pub mod Telling
 pub mod Meant
 pub mod Refused
 pub mod Judged

@@ -158,7 +158,7 @@ tiled = record {
   written-out = λ l N ou ou′ os os′ r c g h p. rows-of (table l) N ou ou′ os os′ r c g h p;
   tiles = λ l N k ou ou′ os os′ c p.
       let t = table l in
-      (is t N k ou ou′ os os′ c p, demanded .tiles (written k ou′ os′) (well t N k ou ou′ os os′ c p) .0, frames t N k ou ou′ os os′ c p);
+      (record { lent = lent t N k ou ou′ os os′ c p; is = is t N k ou ou′ os os′ c p }, demanded .tiles (written k ou′ os′) (well t N k ou ou′ os os′ c p) .0, frames t N k ou ou′ os os′ c p);
   one = λ l N k f ou ou′ os os′ r c p o.
       let t = frames (table l) N k ou ou′ os os′ c p in
       let m = lent (table l) N k ou ou′ os os′ c p in

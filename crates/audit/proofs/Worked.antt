@@ -36,10 +36,10 @@ wrote : (k : ℕ) {w ou : List ℕ} {z os : List ℤ} (are : List Row) → ou �
 wrote k are p q e = ap₂ (λ (x : List ℕ) (y : List ℤ). rows (take (5 * k) x) (take k y)) p q ∙ e
 
 -- where a recording's frames start
-started : {ts starts work starts′ work′ : List ℤ} {r : Times} → Answered ts starts work r starts′ work′
+pub started : {ts starts work starts′ work′ : List ℤ} {r : Times} → Answered ts starts work r starts′ work′
     → starts′ ≡ laid (written (timesOf ts (length starts) (length work)) ts) starts
 started {ts} {starts} p = p .laid-out ∙ ap (λ (x : Times). laid (written x ts) starts) (p .answer)
 
 pub all-hold : All Holds examples
 unfolding when past run any firstRefused orRefused two days utcBytes utcSecond microsOf usOf ticksToUs endsNear startsAt startRefusal videoRefusal validateOf shownBy mediaTicks ofBits insert sorted countBy firstOf mode fittingIn sizeOf headerAt boxesFrom boxesAt firstSuch isVideo isVideoTrack scaleOf tableRows optionalRows entriesFrom entriesTotal perFrame lineAt keptLine twoLines linesOf elstOf editOf framesFrom kept lastOf placed shown ofKept ofTables ofMedia ofTrack moovTimes noSource noSegment total badSource badSegment malformed sourceRefusal stampTimes judged segmentRefusal start endsOf ends segmentsFrom frontRefusal refusal answered checkOf count ended found segmentOfFrame segmentOfTime sourcesOf segmentsOf tableOf rowOf rowsOf rowsRefusal filled firstBad mapRefusal roomRefusal cutRefusal joinRefusal mergeRefusal originRefusal gaps startsOf span nominal end fallOf refusalOf timesUnless timesOf written
-all-hold = (λ r p. p, (λ r p. p, (λ r p. p, (λ r p. p, (λ r p. p, (λ r p. p, (λ r p. p, (λ r p. p, (λ r p. p, (λ r p. p, (λ r p. p, (λ r p. p, (λ r p. p, (λ r p. p, (λ r p. p, (λ r p. p, (λ r p. p, (λ r p. p, (λ r ou os p. (p .answer, wrote 2 _ (p .words) (p .shifts) refl), (λ r ou os p. (p .answer, wrote 2 _ (p .words) (p .shifts) refl), (λ r ou os p. (p .answer, wrote 2 _ (p .words) (p .shifts) refl), (λ r ou os p. (p .answer, wrote 2 _ (p .words) (p .shifts) refl), (λ r starts′ a′ b′ p. (p .answer, p .starts), (λ r starts′ a′ b′ p. (p .answer, p .starts), (λ r starts′ a′ b′ p. (p .answer, p .starts), (λ r starts′ a′ b′ p. (p .answer, p .starts), (λ r starts′ work′ p. (p .answer, started p), (λ r p. p, (λ r p. p, (λ r ou os p. (p .answer, wrote 3 _ (p .words) (p .shifts) refl), (λ r ou os p. (p .answer, wrote 3 _ (p .words) (p .shifts) refl), (λ r ou os p. (p .answer, wrote 3 _ (p .words) (p .shifts) refl), (λ r ou os p. (p .answer, wrote 3 _ (p .words) (p .shifts) refl), (λ r p. p, (λ r p. p, (λ r p. p, (λ r ou os p. (p .answer, wrote 2 _ (p .words) (p .shifts) refl), (λ r ou os p. (p .answer, wrote 2 _ (p .words) (p .shifts) refl), (λ r ou os p. (p .answer, wrote 4 _ (p .words) (p .shifts) refl), (λ r ou os p. (p .answer, wrote 3 _ (p .words) (p .shifts) refl), (λ r ou os p. (p .answer, wrote 2 _ (p .words) (p .shifts) refl), (λ r ou os p. (p .answer, wrote 1 _ (p .words) (p .shifts) refl), (λ r ou os p. (p .answer, wrote 2 _ (p .words) (p .shifts) refl), (λ r ou os p. (p .answer, wrote 2 _ (p .words) (p .shifts) refl), tt))))))))))))))))))))))))))))))))))))))))))))
+all-hold = (λ r p. p, (λ r p. p, (λ r p. p, (λ r p. p, (λ r p. p, (λ r p. p, (λ r p. p, (λ r p. p, (λ r p. p, (λ r p. p, (λ r p. p, (λ r p. p, (λ r p. p, (λ r p. p, (λ r p. p, (λ r p. p, (λ r p. p, (λ r p. p, (λ r p. p, (λ r p. p, (λ r ou os p. (p .answer, wrote 2 _ (p .words) (p .shifts) refl), (λ r ou os p. (p .answer, wrote 2 _ (p .words) (p .shifts) refl), (λ r ou os p. (p .answer, wrote 2 _ (p .words) (p .shifts) refl), (λ r ou os p. (p .answer, wrote 2 _ (p .words) (p .shifts) refl), (λ r starts′ a′ b′ p. (p .answer, p .starts), (λ r starts′ a′ b′ p. (p .answer, p .starts), (λ r starts′ a′ b′ p. (p .answer, p .starts), (λ r starts′ a′ b′ p. (p .answer, p .starts), (λ r starts′ work′ p. (p .answer, started p), (λ r p. p, (λ r p. p, (λ r ou os p. (p .answer, wrote 3 _ (p .words) (p .shifts) refl), (λ r ou os p. (p .answer, wrote 3 _ (p .words) (p .shifts) refl), (λ r ou os p. (p .answer, wrote 3 _ (p .words) (p .shifts) refl), (λ r ou os p. (p .answer, wrote 3 _ (p .words) (p .shifts) refl), (λ r p. p, (λ r p. p, (λ r p. p, (λ r ou os p. (p .answer, wrote 2 _ (p .words) (p .shifts) refl), (λ r ou os p. (p .answer, wrote 2 _ (p .words) (p .shifts) refl), (λ r ou os p. (p .answer, wrote 4 _ (p .words) (p .shifts) refl), (λ r ou os p. (p .answer, wrote 3 _ (p .words) (p .shifts) refl), (λ r ou os p. (p .answer, wrote 2 _ (p .words) (p .shifts) refl), (λ r ou os p. (p .answer, wrote 1 _ (p .words) (p .shifts) refl), (λ r ou os p. (p .answer, wrote 2 _ (p .words) (p .shifts) refl), (λ r ou os p. (p .answer, wrote 2 _ (p .words) (p .shifts) refl), tt))))))))))))))))))))))))))))))))))))))))))))))

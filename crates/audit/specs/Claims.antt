@@ -3,7 +3,7 @@
 -- slices so. What holds of all such answers holds of every run, since the check proves that a run keeps its promise.
 use Prim.Native.Nat.{ℕ, _+_, _-_, _*_, _≤_, _<_}
 use mathlib.Core.Bool.{Bool, true}
-use mathlib.Core.List.{List}
+use mathlib.Core.List.{List, []}
 use mathlib.Core.Logic.{_↔_}
 use mathlib.Core.Path.{_≡_}
 use lib.IntN.{ℤ, negℤ}
@@ -34,6 +34,7 @@ use Rattle.table.specs.declared.Filled.the-variants.{Rows}
 use Rattle.table.specs.Layout.{Uneven}
 use Rattle.table.specs.Rows.{rowOf, rowsOf, Rowed}
 use Rattle.judge.specs.declared.Video.{Video}
+use Rattle.judge.specs.declared.Video.the-variants.{Nothing, Constant, Times as TimesOf}
 use Rattle.judge.specs.Video.{shownBy}
 use Rattle.judge.specs.Judge.{validateOf, Settled}
 use Rattle.judge.specs.Means.{Fits, Recorded}
@@ -53,10 +54,11 @@ use Rattle.frame_times.specs.declared.FrameTimes.{FrameTimes}
 use Rattle.frame_times.specs.Times as frames
 use Rattle.mcraw.specs.declared.Times.{Times}
 use Rattle.mcraw.specs.Mcraw.{Answered}
+use Rattle.segment_table.specs.Told.{usTold, sizeTold, placeTold, checkedTold, refusalTold, foundTold, continuedTold, filledTold, mappedTold, tracedTold, timesTold, moovTold}
 use Rattle.audit.specs.Promise.{OneAnswer, OnePart}
 use Rattle.audit.specs.Calls as calls
 use Rattle.audit.specs.Face as face
-use Rattle.audit.specs.Words.{Lent, table, Check, SegmentOfFrame, SegmentOfTimeUs, Continues, RowsOfTable, Validate, CheckMcraw, inWords, written}
+use Rattle.audit.specs.Words.{Lent, table, on, Tells, Check, SegmentOfFrame, SegmentOfTimeUs, Continues, RowsOfTable, Validate, CheckMcraw, inWords, written}
 use Rattle.audit.specs.Examples.{Holds, examples}
 
 -- 1 and 2. ONE ANSWER. No public call has a `requires`; and whatever its arguments, exactly one result, with exactly one content of each lent slice, meets its
@@ -89,7 +91,7 @@ pub record Answers : Type 0 where
   pub table-text : OnePart calls.table-text (λ κs r. r)
 
 -- THE C FACE: of each exported call too exactly one answer meets the promise: the number that it returns, and what each word and each slice that is lent holds
--- afterwards. It asks nothing either. (Demand 1; segment_table/specs/Told.antt and Written.antt have what is told of an answer.)
+-- afterwards. It asks nothing either. (Demand 1.)
 pub record Face : Type 0 where
   pub st-check : OneAnswer face.st-check
   pub st-segment-of-frame : OneAnswer face.st-segment-of-frame
@@ -114,6 +116,58 @@ pub record Face : Type 0 where
   pub st-is-utc-second : OneAnswer face.st-is-utc-second
   pub st-ticks-to-us : OneAnswer face.st-ticks-to-us
 
+-- WHICH ANSWER EACH EXPORT GIVES: the call of the library that it is for answers something, and leaves the lent slices so; of that answer the number that is returned
+-- and the words that are written are told (segment_table/specs/Told.antt; a primed name is what a word or slice holds afterwards). So all that is claimed of the
+-- calls holds in C. (Demands 1 and 2.)
+pub record Telling : Type 0 where
+  pub st-check : (l : Lent) (frames index r frames′ index′ : ℕ)
+      → on face.StCheck l frames index r frames′ index′ ↔ Tells (Check l) (λ c. (r, frames′, index′) ≡ checkedTold c frames)
+  pub st-segment-of-frame : (l : Lent) (f segment index r segment′ index′ : ℕ)
+      → on face.StSegmentOfFrame l f segment index r segment′ index′ ↔ Tells (SegmentOfFrame l f) (λ c. (r, segment′, index′) ≡ foundTold c segment)
+  pub st-segment-of-time-us : (l : Lent) (t : ℤ) (segment index r segment′ index′ : ℕ)
+      → on face.StSegmentOfTimeUs l t segment index r segment′ index′ ↔ Tells (SegmentOfTimeUs l t) (λ c. (r, segment′, index′) ≡ foundTold c segment)
+  pub st-continues : (l : Lent) (k answer index r answer′ index′ : ℕ)
+      → on face.StContinues l k answer index r answer′ index′ ↔ Tells (Continues l k) (λ c. (r, answer′, index′) ≡ continuedTold c answer)
+  pub st-rows-of-table : (l : Lent) (ou ou′ : List ℕ) (os os′ : List ℤ) (rows index r rows′ index′ : ℕ)
+      → on face.StRowsOfTable l ou os rows index r ou′ os′ rows′ index′ ↔ Tells (λ c. RowsOfTable l ou os c ou′ os′) (λ c. (r, rows′, index′) ≡ filledTold c rows)
+  pub st-validate-no-video : (l : Lent) (index r index′ : ℕ)
+      → on face.StValidateNoVideo l index r index′ ↔ Tells (Validate l Nothing []) (λ c. (r, index′) ≡ refusalTold c)
+  pub st-validate-constant : (l : Lent) (count num den frames index r frames′ index′ : ℕ)
+      → on face.StValidateConstant l count num den frames index r frames′ index′ ↔ Tells (Validate l (Constant count num den) []) (λ c. (r, frames′, index′) ≡ checkedTold c frames)
+  pub st-validate-times : (l : Lent) (scale : ℕ) (starts : List ℤ) (end nominal : ℤ) (frames index r frames′ index′ : ℕ)
+      → on face.StValidateTimes l scale starts end nominal frames index r frames′ index′
+      ↔ Tells (Validate l (TimesOf scale end nominal) starts) (λ c. (r, frames′, index′) ≡ checkedTold c frames)
+  pub st-check-mcraw : (l : Lent) (ts a b a′ b′ : List ℤ) (frames index r frames′ index′ : ℕ)
+      → on face.StCheckMcraw l ts a b frames index r a′ b′ frames′ index′ ↔ Tells (λ c. CheckMcraw l ts a b c a′ b′) (λ c. (r, frames′, index′) ≡ checkedTold c frames)
+  pub st-segment-of-frame-records : (sources text : List ℕ) (rs : List TrimSegment) (log : Bool) (f segment index r segment′ index′ : ℕ)
+      → face.StSegmentOfFrameRecords sources text rs log f segment index r segment′ index′
+      ↔ Tells (calls.SegmentOfFrameRecords sources text rs log f) (λ c. (r, segment′, index′) ≡ foundTold c segment)
+  pub st-cut : (u : List ℕ) (s : List ℤ) (a b : ℕ) (ou ou′ : List ℕ) (os os′ : List ℤ) (rows index r rows′ index′ : ℕ)
+      → face.StCut u s a b ou os rows index r ou′ os′ rows′ index′ ↔ Tells (λ c. calls.Cut u s a b ou os c ou′ os′) (λ c. (r, rows′, index′) ≡ mappedTold c rows)
+  pub st-join : (u v : List ℕ) (s t : List ℤ) (ou ou′ : List ℕ) (os os′ : List ℤ) (rows index r rows′ index′ : ℕ)
+      → face.StJoin u s v t ou os rows index r ou′ os′ rows′ index′ ↔ Tells (λ c. calls.Join u s v t ou os c ou′ os′) (λ c. (r, rows′, index′) ≡ mappedTold c rows)
+  pub st-merge : (u : List ℕ) (s : List ℤ) (ou ou′ : List ℕ) (os os′ : List ℤ) (rows index r rows′ index′ : ℕ)
+      → face.StMerge u s ou os rows index r ou′ os′ rows′ index′ ↔ Tells (λ c. calls.Merge u s ou os c ou′ os′) (λ c. (r, rows′, index′) ≡ mappedTold c rows)
+  pub st-origin : (u : List ℕ) (s : List ℤ) (k source frame flag : ℕ) (shift : ℤ) (index r source′ frame′ flag′ : ℕ) (shift′ : ℤ) (index′ : ℕ)
+      → face.StOrigin u s k source frame flag shift index r source′ frame′ flag′ shift′ index′
+      ↔ Tells (calls.Origin u s k) (λ c. (r, source′, frame′, flag′, shift′, index′) ≡ tracedTold c source frame flag shift)
+  pub st-box-size : (b : List ℕ) (remaining size header r size′ header′ : ℕ)
+      → face.StBoxSize b remaining size header r size′ header′ ↔ Tells (calls.BoxSize b remaining) (λ c. (r, size′, header′) ≡ sizeTold c size header)
+  pub st-child : (b : List ℕ) (kind start length r start′ length′ : ℕ)
+      → face.StChild b kind start length r start′ length′ ↔ Tells (calls.ChildPlace b kind) (λ c. (r, start′, length′) ≡ placeTold c start length)
+  pub st-find-box : (b : List ℕ) (from to kind : ℕ) (text : Bool) (start length r start′ length′ : ℕ)
+      → face.StFindBox b from to kind text start length r start′ length′ ↔ Tells (calls.FindBoxPlace b from to kind text) (λ c. (r, start′, length′) ≡ placeTold c start length)
+  pub st-table-text : (b : List ℕ) (start length r start′ length′ : ℕ)
+      → face.StTableText b start length r start′ length′ ↔ Tells (calls.TableTextPlace b) (λ c. (r, start′, length′) ≡ placeTold c start length)
+  pub st-video-frame-times-of-moov : (moov : List ℕ) (starts a b starts′ a′ b′ : List ℤ) (frames scale : ℕ) (nominal end : ℤ) (r frames′ scale′ : ℕ) (nominal′ end′ : ℤ)
+      → face.StVideoFrameTimesOfMoov moov starts a b frames scale nominal end r starts′ a′ b′ frames′ scale′ nominal′ end′
+      ↔ Tells (λ c. calls.VideoFrameTimesOfMoov moov starts a b c starts′ a′ b′) (λ c. (r, frames′, scale′, nominal′, end′) ≡ moovTold c frames scale nominal end)
+  pub st-mcraw-times : (ts starts work starts′ work′ : List ℤ) (frames scale : ℕ) (nominal end : ℤ) (index r frames′ scale′ : ℕ) (nominal′ end′ : ℤ) (index′ : ℕ)
+      → face.StMcrawTimes ts starts work frames scale nominal end index r starts′ work′ frames′ scale′ nominal′ end′ index′
+      ↔ Tells (λ c. calls.McrawTimes ts starts work c starts′ work′) (λ c. (r, frames′, scale′, nominal′, end′, index′) ≡ timesTold c frames scale nominal end)
+  pub st-is-utc-second : (b : List ℕ) (r : Bool) → face.StIsUtcSecond b r ↔ calls.IsUtcSecond b r
+  pub st-ticks-to-us : (t : ℤ) (scale : ℕ) (us : ℤ) (r : ℕ) (us′ : ℤ) → face.StTicksToUs t scale us r us′ ↔ Tells (calls.TicksToUs t scale) (λ c. (r, us′) ≡ usTold c us)
+
 -- what `origin` answers of frame f, where it lies in row r
 abbrev pub told : Row → ℕ → Traced
 told r f = traced.From (r .source) (r .first + (f - r .out)) (r .flag) (r .shift)
@@ -124,10 +178,11 @@ pub record Origins : Type 0 where
   pub written-out : (l : Lent) (N : ℕ) (ou ou′ : List ℕ) (os os′ : List ℤ) (r : Filled)
       → Check l (Frames N) → 5 * length (table l .segments) ≤ length ou → length (table l .segments) ≤ length os
       → RowsOfTable l ou os r ou′ os′ → r ≡ Rows (length (table l .segments))
-  -- They are one row a segment, and tile the frames 0..N: each begins where the one before it ends, has frames, and together they have N.
+  -- What is written is a map that cut, join, merge and origin take (`Wrote`, in maps/specs/Laws.antt), one row a segment. Its rows tile the frames 0..N: each begins
+  -- where the one before it ends, has frames, and together they have N.
   pub tiles : (l : Lent) (N k : ℕ) (ou ou′ : List ℕ) (os os′ : List ℤ)
       → Check l (Frames N) → RowsOfTable l ou os (Rows k) ou′ os′
-      → (written k ou′ os′ ≡ rowsOf (table l)) × Tiles 0 (written k ou′ os′) × (total (written k ou′ os′) ≡ N)
+      → laws.Wrote k ou′ os′ (rowsOf (table l)) × Tiles 0 (written k ou′ os′) × (total (written k ou′ os′) ≡ N)
   -- Each frame below N lies in one row and no other, of which `origin` answers source, source frame, flag and shift; any other frame is 54.
   pub one : (l : Lent) (N k f : ℕ) (ou ou′ : List ℕ) (os os′ : List ℤ) (r : Traced)
       → Check l (Frames N) → RowsOfTable l ou os (Rows k) ou′ os′ → calls.Origin (take (5 * k) ou′) (take k os′) f r
@@ -227,6 +282,7 @@ pub record Ignored : Type 0 where
 pub record Claims : Type 0 where
   pub answers : Answers
   pub face : Face
+  pub telling : Telling
   pub origins : Origins
   -- 4. THE LAWS OF CUT, JOIN AND MERGE, of the calls: what is written is a map again; a cut keeps each frame's origin; a cut of a cut is the one cut of the combined
   -- range; a join has both maps' origins; merging keeps origins, twice is once, and two maps merge alike exactly when all origins agree; neighbouring cuts joined

@@ -115,6 +115,13 @@ T = row 0 10 30 0 ∷ row 1 5 20 30 ∷ []
 abbrev pub tableT : List ℕ → List ℕ → Lent
 tableT a text = record { sources = a ++ plain 50; words = wordsOf T; stamps = stamps 0 1200000 (pos 0) ++ stamps 1200000 800000 (pos 0); log = false; text = text }
 
+-- a segment of duration 0: of one source's frames 0 and 1 the first lasts 0..10 and the second 10..10; in the longer table frame 2 lasts 10..20 after them
+abbrev pub still : Lent
+still = record { sources = plain 100; words = wordsOf (row 0 0 1 0 ∷ row 0 1 1 1 ∷ []); stamps = stamps 0 10 (pos 0) ++ stamps 10 0 (pos 0); log = false; text = [] }
+
+abbrev pub stillBetween : Lent
+stillBetween = record { sources = plain 100; words = wordsOf (row 0 0 1 0 ∷ row 0 1 1 1 ∷ row 0 2 1 2 ∷ []); stamps = stamps 0 10 (pos 0) ++ stamps 10 0 (pos 0) ++ stamps 10 10 (pos 0); log = false; text = [] }
+
 -- 0000-02-29T00:00:00Z and 1900-02-29T00:00:00Z
 abbrev pub leap : List ℕ
 leap = 48 ∷ 48 ∷ 48 ∷ 48 ∷ 45 ∷ 48 ∷ 50 ∷ 45 ∷ 50 ∷ 57 ∷ 84 ∷ 48 ∷ 48 ∷ 58 ∷ 48 ∷ 48 ∷ 58 ∷ 48 ∷ 48 ∷ 90 ∷ []
@@ -210,6 +217,9 @@ examples =
     ∷ frame (tableT (plain 100) []) 50 (Index 1)
     ∷ time (tableT (plain 100) []) (negℤ (pos 5)) (Index 0)
     ∷ time (tableT (plain 100) []) (pos 1200000) (Index 1)
+    -- a segment of duration 0 holds no time: time 10 is past it, but where it is the last it is the answer
+    ∷ time still (pos 10) (Index 1)
+    ∷ time stillBetween (pos 10) (Index 2)
     -- T cut 25..40, that cut 3..8, and T cut 28..33
     ∷ map (tableT (plain 100) []) T
     ∷ cuts T 25 40 (row 0 35 5 0 ∷ row 1 5 10 5 ∷ [])

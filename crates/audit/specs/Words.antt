@@ -29,28 +29,32 @@ pub record Lent : Type 0 where
 abbrev pub table : Lent → Table
 table l = tableOf (l .sources) (l .words) (l .stamps) (l .log) (l .text)
 
+-- a call that takes a table, of this one
+abbrev pub on : {A : Type 1} → (List ℕ → List ℕ → List ℤ → Bool → List ℕ → A) → Lent → A
+on call l = call (l .sources) (l .words) (l .stamps) (l .log) (l .text)
+
 -- check, segment_of_frame, segment_of_time_us and continues of that table answer r; rows_of_table answers r and leaves ou′ and os′
 abbrev pub Check : Lent → Checked → Type 0
-Check l r = calls.Check (l .sources) (l .words) (l .stamps) (l .log) (l .text) r
+Check l r = on calls.Check l r
 
 abbrev pub SegmentOfFrame : Lent → ℕ → Found → Type 0
-SegmentOfFrame l frame r = calls.SegmentOfFrame (l .sources) (l .words) (l .stamps) (l .log) (l .text) frame r
+SegmentOfFrame l frame r = on calls.SegmentOfFrame l frame r
 
 abbrev pub SegmentOfTimeUs : Lent → ℤ → Found → Type 0
-SegmentOfTimeUs l time r = calls.SegmentOfTimeUs (l .sources) (l .words) (l .stamps) (l .log) (l .text) time r
+SegmentOfTimeUs l time r = on calls.SegmentOfTimeUs l time r
 
 abbrev pub Continues : Lent → ℕ → Continued → Type 0
-Continues l k r = calls.Continues (l .sources) (l .words) (l .stamps) (l .log) (l .text) k r
+Continues l k r = on calls.Continues l k r
 
 abbrev pub RowsOfTable : Lent → List ℕ → List ℤ → Filled → List ℕ → List ℤ → Type 0
-RowsOfTable l ou os r ou′ os′ = calls.RowsOfTable (l .sources) (l .words) (l .stamps) (l .log) (l .text) ou os r ou′ os′
+RowsOfTable l ou os r ou′ os′ = on calls.RowsOfTable l ou os r ou′ os′
 
 -- validate of that table, of a video and the starts that are lent beside it, answers r; check_mcraw, of timestamps and two working slices, answers r and leaves a′ and b′
 abbrev pub Validate : Lent → Video → List ℤ → Checked → Type 0
-Validate l video starts r = calls.Validate (l .sources) (l .words) (l .stamps) (l .log) (l .text) video starts r
+Validate l video starts r = on calls.Validate l video starts r
 
 abbrev pub CheckMcraw : Lent → List ℤ → List ℤ → List ℤ → Checked → List ℤ → List ℤ → Type 0
-CheckMcraw l timestamps a b r a′ b′ = calls.CheckMcraw (l .sources) (l .words) (l .stamps) (l .log) (l .text) timestamps a b r a′ b′
+CheckMcraw l timestamps a b r a′ b′ = on calls.CheckMcraw l timestamps a b r a′ b′
 
 -- the table whose segments are a list of records, lent as words: of each record, in order, its five unsigned and its seven signed ones
 abbrev pub inWords : List ℕ → List ℕ → List TrimSegment → Bool → Lent
@@ -59,3 +63,9 @@ inWords sources text rs log = record { sources = sources; words = allUnsigned rs
 -- the map of k rows that a call wrote over ou and os
 abbrev pub written : ℕ → List ℕ → List ℤ → List Row
 written k ou os = rows (take (5 * k) ou) (take k os)
+
+-- the library's call answers something, of which this is told
+pub record Tells {A : Type 0} (Answers : A → Type 0) (Is : A → Type 0) : Type 0 where
+  pub answer : A
+  pub given : Answers answer
+  pub told : Is answer

@@ -1,7 +1,11 @@
 -- Of each export: what is told is told of what the library's call answers, and nothing else is. Assumes nothing.
 use Prim.Native.Nat.{ℕ}
+use mathlib.Core.List.{List}
+use mathlib.Core.Logic.{_↔_}
 use mathlib.Core.Path.{_≡_, refl, _∙_, ap}
 use lib.IntN.{ℤ}
+use Rattle.choice.specs.declared.Refusal.{Refusal}
+use Rattle.rows.specs.declared.Row.{Row}
 use Rattle.ticks.specs.declared.Us.{Us}
 use Rattle.boxes.specs.declared.Sized.{Sized}
 use Rattle.boxes.specs.declared.Place.{Place}
@@ -12,16 +16,26 @@ use Rattle.table.specs.declared.Filled.{Filled}
 use Rattle.judge.specs.Video.{shownBy}
 use Rattle.maps.specs.declared.Mapped.{Mapped}
 use Rattle.maps.specs.declared.Traced.{Traced}
+use Rattle.maps.specs.Answers.{Placed}
 use Rattle.frame_times.specs.declared.FrameTimes.{FrameTimes}
 use Rattle.mcraw.specs.declared.Times.{Times}
 use Rattle.segment_table.specs.Told.{usTold, sizeTold, placeTold, checkedTold, refusalTold, foundTold, continuedTold, filledTold, mappedTold, tracedTold, timesTold, moovTold}
+use Rattle.segment_table.specs.Written.{MapTold}
 use Rattle.audit.proofs.Worked.{started}
 use Rattle.audit.specs.Words.{Tells}
 use Rattle.audit.specs.Claims.{Telling}
 
 -- an answer that an equation fixes, and what is told of it
-one : {A : Type 0} {B : Type 0} {x : A} {y : B} (f : A → B) → ((y ≡ f x) → Tells (λ (c : A). c ≡ x) (λ c. y ≡ f c)) × (Tells (λ (c : A). c ≡ x) (λ c. y ≡ f c) → (y ≡ f x))
+one : {A : Type 0} {B : Type 0} {x : A} {y : B} (f : A → B) → (y ≡ f x) ↔ Tells (λ (c : A). c ≡ x) (λ c. y ≡ f c)
 one f = (λ p. record { answer = _; given = refl; told = p }, λ q. q .told ∙ ap f (q .given))
+
+-- the same of rows that were asked for
+placed : {x : Refusal} {m : List Row} {ou ou′ : List ℕ} {os os′ : List ℤ} (rows : ℕ) {r rows′ index′ : ℕ}
+    → MapTold x m ou os rows r ou′ os′ rows′ index′ ↔ Tells (λ (c : Mapped). Placed x m ou os c ou′ os′) (λ c. (r, rows′, index′) ≡ mappedTold c rows)
+placed rows = (
+  λ p. record { answer = _; given = record { answer = refl; words = p .words; shifts = p .shifts }; told = p .told },
+  λ q. record { told = q .told ∙ ap (λ (c : Mapped). mappedTold c rows) (q .given .answer); words = q .given .words; shifts = q .given .shifts },
+)
 
 pub telling : Telling
 unfolding shownBy
@@ -42,18 +56,9 @@ telling = record {
     λ q. record { told = q .told ∙ ap (λ (c : Checked). checkedTold c frames) (q .given .answer); first-cleared = q .given .first-cleared; second-cleared = q .given .second-cleared },
   );
   st-segment-of-frame-records = λ sources text rs log f segment index r segment′ index′. one (λ (c : Found). foundTold c segment);
-  st-cut = λ u s a b ou ou′ os os′ rows index r rows′ index′. (
-    λ p. record { answer = _; given = record { answer = refl; words = p .words; shifts = p .shifts }; told = p .told },
-    λ q. record { told = q .told ∙ ap (λ (c : Mapped). mappedTold c rows) (q .given .answer); words = q .given .words; shifts = q .given .shifts },
-  );
-  st-join = λ u v s t ou ou′ os os′ rows index r rows′ index′. (
-    λ p. record { answer = _; given = record { answer = refl; words = p .words; shifts = p .shifts }; told = p .told },
-    λ q. record { told = q .told ∙ ap (λ (c : Mapped). mappedTold c rows) (q .given .answer); words = q .given .words; shifts = q .given .shifts },
-  );
-  st-merge = λ u s ou ou′ os os′ rows index r rows′ index′. (
-    λ p. record { answer = _; given = record { answer = refl; words = p .words; shifts = p .shifts }; told = p .told },
-    λ q. record { told = q .told ∙ ap (λ (c : Mapped). mappedTold c rows) (q .given .answer); words = q .given .words; shifts = q .given .shifts },
-  );
+  st-cut = λ u s a b ou ou′ os os′ rows index r rows′ index′. placed rows;
+  st-join = λ u v s t ou ou′ os os′ rows index r rows′ index′. placed rows;
+  st-merge = λ u s ou ou′ os os′ rows index r rows′ index′. placed rows;
   st-origin = λ u s k source frame flag shift index r source′ frame′ flag′ shift′ index′. one (λ (c : Traced). tracedTold c source frame flag shift);
   st-box-size = λ b remaining size header r size′ header′. one (λ (c : Sized). sizeTold c size header);
   st-child = λ b kind start length r start′ length′. one (λ (c : Place). placeTold c start length);

@@ -34,7 +34,7 @@ pub struct TrimSegment {
 
 extern "C" {
     pub fn st_is_utc_second(bytes: *const u8, bytes_len: usize) -> bool;
-    pub fn st_ticks_to_us(ticks: i64, scale: u64, us: *mut i64) -> u64;
+    pub fn st_ticks_to_us(ticks: i64, scale: u64, us: *mut i64, index: *mut u64) -> u64;
     pub fn st_cut(words: *const u64, words_len: usize, shifts: *const i64, shifts_len: usize, a: u64, b: u64, out_words: *mut u64, out_words_len: usize, out_shifts: *mut i64, out_shifts_len: usize, rows: *mut u64, index: *mut u64) -> u64;
     pub fn st_join(words: *const u64, words_len: usize, shifts: *const i64, shifts_len: usize, second_words: *const u64, second_words_len: usize, second_shifts: *const i64, second_shifts_len: usize, out_words: *mut u64, out_words_len: usize, out_shifts: *mut i64, out_shifts_len: usize, rows: *mut u64, index: *mut u64) -> u64;
     pub fn st_merge(words: *const u64, words_len: usize, shifts: *const i64, shifts_len: usize, out_words: *mut u64, out_words_len: usize, out_shifts: *mut i64, out_shifts_len: usize, rows: *mut u64, index: *mut u64) -> u64;
@@ -45,16 +45,17 @@ extern "C" {
     pub fn st_check_mcraw(sources: *const u64, sources_len: usize, segments: *const u64, segments_len: usize, times: *const i64, times_len: usize, log: bool, text: *const u8, text_len: usize, timestamps: *const i64, timestamps_len: usize, work_a: *mut i64, work_a_len: usize, work_b: *mut i64, work_b_len: usize, frames: *mut u64, index: *mut u64) -> u64;
     pub fn st_segment_of_frame_records(sources: *const u64, sources_len: usize, text: *const u8, text_len: usize, records: *const TrimSegment, records_len: usize, log: bool, frame: u64, segment: *mut u64, index: *mut u64) -> u64;
     pub fn st_mcraw_times(timestamps: *const i64, timestamps_len: usize, starts: *mut i64, starts_len: usize, work: *mut i64, work_len: usize, frames: *mut u64, scale: *mut u64, nominal: *mut i64, end: *mut i64, index: *mut u64) -> u64;
-    pub fn st_video_frame_times_of_moov(moov: *const u8, moov_len: usize, starts: *mut i64, starts_len: usize, work_a: *mut i64, work_a_len: usize, work_b: *mut i64, work_b_len: usize, frames: *mut u64, scale: *mut u64, nominal: *mut i64, end: *mut i64) -> u64;
+    pub fn st_video_frame_times_of_moov(moov: *const u8, moov_len: usize, starts: *mut i64, starts_len: usize, work_a: *mut i64, work_a_len: usize, work_b: *mut i64, work_b_len: usize, frames: *mut u64, scale: *mut u64, nominal: *mut i64, end: *mut i64, index: *mut u64) -> u64;
     pub fn st_check(sources: *const u64, sources_len: usize, segments: *const u64, segments_len: usize, times: *const i64, times_len: usize, log: bool, text: *const u8, text_len: usize, frames: *mut u64, index: *mut u64) -> u64;
     pub fn st_segment_of_frame(sources: *const u64, sources_len: usize, segments: *const u64, segments_len: usize, times: *const i64, times_len: usize, log: bool, text: *const u8, text_len: usize, frame: u64, segment: *mut u64, index: *mut u64) -> u64;
     pub fn st_segment_of_time_us(sources: *const u64, sources_len: usize, segments: *const u64, segments_len: usize, times: *const i64, times_len: usize, log: bool, text: *const u8, text_len: usize, time: i64, segment: *mut u64, index: *mut u64) -> u64;
     pub fn st_continues(sources: *const u64, sources_len: usize, segments: *const u64, segments_len: usize, times: *const i64, times_len: usize, log: bool, text: *const u8, text_len: usize, segment: u64, answer: *mut u64, index: *mut u64) -> u64;
     pub fn st_rows_of_table(sources: *const u64, sources_len: usize, segments: *const u64, segments_len: usize, times: *const i64, times_len: usize, log: bool, text: *const u8, text_len: usize, out_words: *mut u64, out_words_len: usize, out_shifts: *mut i64, out_shifts_len: usize, rows: *mut u64, index: *mut u64) -> u64;
-    pub fn st_box_size(data: *const u8, data_len: usize, remaining: u64, size: *mut u64, header: *mut u64) -> u64;
-    pub fn st_child(payload: *const u8, payload_len: usize, kind: u32, start: *mut u64, length: *mut u64) -> u64;
-    pub fn st_find_box(bytes: *const u8, bytes_len: usize, from: u64, to: u64, kind: u32, text_types: bool, start: *mut u64, length: *mut u64) -> u64;
-    pub fn st_table_text(file: *const u8, file_len: usize, start: *mut u64, length: *mut u64) -> u64;
+    pub fn st_box_size(data: *const u8, data_len: usize, remaining: u64, size: *mut u64, header: *mut u64, index: *mut u64) -> u64;
+    pub fn st_children(payload: *const u8, payload_len: usize, at: u64, kind: *mut u32, start: *mut u64, length: *mut u64, next: *mut u64, index: *mut u64) -> u64;
+    pub fn st_child(payload: *const u8, payload_len: usize, kind: u32, start: *mut u64, length: *mut u64, index: *mut u64) -> u64;
+    pub fn st_find_box(bytes: *const u8, bytes_len: usize, from: u64, to: u64, kind: u32, text_types: bool, start: *mut u64, length: *mut u64, index: *mut u64) -> u64;
+    pub fn st_table_text(file: *const u8, file_len: usize, start: *mut u64, length: *mut u64, index: *mut u64) -> u64;
 }
 
 /// Each refusal number with its words.

@@ -4,6 +4,7 @@ pub mod Once
 pub mod Faced
 pub mod Telling
 pub mod Meant
+pub mod Walked
 pub mod Refused
 pub mod Judged
 pub mod Tiled

@@ -9,6 +9,7 @@ use Rattle.rows.specs.declared.Row.{Row}
 use Rattle.ticks.specs.declared.Us.{Us}
 use Rattle.boxes.specs.declared.Sized.{Sized}
 use Rattle.boxes.specs.declared.Place.{Place}
+use Rattle.boxes.specs.declared.Reached.{Reached}
 use Rattle.rules.specs.declared.Checked.{Checked}
 use Rattle.rules.specs.declared.Found.{Found}
 use Rattle.rules.specs.declared.Continued.{Continued}
@@ -19,7 +20,7 @@ use Rattle.maps.specs.declared.Traced.{Traced}
 use Rattle.maps.specs.Answers.{Placed}
 use Rattle.frame_times.specs.declared.FrameTimes.{FrameTimes}
 use Rattle.mcraw.specs.declared.Times.{Times}
-use Rattle.segment_table.specs.Told.{usTold, sizeTold, placeTold, checkedTold, refusalTold, foundTold, continuedTold, filledTold, mappedTold, tracedTold, timesTold, moovTold}
+use Rattle.segment_table.specs.Told.{usTold, sizeTold, placeTold, reachedTold, checkedTold, refusalTold, foundTold, continuedTold, filledTold, mappedTold, tracedTold, timesTold, moovTold}
 use Rattle.segment_table.specs.Written.{MapTold}
 use Rattle.audit.proofs.Worked.{started}
 use Rattle.audit.specs.Words.{Tells}
@@ -60,11 +61,12 @@ telling = record {
   st-join = λ u v s t ou ou′ os os′ rows index r rows′ index′. placed rows;
   st-merge = λ u s ou ou′ os os′ rows index r rows′ index′. placed rows;
   st-origin = λ u s k source frame flag shift index r source′ frame′ flag′ shift′ index′. one (λ (c : Traced). tracedTold c source frame flag shift);
-  st-box-size = λ b remaining size header r size′ header′. one (λ (c : Sized). sizeTold c size header);
-  st-child = λ b kind start length r start′ length′. one (λ (c : Place). placeTold c start length);
-  st-find-box = λ b from to kind text start length r start′ length′. one (λ (c : Place). placeTold c start length);
-  st-table-text = λ b start length r start′ length′. one (λ (c : Place). placeTold c start length);
-  st-video-frame-times-of-moov = λ moov starts a b starts′ a′ b′ frames scale nominal end r frames′ scale′ nominal′ end′. (
+  st-box-size = λ b remaining size header index r size′ header′ index′. one (λ (c : Sized). sizeTold c size header);
+  st-children = λ b at kind start length next index r kind′ start′ length′ next′ index′. one (λ (c : Reached). reachedTold c kind start length next);
+  st-child = λ b kind start length index r start′ length′ index′. one (λ (c : Place). placeTold c start length);
+  st-find-box = λ b from to kind text start length index r start′ length′ index′. one (λ (c : Place). placeTold c start length);
+  st-table-text = λ b start length index r start′ length′ index′. one (λ (c : Place). placeTold c start length);
+  st-video-frame-times-of-moov = λ moov starts a b starts′ a′ b′ frames scale nominal end index r frames′ scale′ nominal′ end′ index′. (
     λ p. record { answer = _; given = record { answer = refl; starts = p .laid-out; first-clear = p .first-cleared; second-clear = p .second-cleared }; told = p .told },
     λ q. record { told = q .told ∙ ap (λ (c : FrameTimes). moovTold c frames scale nominal end) (q .given .answer); laid-out = q .given .starts; first-cleared = q .given .first-clear; second-cleared = q .given .second-clear },
   );
@@ -73,5 +75,5 @@ telling = record {
     λ q. record { told = q .told ∙ ap (λ (c : Times). timesTold c frames scale nominal end) (q .given .answer); laid-out = started (q .given); cleared = q .given .cleared },
   );
   st-is-utc-second = λ b r. (λ p. p, λ p. p);
-  st-ticks-to-us = λ t scale us r us′. one (λ (c : Us). usTold c us);
+  st-ticks-to-us = λ t scale us index r us′ index′. one (λ (c : Us). usTold c us);
 }

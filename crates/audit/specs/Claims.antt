@@ -4,7 +4,7 @@
 use Prim.Native.Nat.{ℕ, _+_, _-_, _*_, _≤_, _<_}
 use mathlib.Core.Bool.{Bool, true}
 use mathlib.Core.List.{List, []}
-use mathlib.Core.Logic.{_↔_}
+use mathlib.Core.Logic.{_↔_, _⊎_}
 use mathlib.Core.Path.{_≡_}
 use lib.IntN.{ℤ, negℤ}
 use lib.ListN.{length, take}
@@ -47,14 +47,17 @@ use Rattle.maps.specs.declared.Traced.the-variants as traced
 use Rattle.maps.specs.Answers as maps
 use Rattle.maps.specs.Laws as laws
 use Rattle.boxes.specs.declared.Sized.{Sized}
+use Rattle.boxes.specs.declared.Reached.{Reached}
+use Rattle.boxes.specs.declared.Reached.the-variants as reached
 use Rattle.boxes.specs.declared.Place.{Place}
-use Rattle.boxes.specs.Boxes.{boxSize}
+use Rattle.boxes.specs.Boxes.{boxSize, childrenAt}
+use Rattle.boxes.specs.Boxes as boxes
 use Rattle.boxes.specs.Places.{PartAt, childPlace, findBoxPlace, tableTextPlace}
 use Rattle.frame_times.specs.declared.FrameTimes.{FrameTimes}
 use Rattle.frame_times.specs.Times as frames
 use Rattle.mcraw.specs.declared.Times.{Times}
 use Rattle.mcraw.specs.Mcraw.{Answered}
-use Rattle.segment_table.specs.Told.{usTold, sizeTold, placeTold, checkedTold, refusalTold, foundTold, continuedTold, filledTold, mappedTold, tracedTold, timesTold, moovTold}
+use Rattle.segment_table.specs.Told.{usTold, sizeTold, placeTold, reachedTold, checkedTold, refusalTold, foundTold, continuedTold, filledTold, mappedTold, tracedTold, timesTold, moovTold}
 use Rattle.audit.specs.Promise.{OneAnswer, OnePart}
 use Rattle.audit.specs.Calls as calls
 use Rattle.audit.specs.Face as face
@@ -74,6 +77,7 @@ pub record Answers : Type 0 where
   pub validate : OneAnswer calls.validate
   pub check-mcraw : OneAnswer calls.check-mcraw
   pub box-size : OneAnswer calls.box-size
+  pub children : OneAnswer calls.children
   pub child-place : OneAnswer calls.child-place
   pub find-box-place : OneAnswer calls.find-box-place
   pub table-text-place : OneAnswer calls.table-text-place
@@ -108,6 +112,7 @@ pub record Face : Type 0 where
   pub st-merge : OneAnswer face.st-merge
   pub st-origin : OneAnswer face.st-origin
   pub st-box-size : OneAnswer face.st-box-size
+  pub st-children : OneAnswer face.st-children
   pub st-child : OneAnswer face.st-child
   pub st-find-box : OneAnswer face.st-find-box
   pub st-table-text : OneAnswer face.st-table-text
@@ -151,22 +156,27 @@ pub record Telling : Type 0 where
   pub st-origin : (u : List ℕ) (s : List ℤ) (k source frame flag : ℕ) (shift : ℤ) (index r source′ frame′ flag′ : ℕ) (shift′ : ℤ) (index′ : ℕ)
       → face.StOrigin u s k source frame flag shift index r source′ frame′ flag′ shift′ index′
       ↔ Tells (calls.Origin u s k) (λ c. (r, source′, frame′, flag′, shift′, index′) ≡ tracedTold c source frame flag shift)
-  pub st-box-size : (b : List ℕ) (remaining size header r size′ header′ : ℕ)
-      → face.StBoxSize b remaining size header r size′ header′ ↔ Tells (calls.BoxSize b remaining) (λ c. (r, size′, header′) ≡ sizeTold c size header)
-  pub st-child : (b : List ℕ) (kind start length r start′ length′ : ℕ)
-      → face.StChild b kind start length r start′ length′ ↔ Tells (calls.ChildPlace b kind) (λ c. (r, start′, length′) ≡ placeTold c start length)
-  pub st-find-box : (b : List ℕ) (from to kind : ℕ) (text : Bool) (start length r start′ length′ : ℕ)
-      → face.StFindBox b from to kind text start length r start′ length′ ↔ Tells (calls.FindBoxPlace b from to kind text) (λ c. (r, start′, length′) ≡ placeTold c start length)
-  pub st-table-text : (b : List ℕ) (start length r start′ length′ : ℕ)
-      → face.StTableText b start length r start′ length′ ↔ Tells (calls.TableTextPlace b) (λ c. (r, start′, length′) ≡ placeTold c start length)
-  pub st-video-frame-times-of-moov : (moov : List ℕ) (starts a b starts′ a′ b′ : List ℤ) (frames scale : ℕ) (nominal end : ℤ) (r frames′ scale′ : ℕ) (nominal′ end′ : ℤ)
-      → face.StVideoFrameTimesOfMoov moov starts a b frames scale nominal end r starts′ a′ b′ frames′ scale′ nominal′ end′
-      ↔ Tells (λ c. calls.VideoFrameTimesOfMoov moov starts a b c starts′ a′ b′) (λ c. (r, frames′, scale′, nominal′, end′) ≡ moovTold c frames scale nominal end)
+  pub st-box-size : (b : List ℕ) (remaining size header index r size′ header′ index′ : ℕ)
+      → face.StBoxSize b remaining size header index r size′ header′ index′ ↔ Tells (calls.BoxSize b remaining) (λ c. (r, size′, header′, index′) ≡ sizeTold c size header)
+  pub st-children : (b : List ℕ) (at kind start length next index r kind′ start′ length′ next′ index′ : ℕ)
+      → face.StChildren b at kind start length next index r kind′ start′ length′ next′ index′
+      ↔ Tells (calls.Children b at) (λ c. (r, kind′, start′, length′, next′, index′) ≡ reachedTold c kind start length next)
+  pub st-child : (b : List ℕ) (kind start length index r start′ length′ index′ : ℕ)
+      → face.StChild b kind start length index r start′ length′ index′ ↔ Tells (calls.ChildPlace b kind) (λ c. (r, start′, length′, index′) ≡ placeTold c start length)
+  pub st-find-box : (b : List ℕ) (from to kind : ℕ) (text : Bool) (start length index r start′ length′ index′ : ℕ)
+      → face.StFindBox b from to kind text start length index r start′ length′ index′
+      ↔ Tells (calls.FindBoxPlace b from to kind text) (λ c. (r, start′, length′, index′) ≡ placeTold c start length)
+  pub st-table-text : (b : List ℕ) (start length index r start′ length′ index′ : ℕ)
+      → face.StTableText b start length index r start′ length′ index′ ↔ Tells (calls.TableTextPlace b) (λ c. (r, start′, length′, index′) ≡ placeTold c start length)
+  pub st-video-frame-times-of-moov : (moov : List ℕ) (starts a b starts′ a′ b′ : List ℤ) (frames scale : ℕ) (nominal end : ℤ) (index r frames′ scale′ : ℕ) (nominal′ end′ : ℤ) (index′ : ℕ)
+      → face.StVideoFrameTimesOfMoov moov starts a b frames scale nominal end index r starts′ a′ b′ frames′ scale′ nominal′ end′ index′
+      ↔ Tells (λ c. calls.VideoFrameTimesOfMoov moov starts a b c starts′ a′ b′) (λ c. (r, frames′, scale′, nominal′, end′, index′) ≡ moovTold c frames scale nominal end)
   pub st-mcraw-times : (ts starts work starts′ work′ : List ℤ) (frames scale : ℕ) (nominal end : ℤ) (index r frames′ scale′ : ℕ) (nominal′ end′ : ℤ) (index′ : ℕ)
       → face.StMcrawTimes ts starts work frames scale nominal end index r starts′ work′ frames′ scale′ nominal′ end′ index′
       ↔ Tells (λ c. calls.McrawTimes ts starts work c starts′ work′) (λ c. (r, frames′, scale′, nominal′, end′, index′) ≡ timesTold c frames scale nominal end)
   pub st-is-utc-second : (b : List ℕ) (r : Bool) → face.StIsUtcSecond b r ↔ calls.IsUtcSecond b r
-  pub st-ticks-to-us : (t : ℤ) (scale : ℕ) (us : ℤ) (r : ℕ) (us′ : ℤ) → face.StTicksToUs t scale us r us′ ↔ Tells (calls.TicksToUs t scale) (λ c. (r, us′) ≡ usTold c us)
+  pub st-ticks-to-us : (t : ℤ) (scale : ℕ) (us : ℤ) (index r : ℕ) (us′ : ℤ) (index′ : ℕ)
+      → face.StTicksToUs t scale us index r us′ index′ ↔ Tells (calls.TicksToUs t scale) (λ c. (r, us′, index′) ≡ usTold c us)
 
 -- what `origin` answers of frame f, where it lies in row r
 abbrev pub told : Row → ℕ → Traced
@@ -230,6 +240,7 @@ pub record Meanings : Type 0 where
   pub validate : (l : Lent) (video : Video) (starts : List ℤ) (r : Checked) → Validate l video starts r ↔ (r ≡ validateOf (table l) (shownBy video starts))
   pub check-mcraw : (l : Lent) (ts a b a′ b′ : List ℤ) (r : Checked) → CheckMcraw l ts a b r a′ b′ ↔ Settled (table l) ts a b r a′ b′
   pub box-size : (b : List ℕ) (remaining : ℕ) (r : Sized) → calls.BoxSize b remaining r ↔ (r ≡ boxSize b remaining)
+  pub children : (b : List ℕ) (at : ℕ) (r : Reached) → calls.Children b at r ↔ (r ≡ childrenAt b at)
   pub child-place : (b : List ℕ) (kind : ℕ) (r : Place) → calls.ChildPlace b kind r ↔ (r ≡ childPlace b kind)
   pub child : (b : RefT (List ℕ)) (kind : ℕ) (r : RefT (List ℕ)) → calls.Child b kind r ↔ PartAt b (childPlace (now b) kind) r
   pub find-box-place : (b : List ℕ) (start end kind : ℕ) (text : Bool) (r : Place) → calls.FindBoxPlace b start end kind text r ↔ (r ≡ findBoxPlace b start end kind text)
@@ -246,6 +257,15 @@ pub record Meanings : Type 0 where
   -- The lookup over records answers what the lookup over words answers of the words that say the same.
   pub segment-of-frame-records : (sources text : List ℕ) (rs : List TrimSegment) (log : Bool) (f : ℕ) (r : Found)
       → calls.SegmentOfFrameRecords sources text rs log f r ↔ SegmentOfFrame (inWords sources text rs log) f r
+
+-- THE WALK `children` MEETS THE BOXES, by which `child` and the other searches are defined: a box that it answers is the first of those from its offset on, and the
+-- others are those from `next` on, which lies further on in the bytes; where it answers 31 there are none, and the boxes end clean or with a bad header. So a walk
+-- from 0 on meets all boxes of the bytes, in order, and ends in 31. (Document 01, `children`; demand 2; boxes/specs/Boxes.antt has `boxesAt`.)
+pub record Walking : Type 0 where
+  pub turn : (b : List ℕ) (at kind start len next : ℕ) → calls.Children b at (reached.Box kind start len next)
+      → boxes.boxesAt b at ≡ boxes.box at kind start len (boxes.boxesAt b next)
+  pub on : (b : List ℕ) (at kind start len next : ℕ) → calls.Children b at (reached.Box kind start len next) → (at < next) × (next ≤ length b)
+  pub end : (b : List ℕ) (at : ℕ) → calls.Children b at (reached.Refused 31 0) → (boxes.boxesAt b at ≡ boxes.clean) ⊎ (boxes.boxesAt b at ≡ boxes.bad at)
 
 -- TO THE NEAREST WHOLE NUMBER, as `ticksToUs` has it by `rounded`: q is n / d rounded exactly when n / d is at least q - 1/2 and less than q + 1/2, so that a half
 -- goes up; and below zero it is the same with the sign, so that a half goes away from zero. (Document 01, `ticks_to_us`; demand 2.)
@@ -293,6 +313,7 @@ pub record Claims : Type 0 where
   pub refusals : Refusals
   pub acceptances : Acceptances
   pub meanings : Meanings
+  pub walking : Walking
   pub rounding : Rounding
   pub ordering : Ordering
   pub ignored : Ignored

@@ -46,6 +46,8 @@ use Rattle.segment_table.proofs.tables.st_rows_of_table as st-rows-of-table·
 use Rattle.segment_table.proofs.tables.st_rows_of_table.Reads as st-rows-of-table·reads
 use Rattle.segment_table.proofs.walk.st_box_size as st-box-size·
 use Rattle.segment_table.proofs.walk.st_box_size.Reads as st-box-size·reads
+use Rattle.segment_table.proofs.walk.st_children as st-children·
+use Rattle.segment_table.proofs.walk.st_children.Reads as st-children·reads
 use Rattle.segment_table.proofs.walk.st_child as st-child·
 use Rattle.segment_table.proofs.walk.st_child.Reads as st-child·reads
 use Rattle.segment_table.proofs.walk.st_find_box as st-find-box·
@@ -68,11 +70,11 @@ st-is-utc-second·anywhere κs a e = refl
 abbrev pub st-ticks-to-us : Promise
 st-ticks-to-us = record { types = st-ticks-to-us·.ended; Asked = st-ticks-to-us·reads.Asked; Learnt = st-ticks-to-us·reads.Learnt }
 
--- st_ticks_to_us(ticks, scale, us) answers ans, and leaves us′
-abbrev pub StTicksToUs : ℤ → ℕ → ℤ → Result st-ticks-to-us ([], tt) → ℤ → Type 0
-StTicksToUs ticks scale us ans us′ = st-ticks-to-us .Learnt ([], tt) (ticks, (scale, (lent us, tt))) ans (ticks, (scale, (lent us′, tt)))
+-- st_ticks_to_us(ticks, scale, us, index) answers ans, and leaves us′, index′
+abbrev pub StTicksToUs : ℤ → ℕ → ℤ → ℕ → Result st-ticks-to-us ([], ([], tt)) → ℤ → ℕ → Type 0
+StTicksToUs ticks scale us index ans us′ index′ = st-ticks-to-us .Learnt ([], ([], tt)) (ticks, (scale, (lent us, (lent index, tt)))) ans (ticks, (scale, (lent us′, (lent index′, tt))))
 
-pub st-ticks-to-us·anywhere : Anywhere st-ticks-to-us (λ κs a e. StTicksToUs (a .0) (a .1 .0) (now (a .1 .1 .0)) (e .result) (e .last .1 .1 .0))
+pub st-ticks-to-us·anywhere : Anywhere st-ticks-to-us (λ κs a e. StTicksToUs (a .0) (a .1 .0) (now (a .1 .1 .0)) (now (a .1 .1 .1 .0)) (e .result) (e .last .1 .1 .0) (e .last .1 .1 .1 .0))
 st-ticks-to-us·anywhere κs a e = refl
 
 -- segment_table::cutting::st_cut
@@ -189,11 +191,11 @@ st-mcraw-times·anywhere κs a e = refl
 abbrev pub st-video-frame-times-of-moov : Promise
 st-video-frame-times-of-moov = record { types = st-video-frame-times-of-moov·.ended; Asked = st-video-frame-times-of-moov·reads.Asked; Learnt = st-video-frame-times-of-moov·reads.Learnt }
 
--- st_video_frame_times_of_moov(moov, starts, work-a, work-b, frames, scale, nominal, end) answers ans, and leaves starts′, work-a′, work-b′, frames′, scale′, nominal′, end′
-abbrev pub StVideoFrameTimesOfMoov : List ℕ → List ℤ → List ℤ → List ℤ → ℕ → ℕ → ℤ → ℤ → Result st-video-frame-times-of-moov ([], ([], ([], ([], ([], ([], ([], ([], tt)))))))) → List ℤ → List ℤ → List ℤ → ℕ → ℕ → ℤ → ℤ → Type 0
-StVideoFrameTimesOfMoov moov starts work-a work-b frames scale nominal end ans starts′ work-a′ work-b′ frames′ scale′ nominal′ end′ = st-video-frame-times-of-moov .Learnt ([], ([], ([], ([], ([], ([], ([], ([], tt)))))))) (lent moov, (lent starts, (lent work-a, (lent work-b, (lent frames, (lent scale, (lent nominal, (lent end, tt)))))))) ans (lent moov, (lent starts′, (lent work-a′, (lent work-b′, (lent frames′, (lent scale′, (lent nominal′, (lent end′, tt))))))))
+-- st_video_frame_times_of_moov(moov, starts, work-a, work-b, frames, scale, nominal, end, index) answers ans, and leaves starts′, work-a′, work-b′, frames′, scale′, nominal′, end′, index′
+abbrev pub StVideoFrameTimesOfMoov : List ℕ → List ℤ → List ℤ → List ℤ → ℕ → ℕ → ℤ → ℤ → ℕ → Result st-video-frame-times-of-moov ([], ([], ([], ([], ([], ([], ([], ([], ([], tt))))))))) → List ℤ → List ℤ → List ℤ → ℕ → ℕ → ℤ → ℤ → ℕ → Type 0
+StVideoFrameTimesOfMoov moov starts work-a work-b frames scale nominal end index ans starts′ work-a′ work-b′ frames′ scale′ nominal′ end′ index′ = st-video-frame-times-of-moov .Learnt ([], ([], ([], ([], ([], ([], ([], ([], ([], tt))))))))) (lent moov, (lent starts, (lent work-a, (lent work-b, (lent frames, (lent scale, (lent nominal, (lent end, (lent index, tt))))))))) ans (lent moov, (lent starts′, (lent work-a′, (lent work-b′, (lent frames′, (lent scale′, (lent nominal′, (lent end′, (lent index′, tt)))))))))
 
-pub st-video-frame-times-of-moov·anywhere : Anywhere st-video-frame-times-of-moov (λ κs a e. StVideoFrameTimesOfMoov (now (a .0)) (now (a .1 .0)) (now (a .1 .1 .0)) (now (a .1 .1 .1 .0)) (now (a .1 .1 .1 .1 .0)) (now (a .1 .1 .1 .1 .1 .0)) (now (a .1 .1 .1 .1 .1 .1 .0)) (now (a .1 .1 .1 .1 .1 .1 .1 .0)) (e .result) (e .last .1 .0) (e .last .1 .1 .0) (e .last .1 .1 .1 .0) (e .last .1 .1 .1 .1 .0) (e .last .1 .1 .1 .1 .1 .0) (e .last .1 .1 .1 .1 .1 .1 .0) (e .last .1 .1 .1 .1 .1 .1 .1 .0))
+pub st-video-frame-times-of-moov·anywhere : Anywhere st-video-frame-times-of-moov (λ κs a e. StVideoFrameTimesOfMoov (now (a .0)) (now (a .1 .0)) (now (a .1 .1 .0)) (now (a .1 .1 .1 .0)) (now (a .1 .1 .1 .1 .0)) (now (a .1 .1 .1 .1 .1 .0)) (now (a .1 .1 .1 .1 .1 .1 .0)) (now (a .1 .1 .1 .1 .1 .1 .1 .0)) (now (a .1 .1 .1 .1 .1 .1 .1 .1 .0)) (e .result) (e .last .1 .0) (e .last .1 .1 .0) (e .last .1 .1 .1 .0) (e .last .1 .1 .1 .1 .0) (e .last .1 .1 .1 .1 .1 .0) (e .last .1 .1 .1 .1 .1 .1 .0) (e .last .1 .1 .1 .1 .1 .1 .1 .0) (e .last .1 .1 .1 .1 .1 .1 .1 .1 .0))
 st-video-frame-times-of-moov·anywhere κs a e = refl
 
 -- segment_table::tables::st_check
@@ -255,42 +257,53 @@ st-rows-of-table·anywhere κs a e = refl
 abbrev pub st-box-size : Promise
 st-box-size = record { types = st-box-size·.ended; Asked = st-box-size·reads.Asked; Learnt = st-box-size·reads.Learnt }
 
--- st_box_size(«data», remaining, size, header) answers ans, and leaves size′, header′
-abbrev pub StBoxSize : List ℕ → ℕ → ℕ → ℕ → Result st-box-size ([], ([], ([], tt))) → ℕ → ℕ → Type 0
-StBoxSize «data» remaining size header ans size′ header′ = st-box-size .Learnt ([], ([], ([], tt))) (lent «data», (remaining, (lent size, (lent header, tt)))) ans (lent «data», (remaining, (lent size′, (lent header′, tt))))
+-- st_box_size(«data», remaining, size, header, index) answers ans, and leaves size′, header′, index′
+abbrev pub StBoxSize : List ℕ → ℕ → ℕ → ℕ → ℕ → Result st-box-size ([], ([], ([], ([], tt)))) → ℕ → ℕ → ℕ → Type 0
+StBoxSize «data» remaining size header index ans size′ header′ index′ = st-box-size .Learnt ([], ([], ([], ([], tt)))) (lent «data», (remaining, (lent size, (lent header, (lent index, tt))))) ans (lent «data», (remaining, (lent size′, (lent header′, (lent index′, tt)))))
 
-pub st-box-size·anywhere : Anywhere st-box-size (λ κs a e. StBoxSize (now (a .0)) (a .1 .0) (now (a .1 .1 .0)) (now (a .1 .1 .1 .0)) (e .result) (e .last .1 .1 .0) (e .last .1 .1 .1 .0))
+pub st-box-size·anywhere : Anywhere st-box-size (λ κs a e. StBoxSize (now (a .0)) (a .1 .0) (now (a .1 .1 .0)) (now (a .1 .1 .1 .0)) (now (a .1 .1 .1 .1 .0)) (e .result) (e .last .1 .1 .0) (e .last .1 .1 .1 .0) (e .last .1 .1 .1 .1 .0))
 st-box-size·anywhere κs a e = refl
+
+-- segment_table::walk::st_children
+abbrev pub st-children : Promise
+st-children = record { types = st-children·.ended; Asked = st-children·reads.Asked; Learnt = st-children·reads.Learnt }
+
+-- st_children(payload, at, kind, start, length, next, index) answers ans, and leaves kind′, start′, length′, next′, index′
+abbrev pub StChildren : List ℕ → ℕ → ℕ → ℕ → ℕ → ℕ → ℕ → Result st-children ([], ([], ([], ([], ([], ([], tt)))))) → ℕ → ℕ → ℕ → ℕ → ℕ → Type 0
+StChildren payload at kind start length next index ans kind′ start′ length′ next′ index′ = st-children .Learnt ([], ([], ([], ([], ([], ([], tt)))))) (lent payload, (at, (lent kind, (lent start, (lent length, (lent next, (lent index, tt))))))) ans (lent payload, (at, (lent kind′, (lent start′, (lent length′, (lent next′, (lent index′, tt)))))))
+
+pub st-children·anywhere : Anywhere st-children (λ κs a e. StChildren (now (a .0)) (a .1 .0) (now (a .1 .1 .0)) (now (a .1 .1 .1 .0)) (now (a .1 .1 .1 .1 .0)) (now (a .1 .1 .1 .1 .1 .0)) (now (a .1 .1 .1 .1 .1 .1 .0)) (e .result) (e .last .1 .1 .0) (e .last .1 .1 .1 .0) (e .last .1 .1 .1 .1 .0) (e .last .1 .1 .1 .1 .1 .0) (e .last .1 .1 .1 .1 .1 .1 .0))
+st-children·anywhere κs a e = refl
 
 -- segment_table::walk::st_child
 abbrev pub st-child : Promise
 st-child = record { types = st-child·.ended; Asked = st-child·reads.Asked; Learnt = st-child·reads.Learnt }
 
--- st_child(payload, kind, start, length) answers ans, and leaves start′, length′
-abbrev pub StChild : List ℕ → ℕ → ℕ → ℕ → Result st-child ([], ([], ([], tt))) → ℕ → ℕ → Type 0
-StChild payload kind start length ans start′ length′ = st-child .Learnt ([], ([], ([], tt))) (lent payload, (kind, (lent start, (lent length, tt)))) ans (lent payload, (kind, (lent start′, (lent length′, tt))))
+-- st_child(payload, kind, start, length, index) answers ans, and leaves start′, length′, index′
+abbrev pub StChild : List ℕ → ℕ → ℕ → ℕ → ℕ → Result st-child ([], ([], ([], ([], tt)))) → ℕ → ℕ → ℕ → Type 0
+StChild payload kind start length index ans start′ length′ index′ = st-child .Learnt ([], ([], ([], ([], tt)))) (lent payload, (kind, (lent start, (lent length, (lent index, tt))))) ans (lent payload, (kind, (lent start′, (lent length′, (lent index′, tt)))))
 
-pub st-child·anywhere : Anywhere st-child (λ κs a e. StChild (now (a .0)) (a .1 .0) (now (a .1 .1 .0)) (now (a .1 .1 .1 .0)) (e .result) (e .last .1 .1 .0) (e .last .1 .1 .1 .0))
+pub st-child·anywhere : Anywhere st-child (λ κs a e. StChild (now (a .0)) (a .1 .0) (now (a .1 .1 .0)) (now (a .1 .1 .1 .0)) (now (a .1 .1 .1 .1 .0)) (e .result) (e .last .1 .1 .0) (e .last .1 .1 .1 .0) (e .last .1 .1 .1 .1 .0))
 st-child·anywhere κs a e = refl
 
 -- segment_table::walk::st_find_box
 abbrev pub st-find-box : Promise
 st-find-box = record { types = st-find-box·.ended; Asked = st-find-box·reads.Asked; Learnt = st-find-box·reads.Learnt }
 
--- st_find_box(bytes, from, to, kind, text-types, start, length) answers ans, and leaves start′, length′
-abbrev pub StFindBox : List ℕ → ℕ → ℕ → ℕ → Bool → ℕ → ℕ → Result st-find-box ([], ([], ([], tt))) → ℕ → ℕ → Type 0
-StFindBox bytes from to kind text-types start length ans start′ length′ = st-find-box .Learnt ([], ([], ([], tt))) (lent bytes, (from, (to, (kind, (text-types, (lent start, (lent length, tt))))))) ans (lent bytes, (from, (to, (kind, (text-types, (lent start′, (lent length′, tt)))))))
+-- st_find_box(bytes, from, to, kind, text-types, start, length, index) answers ans, and leaves start′, length′, index′
+abbrev pub StFindBox : List ℕ → ℕ → ℕ → ℕ → Bool → ℕ → ℕ → ℕ → Result st-find-box ([], ([], ([], ([], tt)))) → ℕ → ℕ → ℕ → Type 0
+StFindBox bytes from to kind text-types start length index ans start′ length′ index′ = st-find-box .Learnt ([], ([], ([], ([], tt)))) (lent bytes, (from, (to, (kind, (text-types, (lent start, (lent length, (lent index, tt)))))))) ans (lent bytes, (from, (to, (kind, (text-types, (lent start′, (lent length′, (lent index′, tt))))))))
 
-pub st-find-box·anywhere : Anywhere st-find-box (λ κs a e. StFindBox (now (a .0)) (a .1 .0) (a .1 .1 .0) (a .1 .1 .1 .0) (a .1 .1 .1 .1 .0) (now (a .1 .1 .1 .1 .1 .0)) (now (a .1 .1 .1 .1 .1 .1 .0)) (e .result) (e .last .1 .1 .1 .1 .1 .0) (e .last .1 .1 .1 .1 .1 .1 .0))
+pub st-find-box·anywhere : Anywhere st-find-box (λ κs a e. StFindBox (now (a .0)) (a .1 .0) (a .1 .1 .0) (a .1 .1 .1 .0) (a .1 .1 .1 .1 .0) (now (a .1 .1 .1 .1 .1 .0)) (now (a .1 .1 .1 .1 .1 .1 .0)) (now (a .1 .1 .1 .1 .1 .1 .1 .0)) (e .result) (e .last .1 .1 .1 .1 .1 .0) (e .last .1 .1 .1 .1 .1 .1 .0) (e .last .1 .1 .1 .1 .1 .1 .1 .0))
 st-find-box·anywhere κs a e = refl
 
 -- segment_table::walk::st_table_text
 abbrev pub st-table-text : Promise
 st-table-text = record { types = st-table-text·.ended; Asked = st-table-text·reads.Asked; Learnt = st-table-text·reads.Learnt }
 
--- st_table_text(file, start, length) answers ans, and leaves start′, length′
-abbrev pub StTableText : List ℕ → ℕ → ℕ → Result st-table-text ([], ([], ([], tt))) → ℕ → ℕ → Type 0
-StTableText file start length ans start′ length′ = st-table-text .Learnt ([], ([], ([], tt))) (lent file, (lent start, (lent length, tt))) ans (lent file, (lent start′, (lent length′, tt)))
+-- st_table_text(file, start, length, index) answers ans, and leaves start′, length′, index′
+abbrev pub StTableText : List ℕ → ℕ → ℕ → ℕ → Result st-table-text ([], ([], ([], ([], tt)))) → ℕ → ℕ → ℕ → Type 0
+StTableText file start length index ans start′ length′ index′ = st-table-text .Learnt ([], ([], ([], ([], tt)))) (lent file, (lent start, (lent length, (lent index, tt)))) ans (lent file, (lent start′, (lent length′, (lent index′, tt))))
 
-pub st-table-text·anywhere : Anywhere st-table-text (λ κs a e. StTableText (now (a .0)) (now (a .1 .0)) (now (a .1 .1 .0)) (e .result) (e .last .1 .0) (e .last .1 .1 .0))
+pub st-table-text·anywhere : Anywhere st-table-text (λ κs a e. StTableText (now (a .0)) (now (a .1 .0)) (now (a .1 .1 .0)) (now (a .1 .1 .1 .0)) (e .result) (e .last .1 .0) (e .last .1 .1 .0) (e .last .1 .1 .1 .0))
 st-table-text·anywhere κs a e = refl

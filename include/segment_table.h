@@ -32,8 +32,9 @@
  * smallest; of a recording the middle interval, the lower of two.
  *
  * Refusals. The index is the source in 4 to 7, the segment in 9 to 17, 23 and 24, the later timestamp of the first falling
- * pair in 34, the row in 51 (0 for slice lengths or no rows, which are tested first), else 0. At each call they stand in
- * the order in which they are tested; 3 to 7 are tested source by source, 9 to 17 and 23 with 24 segment by segment.
+ * pair in 34, the row in 51 (0 for slice lengths or no rows, which are tested first), else 0. Each call names its refusals
+ * in the order of its tests: 4 to 7 source by source, 9 to 17 and 23 with 24 segment by segment, a join's 51 of its first
+ * map and then of its second.
  *  1 a slice length isn't a multiple of its record, the two segment slices disagree, a flag or kind is outside its set,
  *    or a present creation time's range leaves the text
  *  2 over 64 sources or 512 segments
@@ -99,14 +100,14 @@ uint64_t st_ticks_to_us(int64_t ticks, uint64_t scale, int64_t *us);
 
 /* The frames a..b of a map as a map: each row's overlap, counted from a.
  * Lent: a map, and room for the rows. Writes the rows, rows (how many), index. Refuses: 51, 52, 50, 52.
- * A null pointer only with length 0. */
+ * A null pointer only with length 0; what is written overlaps nothing else. */
 uint64_t st_cut(const uint64_t *words, size_t words_len, const int64_t *shifts, size_t shifts_len, uint64_t a,
                 uint64_t b, uint64_t *out_words, size_t out_words_len, int64_t *out_shifts,
                 size_t out_shifts_len, uint64_t *rows, uint64_t *index);
 
 /* Two maps as one, the second after the first.
  * Lent: two maps, and room for the rows. Writes the rows, rows (how many), index. Refuses: 51, 52, 53, 52.
- * A null pointer only with length 0. */
+ * A null pointer only with length 0; what is written overlaps nothing else. */
 uint64_t st_join(const uint64_t *words, size_t words_len, const int64_t *shifts, size_t shifts_len,
                  const uint64_t *second_words, size_t second_words_len, const int64_t *second_shifts,
                  size_t second_shifts_len, uint64_t *out_words, size_t out_words_len, int64_t *out_shifts,
@@ -114,7 +115,7 @@ uint64_t st_join(const uint64_t *words, size_t words_len, const int64_t *shifts,
 
 /* A map with one row of neighbours that continue: the same source, frames that run on, flag and shift equal.
  * Lent: a map, and room for the rows. Writes the rows, rows (how many), index. Refuses: 51, 52, 52.
- * A null pointer only with length 0. */
+ * A null pointer only with length 0; what is written overlaps nothing else. */
 uint64_t st_merge(const uint64_t *words, size_t words_len, const int64_t *shifts, size_t shifts_len,
                   uint64_t *out_words, size_t out_words_len, int64_t *out_shifts, size_t out_shifts_len,
                   uint64_t *rows, uint64_t *index);
@@ -156,7 +157,7 @@ uint64_t st_validate_times(const uint64_t *sources, size_t sources_len, const ui
  * judged as one frame at the rate of segment 0's source.
  * Lent: a table, the timestamps, two working slices as long as the timestamps or longer (of one timestamp, of any length).
  * Writes both working slices (all 0), frames, index. Refuses: 1 to 17, 30, 35, 34, 33, 32, 35, 33, 20, 22, 23 with 24, 25.
- * A null pointer only with length 0. */
+ * A null pointer only with length 0; what is written overlaps nothing else. */
 uint64_t st_check_mcraw(const uint64_t *sources, size_t sources_len, const uint64_t *segments,
                         size_t segments_len, const int64_t *times, size_t times_len, bool log,
                         const uint8_t *text, size_t text_len, const int64_t *timestamps,
@@ -206,7 +207,7 @@ uint64_t st_segment_of_frame_records(const uint64_t *sources, size_t sources_len
  * (1,000,000,000), the nominal interval and the end; the starts count from the first timestamp.
  * Lent: the timestamps, room for the starts, a working slice; both as long as the timestamps or longer.
  * Writes starts, work (all 0), frames, scale, nominal, end, index. Refuses: 30, 31, 34, 33, 32, 31, 33.
- * A null pointer only with length 0. */
+ * A null pointer only with length 0; what is written overlaps nothing else. */
 uint64_t st_mcraw_times(const int64_t *timestamps, size_t timestamps_len, int64_t *starts, size_t starts_len,
                         int64_t *work, size_t work_len, uint64_t *frames, uint64_t *scale, int64_t *nominal,
                         int64_t *end, uint64_t *index);
@@ -216,7 +217,7 @@ uint64_t st_mcraw_times(const int64_t *timestamps, size_t timestamps_len, int64_
  * Lent: the payload of a moov box, room for the starts, two working slices as long. As many elements as the track has
  * frames are enough for each. Writes starts, both working slices (all 0), frames, scale, nominal, end. Refuses: 30, 31,
  * 32, 31, 33.
- * A null pointer only with length 0. */
+ * A null pointer only with length 0; what is written overlaps nothing else. */
 uint64_t st_video_frame_times_of_moov(const uint8_t *moov, size_t moov_len, int64_t *starts,
                                       size_t starts_len, int64_t *work_a, size_t work_a_len, int64_t *work_b,
                                       size_t work_b_len, uint64_t *frames, uint64_t *scale, int64_t *nominal,
@@ -258,7 +259,7 @@ uint64_t st_continues(const uint64_t *sources, size_t sources_len, const uint64_
 
 /* The map of an accepted table: one row a segment, an absent shift as 0.
  * Lent: a table, and room for the rows. Writes the rows, rows (how many), index. Refuses: 1 to 17, 32.
- * A null pointer only with length 0. */
+ * A null pointer only with length 0; what is written overlaps nothing else. */
 uint64_t st_rows_of_table(const uint64_t *sources, size_t sources_len, const uint64_t *segments,
                           size_t segments_len, const int64_t *times, size_t times_len, bool log,
                           const uint8_t *text, size_t text_len, uint64_t *out_words, size_t out_words_len,

@@ -4,20 +4,20 @@
 use std::{ cell::OnceCell, hash::{ DefaultHasher, Hash, Hasher }, rc::Rc };
 use oracle::segment_table::SegmentTable;
 
-/// The calls, in the order of the table that is printed
+/// The calls, in the order of the table that is printed. A call's random cases go by its place here, so a new one comes last
 #[derive(Clone, Copy, Debug, PartialEq, Eq, PartialOrd, Ord)]
 pub enum Call {
     IsUtcSecond, TicksToUs, Check, SegmentOfFrame, SegmentOfFrameRecords, SegmentOfTimeUs, Continues, RowsOfTable,
-    ValidateNoVideo, ValidateConstant, ValidateTimes, BoxSize, Children, Child, FindBox, TableText, VideoFrameTimesOfMoov,
-    McrawTimes, CheckMcraw, Cut, Join, Merge, Origin,
+    ValidateNoVideo, ValidateConstant, ValidateTimes, BoxSize, Child, FindBox, TableText, VideoFrameTimesOfMoov,
+    McrawTimes, CheckMcraw, Cut, Join, Merge, Origin, Children,
 }
 
 impl Call {
     pub const ALL: [Call; 23] = [
         Call::IsUtcSecond, Call::TicksToUs, Call::Check, Call::SegmentOfFrame, Call::SegmentOfFrameRecords,
         Call::SegmentOfTimeUs, Call::Continues, Call::RowsOfTable, Call::ValidateNoVideo, Call::ValidateConstant,
-        Call::ValidateTimes, Call::BoxSize, Call::Children, Call::Child, Call::FindBox, Call::TableText,
-        Call::VideoFrameTimesOfMoov, Call::McrawTimes, Call::CheckMcraw, Call::Cut, Call::Join, Call::Merge, Call::Origin,
+        Call::ValidateTimes, Call::BoxSize, Call::Child, Call::FindBox, Call::TableText, Call::VideoFrameTimesOfMoov,
+        Call::McrawTimes, Call::CheckMcraw, Call::Cut, Call::Join, Call::Merge, Call::Origin, Call::Children,
     ];
 
     /// The name of the call, without the library's prefix

@@ -8,7 +8,7 @@ const PROGRAMS: [(&str, &[Call]); 6] = [
     ("replay_numbers", &[Call::IsUtcSecond, Call::TicksToUs]),
     ("replay_table", &[Call::Check, Call::SegmentOfFrame, Call::SegmentOfTimeUs, Call::Continues, Call::RowsOfTable, Call::SegmentOfFrameRecords]),
     ("replay_judge", &[Call::ValidateNoVideo, Call::ValidateConstant, Call::ValidateTimes, Call::CheckMcraw]),
-    ("replay_boxes", &[Call::BoxSize, Call::Children, Call::Child, Call::FindBox, Call::TableText]),
+    ("replay_boxes", &[Call::BoxSize, Call::Child, Call::FindBox, Call::TableText, Call::Children]),
     ("replay_times", &[Call::VideoFrameTimesOfMoov, Call::McrawTimes]),
     ("replay_maps", &[Call::Cut, Call::Join, Call::Merge, Call::Origin]),
 ];

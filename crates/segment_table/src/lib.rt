@@ -32,8 +32,9 @@
 // smallest; of a recording the middle interval, the lower of two.
 //
 // Refusals. The index is the source in 4 to 7, the segment in 9 to 17, 23 and 24, the later timestamp of the first falling
-// pair in 34, the row in 51 (0 for slice lengths or no rows, which are tested first), else 0. At each call they stand in
-// the order in which they are tested; 3 to 7 are tested source by source, 9 to 17 and 23 with 24 segment by segment.
+// pair in 34, the row in 51 (0 for slice lengths or no rows, which are tested first), else 0. Each call names its refusals
+// in the order of its tests: 4 to 7 source by source, 9 to 17 and 23 with 24 segment by segment, a join's 51 of its first
+// map and then of its second.
 //  1 a slice length isn't a multiple of its record, the two segment slices disagree, a flag or kind is outside its set,
 //    or a present creation time's range leaves the text
 //  2 over 64 sources or 512 segments

@@ -93,8 +93,8 @@ extern "C" {
 bool st_is_utc_second(const uint8_t *bytes, size_t bytes_len);
 
 /* Ticks of a scale in microseconds, to the nearest whole number; halves go away from zero.
- * Lent: nothing. Writes us. Refuses: 20, 23. */
-uint64_t st_ticks_to_us(int64_t ticks, uint64_t scale, int64_t *us);
+ * Lent: nothing. Writes us, index. Refuses: 20, 23. */
+uint64_t st_ticks_to_us(int64_t ticks, uint64_t scale, int64_t *us, uint64_t *index);
 
 /* ---- Maps: cut, join, merge, and the origin of a frame. */
 
@@ -215,13 +215,13 @@ uint64_t st_mcraw_times(const int64_t *timestamps, size_t timestamps_len, int64_
 /* The frame times of a moov's first video track: how many, their timescale, the nominal interval and the end; the starts
  * in presentation order.
  * Lent: the payload of a moov box, room for the starts, two working slices as long. As many elements as the track has
- * frames are enough for each. Writes starts, both working slices (all 0), frames, scale, nominal, end. Refuses: 30, 31,
- * 32, 31, 33.
+ * frames are enough for each. Writes starts, both working slices (all 0), frames, scale, nominal, end, index. Refuses:
+ * 30, 31, 32, 31, 33.
  * A null pointer only with length 0; what is written overlaps nothing else. */
 uint64_t st_video_frame_times_of_moov(const uint8_t *moov, size_t moov_len, int64_t *starts,
                                       size_t starts_len, int64_t *work_a, size_t work_a_len, int64_t *work_b,
                                       size_t work_b_len, uint64_t *frames, uint64_t *scale, int64_t *nominal,
-                                      int64_t *end);
+                                      int64_t *end, uint64_t *index);
 
 /* ---- Tables: the check, both lookups, whether a segment continues the one before, the rows of its map. */
 
@@ -265,31 +265,39 @@ uint64_t st_rows_of_table(const uint64_t *sources, size_t sources_len, const uin
                           const uint8_t *text, size_t text_len, uint64_t *out_words, size_t out_words_len,
                           int64_t *out_shifts, size_t out_shifts_len, uint64_t *rows, uint64_t *index);
 
-/* ---- Boxes: sizes, the child of a type, the search in a range, the table's text. */
+/* ---- Boxes: sizes, the walk, the child of a type, the search in a range, the table's text. */
 
 /* The size of the box at the start of data, and of its header, where `remaining` bytes are left of what it is in.
- * Lent: the bytes at hand. Writes size, header. Refuses: 30, 31.
+ * Lent: the bytes at hand. Writes size, header, index. Refuses: 30, 31.
  * A null pointer only with length 0. */
 uint64_t st_box_size(const uint8_t *data, size_t data_len, uint64_t remaining, uint64_t *size,
-                     uint64_t *header);
+                     uint64_t *header, uint64_t *index);
+
+/* The box at offset `at` of payload: its type, where its payload lies, and where the next box is. From 0 on, and then from
+ * each answer's `next`, all boxes are met, in order, until 31: fewer than 8 bytes are left there, or the box doesn't fit.
+ * Lent: a box's payload. Writes kind, start, length, next, index. Refuses: 30, 42, 31.
+ * A null pointer only with length 0. */
+uint64_t st_children(const uint8_t *payload, size_t payload_len, uint64_t at, uint32_t *kind, uint64_t *start,
+                     uint64_t *length, uint64_t *next, uint64_t *index);
 
 /* Where the payload of the first child of a type lies in payload; `kind` is the type's four bytes, big-endian.
- * Lent: a box's payload. Writes start, length. Refuses: 30, 31.
+ * Lent: a box's payload. Writes start, length, index. Refuses: 30, 31.
  * A null pointer only with length 0. */
 uint64_t st_child(const uint8_t *payload, size_t payload_len, uint32_t kind, uint64_t *start,
-                  uint64_t *length);
+                  uint64_t *length, uint64_t *index);
 
 /* Where the payload of the first box of a type among those of from..to lies in bytes. With text_types the search ends
  * at a type with a byte outside 20..7E hex.
- * Lent: the bytes. Writes start, length. Refuses: 30, 42, 31.
+ * Lent: the bytes. Writes start, length, index. Refuses: 30, 42, 31.
  * A null pointer only with length 0. */
 uint64_t st_find_box(const uint8_t *bytes, size_t bytes_len, uint64_t from, uint64_t to, uint32_t kind,
-                     bool text_types, uint64_t *start, uint64_t *length);
+                     bool text_types, uint64_t *start, uint64_t *length, uint64_t *index);
 
 /* Where a file's segment table has its text: the payload of the only moov/udta/MTRM box.
- * Lent: the file's bytes. Writes start, length. Refuses: 30, 40, 41.
+ * Lent: the file's bytes. Writes start, length, index. Refuses: 30, 40, 41.
  * A null pointer only with length 0. */
-uint64_t st_table_text(const uint8_t *file, size_t file_len, uint64_t *start, uint64_t *length);
+uint64_t st_table_text(const uint8_t *file, size_t file_len, uint64_t *start, uint64_t *length,
+                       uint64_t *index);
 
 #ifdef __cplusplus
 }

@@ -39,8 +39,8 @@ extern "C" {
     pub fn st_is_utc_second(bytes: *const u8, bytes_len: usize) -> bool;
 
     /// Ticks of a scale in microseconds, to the nearest whole number; halves go away from zero.
-    /// Lent: nothing. Writes us. Refuses: 20, 23.
-    pub fn st_ticks_to_us(ticks: i64, scale: u64, us: *mut i64) -> u64;
+    /// Lent: nothing. Writes us, index. Refuses: 20, 23.
+    pub fn st_ticks_to_us(ticks: i64, scale: u64, us: *mut i64, index: *mut u64) -> u64;
 
     /// The frames a..b of a map as a map: each row's overlap, counted from a.
     /// Lent: a map, and room for the rows. Writes the rows, rows (how many), index. Refuses: 51, 52, 50, 52.
@@ -99,10 +99,10 @@ extern "C" {
     /// The frame times of a moov's first video track: how many, their timescale, the nominal interval and the end; the starts
     /// in presentation order.
     /// Lent: the payload of a moov box, room for the starts, two working slices as long. As many elements as the track has
-    /// frames are enough for each. Writes starts, both working slices (all 0), frames, scale, nominal, end. Refuses: 30, 31,
-    /// 32, 31, 33.
+    /// frames are enough for each. Writes starts, both working slices (all 0), frames, scale, nominal, end, index. Refuses:
+    /// 30, 31, 32, 31, 33.
     /// A null pointer only with length 0; what is written overlaps nothing else.
-    pub fn st_video_frame_times_of_moov(moov: *const u8, moov_len: usize, starts: *mut i64, starts_len: usize, work_a: *mut i64, work_a_len: usize, work_b: *mut i64, work_b_len: usize, frames: *mut u64, scale: *mut u64, nominal: *mut i64, end: *mut i64) -> u64;
+    pub fn st_video_frame_times_of_moov(moov: *const u8, moov_len: usize, starts: *mut i64, starts_len: usize, work_a: *mut i64, work_a_len: usize, work_b: *mut i64, work_b_len: usize, frames: *mut u64, scale: *mut u64, nominal: *mut i64, end: *mut i64, index: *mut u64) -> u64;
 
     /// Checks a table: its frame total.
     /// Lent: a table. Writes frames, index. Refuses: 1 to 17.
@@ -131,25 +131,31 @@ extern "C" {
     pub fn st_rows_of_table(sources: *const u64, sources_len: usize, segments: *const u64, segments_len: usize, times: *const i64, times_len: usize, log: bool, text: *const u8, text_len: usize, out_words: *mut u64, out_words_len: usize, out_shifts: *mut i64, out_shifts_len: usize, rows: *mut u64, index: *mut u64) -> u64;
 
     /// The size of the box at the start of data, and of its header, where `remaining` bytes are left of what it is in.
-    /// Lent: the bytes at hand. Writes size, header. Refuses: 30, 31.
+    /// Lent: the bytes at hand. Writes size, header, index. Refuses: 30, 31.
     /// A null pointer only with length 0.
-    pub fn st_box_size(data: *const u8, data_len: usize, remaining: u64, size: *mut u64, header: *mut u64) -> u64;
+    pub fn st_box_size(data: *const u8, data_len: usize, remaining: u64, size: *mut u64, header: *mut u64, index: *mut u64) -> u64;
+
+    /// The box at offset `at` of payload: its type, where its payload lies, and where the next box is. From 0 on, and then from
+    /// each answer's `next`, all boxes are met, in order, until 31: fewer than 8 bytes are left there, or the box doesn't fit.
+    /// Lent: a box's payload. Writes kind, start, length, next, index. Refuses: 30, 42, 31.
+    /// A null pointer only with length 0.
+    pub fn st_children(payload: *const u8, payload_len: usize, at: u64, kind: *mut u32, start: *mut u64, length: *mut u64, next: *mut u64, index: *mut u64) -> u64;
 
     /// Where the payload of the first child of a type lies in payload; `kind` is the type's four bytes, big-endian.
-    /// Lent: a box's payload. Writes start, length. Refuses: 30, 31.
+    /// Lent: a box's payload. Writes start, length, index. Refuses: 30, 31.
     /// A null pointer only with length 0.
-    pub fn st_child(payload: *const u8, payload_len: usize, kind: u32, start: *mut u64, length: *mut u64) -> u64;
+    pub fn st_child(payload: *const u8, payload_len: usize, kind: u32, start: *mut u64, length: *mut u64, index: *mut u64) -> u64;
 
     /// Where the payload of the first box of a type among those of from..to lies in bytes. With text_types the search ends
     /// at a type with a byte outside 20..7E hex.
-    /// Lent: the bytes. Writes start, length. Refuses: 30, 42, 31.
+    /// Lent: the bytes. Writes start, length, index. Refuses: 30, 42, 31.
     /// A null pointer only with length 0.
-    pub fn st_find_box(bytes: *const u8, bytes_len: usize, from: u64, to: u64, kind: u32, text_types: bool, start: *mut u64, length: *mut u64) -> u64;
+    pub fn st_find_box(bytes: *const u8, bytes_len: usize, from: u64, to: u64, kind: u32, text_types: bool, start: *mut u64, length: *mut u64, index: *mut u64) -> u64;
 
     /// Where a file's segment table has its text: the payload of the only moov/udta/MTRM box.
-    /// Lent: the file's bytes. Writes start, length. Refuses: 30, 40, 41.
+    /// Lent: the file's bytes. Writes start, length, index. Refuses: 30, 40, 41.
     /// A null pointer only with length 0.
-    pub fn st_table_text(file: *const u8, file_len: usize, start: *mut u64, length: *mut u64) -> u64;
+    pub fn st_table_text(file: *const u8, file_len: usize, start: *mut u64, length: *mut u64, index: *mut u64) -> u64;
 }
 
 /// Each refusal number with its words.

@@ -47,7 +47,7 @@ four-bytes : boxSize (0 ∷ 0 ∷ 0 ∷ 20 ∷ []) 20 ≡ Box 20 8
 unfolding boxSize sizeOf fittingIn
 four-bytes = refl
 
-no-remainder : boxSize (0 ∷ 0 ∷ 0 ∷ 0 ∷ []) 7 ≡ NoSize 31
+no-remainder : boxSize (0 ∷ 0 ∷ 0 ∷ 0 ∷ []) 7 ≡ NoSize 31 0
 unfolding boxSize sizeOf fittingIn
 no-remainder = refl
 
@@ -61,11 +61,11 @@ in-range : findBoxPlace (free 8 ++ table) 8 18 mtrm true ≡ At 16 2
 unfolding findBoxPlace firstSuch textual isText boxesAt boxesFrom headerAt sizeOf fittingIn free table
 in-range = refl
 
-past-end : findBoxPlace table 0 11 mtrm false ≡ Refused 42
+past-end : findBoxPlace table 0 11 mtrm false ≡ Refused 42 0
 unfolding findBoxPlace table
 past-end = refl
 
-past-start : findBoxPlace table 9 8 mtrm false ≡ Refused 42
+past-start : findBoxPlace table 9 8 mtrm false ≡ Refused 42 0
 unfolding findBoxPlace table
 past-start = refl
 
@@ -77,7 +77,7 @@ text : findBoxPlace (typed 0x7e ++ table) 0 18 mtrm true ≡ At 16 2
 unfolding findBoxPlace firstSuch textual isText boxesAt boxesFrom headerAt sizeOf fittingIn typed table
 text = refl
 
-no-text : findBoxPlace (typed 0x7f ++ table) 0 18 mtrm true ≡ Refused 31
+no-text : findBoxPlace (typed 0x7f ++ table) 0 18 mtrm true ≡ Refused 31 0
 unfolding findBoxPlace firstSuch textual isText boxesAt boxesFrom headerAt sizeOf fittingIn typed table
 no-text = refl
 
@@ -86,10 +86,10 @@ one-table : tableTextPlace (file table) ≡ At 32 2
 unfolding tableTextPlace tableOf allOf firstSuch textual isText boxesAt boxesFrom headerAt sizeOf fittingIn file inMoov inUdta free table
 one-table = refl
 
-no-table : tableTextPlace (file (free 8)) ≡ Refused 40
+no-table : tableTextPlace (file (free 8)) ≡ Refused 40 0
 unfolding tableTextPlace tableOf allOf firstSuch textual isText boxesAt boxesFrom headerAt sizeOf fittingIn file inMoov inUdta free
 no-table = refl
 
-two-tables : tableTextPlace (file (large ++ table)) ≡ Refused 41
+two-tables : tableTextPlace (file (large ++ table)) ≡ Refused 41 0
 unfolding tableTextPlace tableOf allOf firstSuch textual isText boxesAt boxesFrom headerAt sizeOf fittingIn file inMoov inUdta free table large
 two-tables = refl

@@ -26,7 +26,7 @@ length-part s a n h = simp (length-take, length-drop) (omega arith)
 
 -- the rules for `&s[..0]` and `&s[a..a + n]` give a part and its place
 module _ (s r : RefT (List ℕ)) {p : Place} where
-  pub none-at : {n : ℕ} → p ≡ Refused n → now r ≡ [] → r .ptr ≡ s .ptr → PartAt s p r
+  pub none-at : {n i : ℕ} → p ≡ Refused n i → now r ≡ [] → r .ptr ≡ s .ptr → PartAt s p r
   none-at e b q =
       subst (λ (p : Place). PartAt s p r) (sym e)
       (record { bytes = b; place = q ∙ ap (λ (k : ℕ). (s .ptr .0, k)) (sym (add-zero (s .ptr .1))) })
@@ -42,10 +42,10 @@ Missed w = OneOf (1 ∷ 2 ∷ []) (tagOf the-type w)
 
 -- a search in the part that a walk for it found: the walk's two ends, from the equations that the code has
 module _ (s : List ℕ) (number : ℕ) (search : List ℕ → Place) {w v : Walk} (e : w ≡ v) where
-  pub missed : Missed w → Refused number ≡ inPart s (placeOr number v) search
-  missed t = subst (λ (v : Walk). Refused number ≡ inPart s (placeOr number v) search) e (by w t)
+  pub missed : Missed w → Refused number 0 ≡ inPart s (placeOr number v) search
+  missed t = subst (λ (v : Walk). Refused number 0 ≡ inPart s (placeOr number v) search) e (by w t)
     where
-      by : (w : Walk) → Missed w → Refused number ≡ inPart s (placeOr number w) search
+      by : (w : Walk) → Missed w → Refused number 0 ≡ inPart s (placeOr number w) search
       by (Found a n) t = absurd (⊎-elim (λ e. omega arith) (λ e. omega arith) t)
       by End t = refl
       by (Bad at) t = refl

@@ -73,9 +73,9 @@ module _ (kind : ℕ) (s : List ℕ) (at : ℕ) where
 
 -- the only one of what was found so far and of what is left
 unfoldable pub onlyAfter : Place → List Place → Place
-onlyAfter (Refused n) l = onlyOf l
+onlyAfter (Refused n i) l = onlyOf l
 onlyAfter (At a n) [] = At a n
-onlyAfter (At a n) (q ∷ l) = Refused 41
+onlyAfter (At a n) (q ∷ l) = Refused 41 0
 
 one-more : (a n : ℕ) (l : List Place) → onlyOf (At a n ∷ l) ≡ onlyAfter (At a n) l
 unfolding onlyAfter
@@ -88,11 +88,11 @@ module _ (kind : ℕ) (s : List ℕ) (at : ℕ) (found : Place) {answer : Place}
   no-more e t f = sym f ∙ ap (onlyAfter found) (sym (all-stops kind s at e t)) ∙ i
 
   module _ {k a n next : ℕ} (e : Whole k a n next ≡ headerAt s at) where
-    pub first-one : {m : ℕ} → found ≡ Refused m → k ≡ kind → onlyAfter (At a n) (allOf kind (boxesAt s next)) ≡ answer
+    pub first-one : {m j : ℕ} → found ≡ Refused m j → k ≡ kind → onlyAfter (At a n) (allOf kind (boxesAt s next)) ≡ answer
     unfolding onlyAfter
     first-one f t = sym (one-more a n (allOf kind (boxesAt s next))) ∙ (rw (f, all-finds kind s at e t) at i)
 
-    pub second-one : {b m : ℕ} → found ≡ At b m → k ≡ kind → Refused 41 ≡ answer
+    pub second-one : {b m : ℕ} → found ≡ At b m → k ≡ kind → Refused 41 0 ≡ answer
     unfolding onlyAfter
     second-one f t = rw (f, all-finds kind s at e t) at i
 

@@ -20,7 +20,7 @@ use Rattle.boxes.proofs.Parts.{from}
 -- a header has 8 bytes at least, and its box no fewer and no more than remain
 abbrev pub Fitting : ℕ → Sized → Type 0
 Fitting remaining (Box size header) = (8 ≤ header) × (header ≤ size) × (size ≤ remaining)
-Fitting remaining (Refused n) = Unit {0}
+Fitting remaining (Refused n i) = Unit {0}
 
 fitting-in : (remaining header size : ℕ) → 8 ≤ header → Fitting remaining (fittingIn remaining header size)
 unfolding fittingIn
@@ -45,7 +45,7 @@ fits s remaining e = subst (Fitting remaining) (sym e) (size-fitting s remaining
 
 -- the cases of a size, each from plain facts on numbers
 module _ (s : List ℕ) (remaining : ℕ) where
-  pub none : length s < 4 → Refused 31 ≡ sizeOf s remaining
+  pub none : length s < 4 → Refused 31 0 ≡ sizeOf s remaining
   unfolding sizeOf
   none h = rw (lt-ltb _ _ h)
 
@@ -54,7 +54,7 @@ module _ (s : List ℕ) (remaining : ℕ) where
     unfolding sizeOf
     rest z r = simp (le-ltb _ _ h, eq-eqb _ _ z, r)
 
-    pub torn : be32At s 0 ≡ 1 → length s < 16 → Refused 31 ≡ sizeOf s remaining
+    pub torn : be32At s 0 ≡ 1 → length s < 16 → Refused 31 0 ≡ sizeOf s remaining
     unfolding sizeOf
     torn z l = simp (le-ltb _ _ h, ne-eqb (be32At s 0) 0 (omega arith), eq-eqb _ _ z, lt-ltb _ _ l)
 
@@ -93,7 +93,7 @@ Lies at l (Whole kind start len next) = (at + 8 ≤ start) × (start + len ≡ n
 
 by-lies : (l at kind : ℕ) (z : Sized) → at ≤ l → Fitting (l - at) z → Lies at l (headerBy at kind z)
 by-lies l at kind (Box size header) h f = (omega arith, omega arith, omega arith)
-by-lies l at kind (Refused n) h f = tt
+by-lies l at kind (Refused n i) h f = tt
 
 pub header-lies : (s : List ℕ) (at : ℕ) → Lies at (length s) (headerAt s at)
 unfolding headerAt

@@ -77,17 +77,17 @@ fits-in number {l} h e = subst (λ (w : Walk). Within l (placeOr number w)) e h
 -- a place in a part, moved to its place in the whole
 moved-within : (a l m : ℕ) (p : Place) → Within m p → a + m ≤ l → Within l (moved a p)
 moved-within a l m (At start len) w h = omega arith
-moved-within a l m (Refused n) w h = tt
+moved-within a l m (Refused n i) w h = tt
 
 in-part-within : (s : List ℕ) (p : Place) (search : List ℕ → Place) → Within (length s) p → ((t : List ℕ) → Within (length t) (search t)) → Within (length s) (inPart s p search)
 in-part-within s (At a n) search w f =
     let t = take n (drop a s) in
     moved-within a (length s) (length t) (search t) (f t) (omega (arith, length-part s a n w))
-in-part-within s (Refused n) search w f = tt
+in-part-within s (Refused n i) search w f = tt
 
 start-within : (l : ℕ) (p : Place) → Within l p → startOf p ≤ l
 start-within l (At a n) w = omega arith
-start-within l (Refused n) w = omega arith
+start-within l (Refused n i) w = omega arith
 
 -- the move wraps nothing
 pub movable : (s : List ℕ) (a m : ℕ) (p : Place) → a + m ≤ length s → Within (length (take m (drop a s))) p → a + startOf p ≤ length s

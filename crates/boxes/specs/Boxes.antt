@@ -10,6 +10,8 @@ use Rattle.boxes.specs.declared.Sized.{Sized}
 use Rattle.boxes.specs.declared.Sized.the-variants.{Box, Refused}
 use Rattle.boxes.specs.declared.Header.{Header}
 use Rattle.boxes.specs.declared.Header.the-variants.{Whole, Short, Bad}
+use Rattle.boxes.specs.declared.Reached.{Reached}
+use Rattle.boxes.specs.declared.Reached.the-variants as reached
 use Rattle.boxes.specs.declared.Walk.{Walk}
 use Rattle.boxes.specs.declared.Walk.the-variants.{Found, End, Bad as BadAt}
 
@@ -20,33 +22,46 @@ mostBytes = 16777216
 -- a size is at least its header's and at most what remains (4.2: a box is within what it is in)
 unfoldable pub fittingIn : ℕ → ℕ → ℕ → Sized
 fittingIn remaining header size =
-    if ltb size header then Refused 31
-    else if ltb remaining size then Refused 31
+    if ltb size header then Refused 31 0
+    else if ltb remaining size then Refused 31 0
     else Box size header
 
 -- The size of the box at the start of some bytes, and of its header, where so many bytes remain to the end of what it is in.
 -- 4.2: four bytes of size, then four of type; size 0 is what remains, and size 1 stands in the eight bytes after the type.
 unfoldable pub sizeOf : List ℕ → ℕ → Sized
 sizeOf bytes remaining =
-    if ltb (length bytes) 4 then Refused 31
+    if ltb (length bytes) 4 then Refused 31 0
     else if eqb (be32At bytes 0) 0 then fittingIn remaining 8 remaining
-    else if eqb (be32At bytes 0) 1 then if ltb (length bytes) 16 then Refused 31 else fittingIn remaining 16 (be64At bytes 8)
+    else if eqb (be32At bytes 0) 1 then if ltb (length bytes) 16 then Refused 31 0 else fittingIn remaining 16 (be64At bytes 8)
     else fittingIn remaining 8 (be32At bytes 0)
 
 -- the same for a caller's bytes: 30 over the limit, then 31
 unfoldable pub boxSize : List ℕ → ℕ → Sized
-boxSize bytes remaining = if ltb mostBytes (length bytes) then Refused 30 else sizeOf bytes remaining
+boxSize bytes remaining = if ltb mostBytes (length bytes) then Refused 30 0 else sizeOf bytes remaining
 
 -- where the payload and the next box are, for a box of a type at `at`
 abbrev pub headerBy : ℕ → ℕ → Sized → Header
 headerBy at kind (Box size header) = Whole kind (at + header) (size - header) (at + size)
-headerBy at kind (Refused n) = Bad
+headerBy at kind (Refused n i) = Bad
 
 -- the header at `at`, where all that remains is at hand
 unfoldable pub headerAt : List ℕ → ℕ → Header
 headerAt s at =
     if ltb (length s - at) 8 then Short
     else headerBy at (be32At s (at + 4)) (sizeOf (drop at s) (length s - at))
+
+-- the box of a header, or 31 where none is whole
+abbrev pub reachedBy : Header → Reached
+reachedBy Short = reached.Refused 31 0
+reachedBy Bad = reached.Refused 31 0
+reachedBy (Whole kind start len next) = reached.Box kind start len next
+
+-- `children`, the box at an offset: 30, 42, 31
+unfoldable pub childrenAt : List ℕ → ℕ → Reached
+childrenAt payload at =
+    if ltb mostBytes (length payload) then reached.Refused 30 0
+    else if ltb (length payload) at then reached.Refused 42 0
+    else reachedBy (headerAt payload at)
 
 -- The boxes of some bytes, in order, and how they end: fewer than 8 bytes are left, or at `at` stands a bad header.
 pub data Boxes : Type 0 where

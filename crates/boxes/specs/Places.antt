@@ -17,23 +17,23 @@ use Rattle.boxes.specs.declared.Walk.the-variants.{Found, End, Bad as Ba
 -- the place of what a walk found, or a number
 abbrev pub placeOr : ℕ → Walk → Place
 placeOr n (Found start len) = At start len
-placeOr n End = Refused n
-placeOr n (BadAt at) = Refused n
+placeOr n End = Refused n 0
+placeOr n (BadAt at) = Refused n 0
 
 -- the bytes at a place; none where it is refused
 abbrev pub partOf : List ℕ → Place → List ℕ
 partOf s (At start len) = take len (drop start s)
-partOf s (Refused n) = []
+partOf s (Refused n i) = []
 
 -- where a part starts; nothing starts at 0
 abbrev pub startOf : Place → ℕ
 startOf (At start len) = start
-startOf (Refused n) = 0
+startOf (Refused n i) = 0
 
 -- the part at a place lies within so many bytes
 abbrev pub Within : ℕ → Place → Type 0
 Within l (At start len) = start + len ≤ l
-Within l (Refused n) = Unit {0}
+Within l (Refused n i) = Unit {0}
 
 -- r is the part of s at a place: its bytes, and it lies in the memory of s, so far after the first byte of s
 pub record PartAt (s : RefT (List ℕ)) (p : Place) (r : RefT (List ℕ)) : Type 0 where
@@ -43,12 +43,12 @@ pub record PartAt (s : RefT (List ℕ)) (p : Place) (r : RefT (List ℕ)) : Type
 -- a place in a part that starts at `by`, as a place in the whole
 abbrev pub moved : ℕ → Place → Place
 moved by (At start len) = At (by + start) len
-moved by (Refused n) = Refused n
+moved by (Refused n i) = Refused n i
 
 -- what a search in the part at a place answers, as a place in the whole
 abbrev pub inPart : List ℕ → Place → (List ℕ → Place) → Place
 inPart s (At start len) search = moved start (search (take len (drop start s)))
-inPart s (Refused n) search = Refused n
+inPart s (Refused n i) search = Refused n i
 
 -- the first box of a type among some bytes, with text types or without; 31 where there is none
 abbrev pub firstIn : ℕ → Bool → List ℕ → Place
@@ -64,15 +64,15 @@ childOf kind s = partOf s (childIn kind s)
 -- `child`: 30, 31
 unfoldable pub childPlace : List ℕ → ℕ → Place
 childPlace payload kind =
-    if ltb mostBytes (length payload) then Refused 30
+    if ltb mostBytes (length payload) then Refused 30 0
     else childIn kind payload
 
 -- `find_box`, in the bytes from `start` to `end`: 30, 42, 31
 unfoldable pub findBoxPlace : List ℕ → ℕ → ℕ → ℕ → Bool → Place
 findBoxPlace bytes start end kind text =
-    if ltb mostBytes (length bytes) then Refused 30
-    else if ltb (length bytes) end then Refused 42
-    else if ltb end start then Refused 42
+    if ltb mostBytes (length bytes) then Refused 30 0
+    else if ltb (length bytes) end then Refused 42 0
+    else if ltb end start then Refused 42 0
     else inPart bytes (At start (end - start)) (firstIn kind text)
 
 -- the payloads of all boxes of a type
@@ -83,9 +83,9 @@ allOf kind (box at k start len rest) = if eqb k kind then At start len ∷ allOf
 
 -- the only one of some places: none is 40, more are 41
 abbrev pub onlyOf : List Place → Place
-onlyOf [] = Refused 40
+onlyOf [] = Refused 40 0
 onlyOf (p ∷ []) = p
-onlyOf (p ∷ q ∷ l) = Refused 41
+onlyOf (p ∷ q ∷ l) = Refused 41 0
 
 -- the only MTRM of the first udta of a moov
 unfoldable pub tableOf : List ℕ → Place
@@ -94,5 +94,5 @@ tableOf m = inPart m (placeOr 40 (firstOf udta (boxesOf m))) (λ u. onlyOf (allO
 -- `table_text`, in the first moov of a file, with text types: 30, 40, 41
 unfoldable pub tableTextPlace : List ℕ → Place
 tableTextPlace file =
-    if ltb mostBytes (length file) then Refused 30
+    if ltb mostBytes (length file) then Refused 30 0
     else inPart file (placeOr 40 (firstOf moov (textual (boxesOf file)))) tableOf

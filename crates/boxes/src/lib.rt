@@ -13,19 +13,20 @@ use part::place_or;
 use read::code;
 use search::find;
 use search::find_child;
+use size::header_at;
 use size::size_of;
 use table::table_of;
 ghost use mathlib.Core.Path.{_≡_};
-ghost use Rattle.boxes.specs.Boxes.{boxSize};
+ghost use Rattle.boxes.specs.Boxes.{boxSize, childrenAt};
 ghost use Rattle.boxes.specs.Places.{PartAt, childPlace, findBoxPlace, tableTextPlace};
 
 // The most bytes that a call takes; over them it answers 30.
 pub const MOST_BYTES: usize = 16_777_216;
 
-// A box's size and its header's, or a number.
+// A box's size and its header's, or a refusal: its number and its index. In this crate every index is 0.
 pub enum Sized {
     Box { size: u64, header: u64 },
-    Refused(u64),
+    Refused(u64, usize),
 }
 
 // A box's header.
@@ -53,10 +54,21 @@ pub enum Walk {
     Bad { at: usize },
 }
 
-// Where a part of the caller's bytes lies, or a number.
+// Where a part of the caller's bytes lies, or a refusal.
 pub enum Place {
     At { start: usize, len: usize },
-    Refused(u64),
+    Refused(u64, usize),
+}
+
+// What stands at an offset of some boxes: a box's type, where its payload starts and how long that is, and where the next box is; or a refusal.
+pub enum Reached {
+    Box {
+        kind: u32,
+        start: usize,
+        len: usize,
+        next: usize,
+    },
+    Refused(u64, usize),
 }
 
 // The size of the box at the start of data and of its header, where remaining bytes are left of what it is in: the Rust's box_size. 30, 31.
@@ -64,9 +76,37 @@ pub fn box_size(data: &[u8], remaining: u64) -> Sized
     ensures { λ r. ⌜ r ≡ boxSize (now («data» .entry)) remaining ⌝ }
 {
     if data.len() > MOST_BYTES {
-        return Sized::Refused(30);
+        return Sized::Refused(30, 0);
     }
     size_of(data, remaining)
+}
+
+// The box at an offset: a turn of the Rust's children. From 0 on, and then from each answer's next, all boxes are met, in order,
+// until 31, which is the Rust's None. 30, 42, 31.
+pub fn children(payload: &[u8], at: usize) -> Reached
+    ensures { λ r. ⌜ r ≡ childrenAt (now (payload .entry)) at ⌝ }
+{
+    if payload.len() > MOST_BYTES {
+        return Reached::Refused(30, 0);
+    }
+    if payload.len() < at {
+        return Reached::Refused(42, 0);
+    }
+    let Header::Whole {
+        kind,
+        start,
+        len,
+        next,
+    } = header_at(payload, at)
+    else {
+        return Reached::Refused(31, 0);
+    };
+    Reached::Box {
+        kind,
+        start,
+        len,
+        next,
+    }
 }
 
 // Where the payload of the first child of a type lies: the Rust's child. 30, 31.
@@ -74,7 +114,7 @@ pub fn child_place(payload: &[u8], kind: u32) -> Place
     ensures { λ r. ⌜ r ≡ childPlace (now (payload .entry)) kind ⌝ }
 {
     if payload.len() > MOST_BYTES {
-        return Place::Refused(30);
+        return Place::Refused(30, 0);
     }
     place_or(31, find_child(payload, kind))
 }
@@ -91,13 +131,13 @@ pub fn find_box_place(bytes: &[u8], start: usize, end: usize, kind: u32, text_ty
     ensures { λ r. ⌜ r ≡ findBoxPlace (now (bytes .entry)) start end kind «text_types» ⌝ }
 {
     if bytes.len() > MOST_BYTES {
-        return Place::Refused(30);
+        return Place::Refused(30, 0);
     }
     if bytes.len() < end {
-        return Place::Refused(42);
+        return Place::Refused(42, 0);
     }
     if end < start {
-        return Place::Refused(42);
+        return Place::Refused(42, 0);
     }
     let found = find(&bytes[start..end], kind, text_types);
     moved(start, place_or(31, found))
@@ -115,10 +155,10 @@ pub fn table_text_place(file: &[u8]) -> Place
     ensures { λ r. ⌜ r ≡ tableTextPlace (now (file .entry)) ⌝ }
 {
     if file.len() > MOST_BYTES {
-        return Place::Refused(30);
+        return Place::Refused(30, 0);
     }
     let Walk::Found { start, len } = find(file, code(b"moov"), true) else {
-        return Place::Refused(40);
+        return Place::Refused(40, 0);
     };
     moved(start, table_of(&file[start..start + len]))
 }

@@ -14,8 +14,8 @@ pub(crate) fn place_or(number: u64, w: Walk) -> Place
 {
     match w {
         Walk::Found { start, len } => Place::At { start, len },
-        Walk::End => Place::Refused(number),
-        Walk::Bad { at: _ } => Place::Refused(number),
+        Walk::End => Place::Refused(number, 0),
+        Walk::Bad { at: _ } => Place::Refused(number, 0),
     }
 }
 
@@ -29,7 +29,7 @@ pub(crate) fn moved(by: usize, p: Place) -> Place
             start: by + start,
             len,
         },
-        Place::Refused(number) => Place::Refused(number),
+        Place::Refused(number, index) => Place::Refused(number, index),
     }
 }
 

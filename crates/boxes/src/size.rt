@@ -13,10 +13,10 @@ fn fitting(remaining: u64, header: u64, size: u64) -> Sized
     ensures { λ r. ⌜ r ≡ fittingIn remaining header size ⌝ }
 {
     if size < header {
-        return Sized::Refused(31);
+        return Sized::Refused(31, 0);
     }
     if remaining < size {
-        return Sized::Refused(31);
+        return Sized::Refused(31, 0);
     }
     Sized::Box { size, header }
 }
@@ -26,7 +26,7 @@ pub(crate) fn size_of(data: &[u8], remaining: u64) -> Sized
     ensures { λ r. ⌜ r ≡ sizeOf (now («data» .entry)) remaining ⌝ }
 {
     if data.len() < 4 {
-        return Sized::Refused(31);
+        return Sized::Refused(31, 0);
     }
     let size = be32(data, 0) as u64;
     if size == 0 {
@@ -34,7 +34,7 @@ pub(crate) fn size_of(data: &[u8], remaining: u64) -> Sized
     }
     if size == 1 {
         if data.len() < 16 {
-            return Sized::Refused(31);
+            return Sized::Refused(31, 0);
         }
         return fitting(remaining, 16, be64(data, 8));
     }

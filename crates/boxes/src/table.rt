@@ -15,7 +15,7 @@ fn only_child(s: &[u8], kind: u32) -> Place
     ensures { λ r. ⌜ r ≡ onlyOf (allOf kind (boxesOf (now (s .entry)))) ⌝ }
 {
     let mut at = 0;
-    let mut found = Place::Refused(40);
+    let mut found = Place::Refused(40, 0);
     loop {
         let h = header_at(s, at);
         let Header::Whole {
@@ -28,8 +28,8 @@ fn only_child(s: &[u8], kind: u32) -> Place
             break found;
         };
         if k == kind {
-            let Place::Refused(_) = found else {
-                break Place::Refused(41);
+            let Place::Refused(_, _) = found else {
+                break Place::Refused(41, 0);
             };
             found = Place::At { start, len };
         }
@@ -42,7 +42,7 @@ pub(crate) fn table_of(moov: &[u8]) -> Place
     ensures { λ r. ⌜ r ≡ tableOf (now (moov .entry)) ⌝ }
 {
     let Walk::Found { start, len } = find_child(moov, code(b"udta")) else {
-        return Place::Refused(40);
+        return Place::Refused(40, 0);
     };
     moved(start, only_child(&moov[start..start + len], code(b"MTRM")))
 }

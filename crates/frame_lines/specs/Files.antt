@@ -1,18 +1,19 @@
 -- The frame times of a whole file.
 use Prim.Native.Nat.{ℕ}
 use mathlib.Core.Bool.{true}
-use mathlib.Core.List.{List}
+use mathlib.Core.List.{List, []}
 use lib.ListN.{length, take, drop}
 use Rattle.boxes.specs.Bytes.{moov}
 use Rattle.boxes.specs.Places.{findBoxPlace}
 use Rattle.boxes.specs.declared.Place.{Place}
 use Rattle.boxes.specs.declared.Place.the-variants.{At, Refused}
-use Rattle.frame_times.specs.Times.{Outcome, refused, timesOf}
+use Rattle.frame_times.specs.declared.FrameTimes.the-variants as times
+use Rattle.frame_times.specs.Times.{Outcome, timesOf}
 
--- of the moov at a place of the file, or of the number that refuses it
+-- of the moov at a place of the file, or the refusal of that place
 abbrev pub moovTimes : List ℕ → ℕ → Place → Outcome
 moovTimes file room (At start len) = timesOf (take len (drop start file)) room
-moovTimes file room (Refused n) = refused n
+moovTimes file room (Refused n i) = record { answer = times.Refused n i; starts = [] }
 
 -- of the first moov among the file's boxes, whose types are text
 abbrev pub fileTimes : List ℕ → ℕ → Outcome

@@ -33,7 +33,10 @@ fn times_of_file(
             work_a,
             work_b,
         ),
-        Place::Refused(number) => FrameTimes::Refused { number, index: 0 },
+        Place::Refused(number, index) => FrameTimes::Refused {
+            number,
+            index: index as u64,
+        },
     }
 }
 

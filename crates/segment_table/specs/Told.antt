@@ -6,6 +6,8 @@ use Rattle.ticks.specs.declared.Us.{Us}
 use Rattle.ticks.specs.declared.Us.the-variants as us
 use Rattle.boxes.specs.declared.Sized.{Sized}
 use Rattle.boxes.specs.declared.Sized.the-variants as sized
+use Rattle.boxes.specs.declared.Reached.{Reached}
+use Rattle.boxes.specs.declared.Reached.the-variants as reached
 use Rattle.boxes.specs.declared.Place.{Place}
 use Rattle.boxes.specs.declared.Place.the-variants as place
 use Rattle.rules.specs.declared.Checked.{Checked}
@@ -25,22 +27,27 @@ use Rattle.maps.specs.declared.Mapped.the-variants as mapped
 use Rattle.maps.specs.declared.Traced.{Traced}
 use Rattle.maps.specs.declared.Traced.the-variants as traced
 
--- microseconds
-unfoldable pub usTold : Us → ℤ → ℕ × ℤ
-usTold (us.At t) old = (0, t)
-usTold (us.Refused n) old = (n, old)
+-- microseconds, and the refusal's index, 0 where it is accepted: so is every index below
+unfoldable pub usTold : Us → ℤ → ℕ × ℤ × ℕ
+usTold (us.At t) old = (0, t, 0)
+usTold (us.Refused n i) old = (n, old, i)
 
 -- a box's size, its header's
-unfoldable pub sizeTold : Sized → ℕ → ℕ → ℕ × ℕ × ℕ
-sizeTold (sized.Box s h) size header = (0, s, h)
-sizeTold (sized.Refused n) size header = (n, size, header)
+unfoldable pub sizeTold : Sized → ℕ → ℕ → ℕ × ℕ × ℕ × ℕ
+sizeTold (sized.Box s h) size header = (0, s, h, 0)
+sizeTold (sized.Refused n i) size header = (n, size, header, i)
+
+-- a box's type, its payload's start and length, the next box
+unfoldable pub reachedTold : Reached → ℕ → ℕ → ℕ → ℕ → ℕ × ℕ × ℕ × ℕ × ℕ × ℕ
+reachedTold (reached.Box k s l n) kind start length next = (0, k, s, l, n, 0)
+reachedTold (reached.Refused n i) kind start length next = (n, kind, start, length, next, i)
 
 -- start and length of a part of the caller's bytes
-unfoldable pub placeTold : Place → ℕ → ℕ → ℕ × ℕ × ℕ
-placeTold (place.At s l) start length = (0, s, l)
-placeTold (place.Refused n) start length = (n, start, length)
+unfoldable pub placeTold : Place → ℕ → ℕ → ℕ × ℕ × ℕ × ℕ
+placeTold (place.At s l) start length = (0, s, l, 0)
+placeTold (place.Refused n i) start length = (n, start, length, i)
 
--- a frame total, and the refusal's index, 0 where it is accepted: so is every index below
+-- a frame total
 unfoldable pub checkedTold : Checked → ℕ → ℕ × ℕ × ℕ
 checkedTold (checked.Frames n) frames = (0, n, 0)
 checkedTold (checked.Refused n i) frames = (n, frames, i)
@@ -79,7 +86,7 @@ unfoldable pub timesTold : Times → ℕ → ℕ → ℤ → ℤ → ℕ × ℕ 
 timesTold (times.Timed f s m e) frames scale nominal end = (0, f, s, m, e, 0)
 timesTold (times.Refused n i) frames scale nominal end = (n, frames, scale, nominal, end, i)
 
--- the same of a moov, whose refusals have no index
-unfoldable pub moovTold : FrameTimes → ℕ → ℕ → ℤ → ℤ → ℕ × ℕ × ℕ × ℤ × ℤ
-moovTold (moov.Times f s m e) frames scale nominal end = (0, f, s, m, e)
-moovTold (moov.Refused n i) frames scale nominal end = (n, frames, scale, nominal, end)
+-- the same of a moov
+unfoldable pub moovTold : FrameTimes → ℕ → ℕ → ℤ → ℤ → ℕ × ℕ × ℕ × ℤ × ℤ × ℕ
+moovTold (moov.Times f s m e) frames scale nominal end = (0, f, s, m, e, 0)
+moovTold (moov.Refused n i) frames scale nominal end = (n, frames, scale, nominal, end, i)

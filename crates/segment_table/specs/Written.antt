@@ -50,9 +50,9 @@ pub record McrawTold (ts starts work : List ℤ) (frames scale : ℕ) (nominal e
   pub laid-out : starts′ ≡ laid (written (timesOf ts (length starts) (length work)) ts) starts
   pub cleared : work′ ≡ zeros work
 
--- a moov's frame times were asked for: number, starts, both working slices, frame count, scale, nominal, end
-pub record MoovTold (bytes : List ℕ) (starts a b : List ℤ) (frames scale : ℕ) (nominal end : ℤ) (r : ℕ) (starts′ a′ b′ : List ℤ) (frames′ scale′ : ℕ) (nominal′ end′ : ℤ) : Type 0 where
-  pub told : (r, frames′, scale′, nominal′, end′) ≡ moovTold (moov.timesOf bytes (moov.room starts a b) .answer) frames scale nominal end
+-- a moov's frame times were asked for: number, starts, both working slices, frame count, scale, nominal, end, index
+pub record MoovTold (bytes : List ℕ) (starts a b : List ℤ) (frames scale : ℕ) (nominal end : ℤ) (r : ℕ) (starts′ a′ b′ : List ℤ) (frames′ scale′ : ℕ) (nominal′ end′ : ℤ) (index′ : ℕ) : Type 0 where
+  pub told : (r, frames′, scale′, nominal′, end′, index′) ≡ moovTold (moov.timesOf bytes (moov.room starts a b) .answer) frames scale nominal end
   pub laid-out : starts′ ≡ laid (moov.timesOf bytes (moov.room starts a b) .starts) starts
   pub first-cleared : a′ ≡ zeros a
   pub second-cleared : b′ ≡ zeros b

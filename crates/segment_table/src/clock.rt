@@ -6,15 +6,19 @@ ghost use Rattle.ticks.specs.Ticks.{ticksToUs};
 ghost use Rattle.segment_table.specs.Told.{usTold};
 
 // Tells a time in microseconds.
-fn tell_us(answer: Us, us: &mut i64) -> u64
-    ensures { λ r. ⌜ (r, now (us .exit)) ≡ usTold answer (now (us .entry)) ⌝ }
+fn tell_us(answer: Us, us: &mut i64, index: &mut u64) -> u64
+    ensures { λ r. ⌜ (r, now (us .exit), now (index .exit)) ≡ usTold answer (now (us .entry)) ⌝ }
 {
     match answer {
         Us::At(time) => {
             *us = time;
+            *index = 0;
             0
         }
-        Us::Refused(number) => number,
+        Us::Refused(number, i) => {
+            *index = i as u64;
+            number
+        }
     }
 }
 
@@ -28,10 +32,10 @@ pub extern "C" fn st_is_utc_second(bytes: &[u8]) -> bool
 }
 
 // Ticks of a scale in microseconds, to the nearest whole number; halves go away from zero.
-// Lent: nothing. Writes us. Refuses: 20, 23.
+// Lent: nothing. Writes us, index. Refuses: 20, 23.
 #[no_mangle]
-pub extern "C" fn st_ticks_to_us(ticks: i64, scale: u64, us: &mut i64) -> u64
-    ensures { λ r. ⌜ (r, now (us .exit)) ≡ usTold (ticksToUs ticks scale) (now (us .entry)) ⌝ }
+pub extern "C" fn st_ticks_to_us(ticks: i64, scale: u64, us: &mut i64, index: &mut u64) -> u64
+    ensures { λ r. ⌜ (r, now (us .exit), now (index .exit)) ≡ usTold (ticksToUs ticks scale) (now (us .entry)) ⌝ }
 {
-    tell_us(ticks::ticks_to_us(ticks, scale), us)
+    tell_us(ticks::ticks_to_us(ticks, scale), us, index)
 }

@@ -58,15 +58,16 @@ pub extern "C" fn st_mcraw_times(
     tell_times(times, frames, scale, nominal, end, index)
 }
 
-// Tells the same of a moov, whose refusals have no index.
+// Tells the same of a moov.
 fn tell_moov(
     answer: FrameTimes,
     frames: &mut u64,
     scale: &mut u64,
     nominal: &mut i64,
     end: &mut i64,
+    index: &mut u64,
 ) -> u64
-    ensures { λ r. ⌜ (r, now (frames .exit), now (scale .exit), now (nominal .exit), now (end .exit)) ≡ moovTold answer (now (frames .entry)) (now (scale .entry)) (now (nominal .entry)) (now (end .entry)) ⌝ }
+    ensures { λ r. ⌜ (r, now (frames .exit), now (scale .exit), now (nominal .exit), now (end .exit), now (index .exit)) ≡ moovTold answer (now (frames .entry)) (now (scale .entry)) (now (nominal .entry)) (now (end .entry)) ⌝ }
 {
     match answer {
         FrameTimes::Times {
@@ -79,17 +80,21 @@ fn tell_moov(
             *scale = s;
             *nominal = m;
             *end = e;
+            *index = 0;
             0
         }
-        FrameTimes::Refused { number, index: _ } => number,
+        FrameTimes::Refused { number, index: i } => {
+            *index = i;
+            number
+        }
     }
 }
 
 // The frame times of a moov's first video track: how many, their timescale, the nominal interval and the end; the starts
 // in presentation order.
 // Lent: the payload of a moov box, room for the starts, two working slices as long. As many elements as the track has
-// frames are enough for each. Writes starts, both working slices (all 0), frames, scale, nominal, end. Refuses: 30, 31,
-// 32, 31, 33.
+// frames are enough for each. Writes starts, both working slices (all 0), frames, scale, nominal, end, index. Refuses:
+// 30, 31, 32, 31, 33.
 #[no_mangle]
 pub extern "C" fn st_video_frame_times_of_moov(
     moov: &[u8],
@@ -100,9 +105,10 @@ pub extern "C" fn st_video_frame_times_of_moov(
     scale: &mut u64,
     nominal: &mut i64,
     end: &mut i64,
+    index: &mut u64,
 ) -> u64
-    ensures { λ r. ⌜ MoovTold (now (moov .entry)) (now (starts .entry)) (now («work_a» .entry)) (now («work_b» .entry)) (now (frames .entry)) (now (scale .entry)) (now (nominal .entry)) (now (end .entry)) r (now (starts .exit)) (now («work_a» .exit)) (now («work_b» .exit)) (now (frames .exit)) (now (scale .exit)) (now (nominal .exit)) (now (end .exit)) ⌝ }
+    ensures { λ r. ⌜ MoovTold (now (moov .entry)) (now (starts .entry)) (now («work_a» .entry)) (now («work_b» .entry)) (now (frames .entry)) (now (scale .entry)) (now (nominal .entry)) (now (end .entry)) r (now (starts .exit)) (now («work_a» .exit)) (now («work_b» .exit)) (now (frames .exit)) (now (scale .exit)) (now (nominal .exit)) (now (end .exit)) (now (index .exit)) ⌝ }
 {
     let times = frame_times::video_frame_times_of_moov(moov, starts, work_a, work_b);
-    tell_moov(times, frames, scale, nominal, end)
+    tell_moov(times, frames, scale, nominal, end, index)
 }

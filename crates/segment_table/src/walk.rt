@@ -1,60 +1,132 @@
-// Boxes: sizes, the child of a type, the search in a range, the table's text.
+// Boxes: sizes, the walk, the child of a type, the search in a range, the table's text.
 use boxes::Place;
+use boxes::Reached;
 use boxes::Sized;
 ghost use mathlib.Core.Path.{_≡_};
-ghost use Rattle.boxes.specs.Boxes.{boxSize};
+ghost use Rattle.boxes.specs.Boxes.{boxSize, childrenAt};
 ghost use Rattle.boxes.specs.Places.{childPlace, findBoxPlace, tableTextPlace};
-ghost use Rattle.segment_table.specs.Told.{sizeTold, placeTold};
+ghost use Rattle.segment_table.specs.Told.{sizeTold, reachedTold, placeTold};
 
 // Tells a box's size and its header's.
-fn tell_size(answer: Sized, size: &mut u64, header: &mut u64) -> u64
-    ensures { λ r. ⌜ (r, now (size .exit), now (header .exit)) ≡ sizeTold answer (now (size .entry)) (now (header .entry)) ⌝ }
+fn tell_size(answer: Sized, size: &mut u64, header: &mut u64, index: &mut u64) -> u64
+    ensures { λ r. ⌜ (r, now (size .exit), now (header .exit), now (index .exit)) ≡ sizeTold answer (now (size .entry)) (now (header .entry)) ⌝ }
 {
     match answer {
         Sized::Box { size: s, header: h } => {
             *size = s;
             *header = h;
+            *index = 0;
             0
         }
-        Sized::Refused(number) => number,
+        Sized::Refused(number, i) => {
+            *index = i as u64;
+            number
+        }
+    }
+}
+
+// Tells a box's type, where its payload lies, and where the next box is.
+fn tell_reached(
+    answer: Reached,
+    kind: &mut u32,
+    start: &mut u64,
+    length: &mut u64,
+    next: &mut u64,
+    index: &mut u64,
+) -> u64
+    ensures { λ r. ⌜ (r, now (kind .exit), now (start .exit), now (length .exit), now (next .exit), now (index .exit)) ≡ reachedTold answer (now (kind .entry)) (now (start .entry)) (now (length .entry)) (now (next .entry)) ⌝ }
+{
+    match answer {
+        Reached::Box {
+            kind: k,
+            start: s,
+            len: l,
+            next: n,
+        } => {
+            *kind = k;
+            *start = s as u64;
+            *length = l as u64;
+            *next = n as u64;
+            *index = 0;
+            0
+        }
+        Reached::Refused(number, i) => {
+            *index = i as u64;
+            number
+        }
     }
 }
 
 // Tells where a part of the caller's bytes lies.
-fn tell_place(answer: Place, start: &mut u64, length: &mut u64) -> u64
-    ensures { λ r. ⌜ (r, now (start .exit), now (length .exit)) ≡ placeTold answer (now (start .entry)) (now (length .entry)) ⌝ }
+fn tell_place(answer: Place, start: &mut u64, length: &mut u64, index: &mut u64) -> u64
+    ensures { λ r. ⌜ (r, now (start .exit), now (length .exit), now (index .exit)) ≡ placeTold answer (now (start .entry)) (now (length .entry)) ⌝ }
 {
     match answer {
         Place::At { start: s, len: l } => {
             *start = s as u64;
             *length = l as u64;
+            *index = 0;
             0
         }
-        Place::Refused(number) => number,
+        Place::Refused(number, i) => {
+            *index = i as u64;
+            number
+        }
     }
 }
 
 // The size of the box at the start of data, and of its header, where `remaining` bytes are left of what it is in.
-// Lent: the bytes at hand. Writes size, header. Refuses: 30, 31.
+// Lent: the bytes at hand. Writes size, header, index. Refuses: 30, 31.
 #[no_mangle]
-pub extern "C" fn st_box_size(data: &[u8], remaining: u64, size: &mut u64, header: &mut u64) -> u64
-    ensures { λ r. ⌜ (r, now (size .exit), now (header .exit)) ≡ sizeTold (boxSize (now («data» .entry)) remaining) (now (size .entry)) (now (header .entry)) ⌝ }
+pub extern "C" fn st_box_size(
+    data: &[u8],
+    remaining: u64,
+    size: &mut u64,
+    header: &mut u64,
+    index: &mut u64,
+) -> u64
+    ensures { λ r. ⌜ (r, now (size .exit), now (header .exit), now (index .exit)) ≡ sizeTold (boxSize (now («data» .entry)) remaining) (now (size .entry)) (now (header .entry)) ⌝ }
 {
-    tell_size(boxes::box_size(data, remaining), size, header)
+    tell_size(boxes::box_size(data, remaining), size, header, index)
+}
+
+// The box at offset `at` of payload: its type, where its payload lies, and where the next box is. From 0 on, and then from
+// each answer's `next`, all boxes are met, in order, until 31: fewer than 8 bytes are left there, or the box doesn't fit.
+// Lent: a box's payload. Writes kind, start, length, next, index. Refuses: 30, 42, 31.
+#[no_mangle]
+pub extern "C" fn st_children(
+    payload: &[u8],
+    at: u64,
+    kind: &mut u32,
+    start: &mut u64,
+    length: &mut u64,
+    next: &mut u64,
+    index: &mut u64,
+) -> u64
+    ensures { λ r. ⌜ (r, now (kind .exit), now (start .exit), now (length .exit), now (next .exit), now (index .exit)) ≡ reachedTold (childrenAt (now (payload .entry)) at) (now (kind .entry)) (now (start .entry)) (now (length .entry)) (now (next .entry)) ⌝ }
+{
+    let reached = boxes::children(payload, at as usize);
+    tell_reached(reached, kind, start, length, next, index)
 }
 
 // Where the payload of the first child of a type lies in payload; `kind` is the type's four bytes, big-endian.
-// Lent: a box's payload. Writes start, length. Refuses: 30, 31.
+// Lent: a box's payload. Writes start, length, index. Refuses: 30, 31.
 #[no_mangle]
-pub extern "C" fn st_child(payload: &[u8], kind: u32, start: &mut u64, length: &mut u64) -> u64
-    ensures { λ r. ⌜ (r, now (start .exit), now (length .exit)) ≡ placeTold (childPlace (now (payload .entry)) kind) (now (start .entry)) (now (length .entry)) ⌝ }
+pub extern "C" fn st_child(
+    payload: &[u8],
+    kind: u32,
+    start: &mut u64,
+    length: &mut u64,
+    index: &mut u64,
+) -> u64
+    ensures { λ r. ⌜ (r, now (start .exit), now (length .exit), now (index .exit)) ≡ placeTold (childPlace (now (payload .entry)) kind) (now (start .entry)) (now (length .entry)) ⌝ }
 {
-    tell_place(boxes::child_place(payload, kind), start, length)
+    tell_place(boxes::child_place(payload, kind), start, length, index)
 }
 
 // Where the payload of the first box of a type among those of from..to lies in bytes. With text_types the search ends
 // at a type with a byte outside 20..7E hex.
-// Lent: the bytes. Writes start, length. Refuses: 30, 42, 31.
+// Lent: the bytes. Writes start, length, index. Refuses: 30, 42, 31.
 #[no_mangle]
 pub extern "C" fn st_find_box(
     bytes: &[u8],
@@ -64,18 +136,24 @@ pub extern "C" fn st_find_box(
     text_types: bool,
     start: &mut u64,
     length: &mut u64,
+    index: &mut u64,
 ) -> u64
-    ensures { λ r. ⌜ (r, now (start .exit), now (length .exit)) ≡ placeTold (findBoxPlace (now (bytes .entry)) from to kind «text_types») (now (start .entry)) (now (length .entry)) ⌝ }
+    ensures { λ r. ⌜ (r, now (start .exit), now (length .exit), now (index .exit)) ≡ placeTold (findBoxPlace (now (bytes .entry)) from to kind «text_types») (now (start .entry)) (now (length .entry)) ⌝ }
 {
     let place = boxes::find_box_place(bytes, from as usize, to as usize, kind, text_types);
-    tell_place(place, start, length)
+    tell_place(place, start, length, index)
 }
 
 // Where a file's segment table has its text: the payload of the only moov/udta/MTRM box.
-// Lent: the file's bytes. Writes start, length. Refuses: 30, 40, 41.
+// Lent: the file's bytes. Writes start, length, index. Refuses: 30, 40, 41.
 #[no_mangle]
-pub extern "C" fn st_table_text(file: &[u8], start: &mut u64, length: &mut u64) -> u64
-    ensures { λ r. ⌜ (r, now (start .exit), now (length .exit)) ≡ placeTold (tableTextPlace (now (file .entry))) (now (start .entry)) (now (length .entry)) ⌝ }
+pub extern "C" fn st_table_text(
+    file: &[u8],
+    start: &mut u64,
+    length: &mut u64,
+    index: &mut u64,
+) -> u64
+    ensures { λ r. ⌜ (r, now (start .exit), now (length .exit), now (index .exit)) ≡ placeTold (tableTextPlace (now (file .entry))) (now (start .entry)) (now (length .entry)) ⌝ }
 {
-    tell_place(boxes::table_text_place(file), start, length)
+    tell_place(boxes::table_text_place(file), start, length, index)
 }

@@ -89,15 +89,15 @@ small t s f h p l =
     }
 
 -- the call's answer, case by case
-pub us-over : (t : ℤ) (s : ℕ) → largestScale < s → Refused scaleOver ≡ ticksToUs t s
+pub us-over : (t : ℤ) (s : ℕ) → largestScale < s → Refused scaleOver 0 ≡ ticksToUs t s
 unfolding ticksToUs when
-us-over t s h = sym (ap (λ (b : Bool). when b (Refused scaleOver) (usOf (microsOf t s))) (lt-ltb largestScale s h))
+us-over t s h = sym (ap (λ (b : Bool). when b (Refused scaleOver 0) (usOf (microsOf t s))) (lt-ltb largestScale s h))
 
 pub us-of : (t : ℤ) (s : ℕ) → s ≤ largestScale → usOf (microsOf t s) ≡ ticksToUs t s
 unfolding ticksToUs when
-us-of t s h = sym (ap (λ (b : Bool). when b (Refused scaleOver) (usOf (microsOf t s))) (le-ltb largestScale s h))
+us-of t s h = sym (ap (λ (b : Bool). when b (Refused scaleOver 0) (usOf (microsOf t s))) (le-ltb largestScale s h))
 
-pub us-none : (t : ℤ) (s : ℕ) → s ≤ largestScale → Outside ≡ microsOf t s → Refused noTime ≡ ticksToUs t s
+pub us-none : (t : ℤ) (s : ℕ) → s ≤ largestScale → Outside ≡ microsOf t s → Refused noTime 0 ≡ ticksToUs t s
 unfolding usOf
 us-none t s h e = ap usOf e ∙ us-of t s h
 

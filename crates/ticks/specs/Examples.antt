@@ -22,13 +22,13 @@ times =
     ∷ record { ticks = pos 1; scale = 2000000; answer = At (pos 1) }
     ∷ record { ticks = negℤ (pos 1); scale = 2000000; answer = At (negℤ (pos 1)) }
     ∷ record { ticks = pos 1; scale = 4000000; answer = At (pos 0) }
-    ∷ record { ticks = pos 1; scale = 0; answer = Refused 23 }
+    ∷ record { ticks = pos 1; scale = 0; answer = Refused 23 0 }
     ∷ record { ticks = pos 1; scale = 4294967295; answer = At (pos 0) }
-    ∷ record { ticks = pos 1; scale = 4294967296; answer = Refused 20 }
-    ∷ record { ticks = pos 9223372036854775807; scale = 1; answer = Refused 23 }
+    ∷ record { ticks = pos 1; scale = 4294967296; answer = Refused 20 0 }
+    ∷ record { ticks = pos 9223372036854775807; scale = 1; answer = Refused 23 0 }
     ∷ record { ticks = pos 9223372036854775807; scale = 4294967295; answer = At (pos 2147483648500000) }
     ∷ record { ticks = pos 9223372036854; scale = 1; answer = At (pos 9223372036854000000) }
-    ∷ record { ticks = pos 9223372036855; scale = 1; answer = Refused 23 }
+    ∷ record { ticks = pos 9223372036855; scale = 1; answer = Refused 23 0 }
     ∷ record { ticks = negℤ (pos 9223372036854775808); scale = 1000000; answer = At (negℤ (pos 9223372036854775808)) }
     ∷ []
 

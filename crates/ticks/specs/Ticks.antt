@@ -32,10 +32,10 @@ microsOf t s = when (eqb s 0) Outside (within (rounded (t *ℤ pos 1000000) s))
 -- the same, as a call answers it
 unfoldable pub usOf : Held → Us
 usOf (Is us) = At us
-usOf Outside = Refused noTime
+usOf Outside = Refused noTime 0
 
 unfoldable pub ticksToUs : ℤ → ℕ → Us
-ticksToUs t s = when (ltb largestScale s) (Refused scaleOver) (usOf (microsOf t s))
+ticksToUs t s = when (ltb largestScale s) (Refused scaleOver 0) (usOf (microsOf t s))
 
 -- |2·us·s - 2·end·1,000,000| ≤ 2·nominal·1,000,000 + s
 unfoldable pub endsNear : ℤ → ℤ → ℤ → ℕ → Bool

@@ -21,10 +21,10 @@ pub const NO_TIME: u64 = 23;
 // The most ticks whose product with 1,000,000 fits 63 bits with its sign.
 const SMALL_TICKS: u64 = 4_611_686_018_427;
 
-// A time in microseconds, or the number that refuses it.
+// A time in microseconds, or a refusal: its number and its index, which is 0.
 pub enum Us {
     At(i64),
-    Refused(u64),
+    Refused(u64, usize),
 }
 
 // Media ticks below 2^63, or none where an i64 doesn't hold them.
@@ -83,17 +83,17 @@ pub fn ticks_to_us(ticks: i64, scale: u64) -> Us
     ensures { λ r. ⌜ r ≡ ticksToUs ticks scale ⌝ }
 {
     if LARGEST_SCALE < scale {
-        return Us::Refused(SCALE_OVER);
+        return Us::Refused(SCALE_OVER, 0);
     }
     if scale == 0 {
-        return Us::Refused(NO_TIME);
+        return Us::Refused(NO_TIME, 0);
     }
     if signed::magnitude(ticks) <= SMALL_TICKS {
         return Us::At(small_micros(ticks, scale));
     }
     match micros(big_of(ticks), scale) {
         Held::Is(us) => Us::At(us),
-        Held::Outside => Us::Refused(NO_TIME),
+        Held::Outside => Us::Refused(NO_TIME, 0),
     }
 }
 

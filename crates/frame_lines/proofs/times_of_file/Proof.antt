@@ -10,7 +10,7 @@ use Rattle.boxes.specs.Places.{Within, findBoxPlace}
 use Rattle.boxes.specs.declared.Place.{Place}
 use Rattle.boxes.proofs.Within.{find-box-within}
 use Rattle.frame_times.specs.Times.{Outcome, room, timesOf}
-use Rattle.frame_times.proofs.TrackLaws.{answered-as, refuses}
+use Rattle.frame_times.proofs.TrackLaws.{answered-as}
 use Rattle.frame_lines.specs.Files.{moovTimes}
 use borrow.Author.Needs.{needs}
 use Rattle.frame_lines.proofs.times_of_file.Statement.{statement}
@@ -51,7 +51,7 @@ returns-2 : tie.Need-returns-2
 returns-2 c =
     let p = c .before in
     let s = p .before .before .before .before .before .before in
-    refuses (p .p2 .given .0 .0) (s .args .starts .now) refl (ap (by-place s) (sym (place-is (p .before .before)) ∙ p .p2 .given .1))
+    answered-as (ap (by-place s) (sym (place-is (p .before .before)) ∙ p .p2 .given .1)) (record { answer = refl; starts = refl })
 
 pub times-of-file-spec : {M : Type 1} → statement M
 times-of-file-spec = tie.close (tie.spec

@@ -5,7 +5,7 @@ use Rattle.segment_table.proofs.clock.st_ticks_to_us.Statement.{stateme
 use Rattle.segment_table.proofs.clock.st_ticks_to_us.Tie as tie
 
 returns : tie.Need-returns
-returns c = rw (c .before .before .ticks-to-us .ensures, toZ-ofZ (c .before .before .before .fits .ticks)) at (c .tell-us .ensures)
+returns c = rw (c .before .before .before .ticks-to-us .ensures, toZ-ofZ (c .before .before .before .before .fits .ticks)) at (c .tell-us .ensures)
 
 pub st-ticks-to-us-spec : {M : Type 1} → statement M
 st-ticks-to-us-spec = tie.close (tie.spec

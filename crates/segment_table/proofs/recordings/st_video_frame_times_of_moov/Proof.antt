@@ -5,8 +5,8 @@ use Rattle.segment_table.proofs.recordings.st_video_frame_times_of_moov
 
 returns : tie.Need-returns
 returns c =
-    let e = c .before .before .before .before .before .before .before .before .video-frame-times-of-moov .ensures in
-    record { told = (cc); laid-out = e .starts; first-cleared = e .first-clear; second-cleared = e .second-clear }
+    let e = c .before .before .before .before .before .before .before .before .before .video-frame-times-of-moov .ensures in
+    record { told = rw (← e .answer) (c .tell-moov .ensures); laid-out = e .starts; first-cleared = e .first-clear; second-cleared = e .second-clear }
 
 pub st-video-frame-times-of-moov-spec : {M : Type 1} → statement M
 st-video-frame-times-of-moov-spec =

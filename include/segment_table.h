@@ -106,7 +106,8 @@ uint64_t st_cut(const uint64_t *words, size_t words_len, const int64_t *shifts, 
                 size_t out_shifts_len, uint64_t *rows, uint64_t *index);
 
 /* Two maps as one, the second after the first.
- * Lent: two maps, and room for the rows. Writes the rows, rows (how many), index. Refuses: 51, 52, 53, 52.
+ * Lent: two maps, and room for the rows. Writes the rows, rows (how many), index. Refuses: 51 (of the first map, then of the
+ * second), 52, 53, 52.
  * A null pointer only with length 0; what is written overlaps nothing else. */
 uint64_t st_join(const uint64_t *words, size_t words_len, const int64_t *shifts, size_t shifts_len,
                  const uint64_t *second_words, size_t second_words_len, const int64_t *second_shifts,

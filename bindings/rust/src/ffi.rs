@@ -48,7 +48,8 @@ extern "C" {
     pub fn st_cut(words: *const u64, words_len: usize, shifts: *const i64, shifts_len: usize, a: u64, b: u64, out_words: *mut u64, out_words_len: usize, out_shifts: *mut i64, out_shifts_len: usize, rows: *mut u64, index: *mut u64) -> u64;
 
     /// Two maps as one, the second after the first.
-    /// Lent: two maps, and room for the rows. Writes the rows, rows (how many), index. Refuses: 51, 52, 53, 52.
+    /// Lent: two maps, and room for the rows. Writes the rows, rows (how many), index. Refuses: 51 (of the first map, then of the
+    /// second), 52, 53, 52.
     /// A null pointer only with length 0; what is written overlaps nothing else.
     pub fn st_join(words: *const u64, words_len: usize, shifts: *const i64, shifts_len: usize, second_words: *const u64, second_words_len: usize, second_shifts: *const i64, second_shifts_len: usize, out_words: *mut u64, out_words_len: usize, out_shifts: *mut i64, out_shifts_len: usize, rows: *mut u64, index: *mut u64) -> u64;
 

@@ -91,7 +91,6 @@ impl FrameMap {
     }
 
     /// The rows in order.
-    #[must_use]
     pub fn rows(&self) -> Rows<'_> {
         Rows { words: &self.words, shifts: &self.shifts }
     }

@@ -28,6 +28,7 @@ use Rattle.segment_table.proofs.tables.st_segment_of_time_us as st-segment-of-t
 use Rattle.segment_table.proofs.tables.st_continues as st-continues·
 use Rattle.segment_table.proofs.tables.st_rows_of_table as st-rows-of-table·
 use Rattle.segment_table.proofs.walk.st_box_size as st-box-size·
+use Rattle.segment_table.proofs.walk.st_children as st-children·
 use Rattle.segment_table.proofs.walk.st_child as st-child·
 use Rattle.segment_table.proofs.walk.st_find_box as st-find-box·
 use Rattle.segment_table.proofs.walk.st_table_text as st-table-text·
@@ -146,6 +147,12 @@ module _ {M : Type 1} (𝓤 : URA M) (H : Heap 𝓤) (A : Atoms 𝓤) (mem : Mem
 
   pub st-box-size-quoted : (κs : Regions calls.st-box-size) (a : Given calls.st-box-size κs) → st-box-size·.clauses 𝓤 H A mem run κs a .ensures tt ≡ (λ z e. fact 𝓤 (calls.st-box-size .Learnt κs a z e))
   st-box-size-quoted κs a = refl
+
+  pub st-children-asks-nothing : (κs : Regions calls.st-children) (a : Given calls.st-children κs) → st-children·.clauses 𝓤 H A mem run κs a .requires tt ≡ emp 𝓤
+  st-children-asks-nothing κs a = refl
+
+  pub st-children-quoted : (κs : Regions calls.st-children) (a : Given calls.st-children κs) → st-children·.clauses 𝓤 H A mem run κs a .ensures tt ≡ (λ z e. fact 𝓤 (calls.st-children .Learnt κs a z e))
+  st-children-quoted κs a = refl
 
   pub st-child-asks-nothing : (κs : Regions calls.st-child) (a : Given calls.st-child κs) → st-child·.clauses 𝓤 H A mem run κs a .requires tt ≡ emp 𝓤
   st-child-asks-nothing κs a = refl

@@ -3,6 +3,7 @@ pub mod FaceQuoted
 pub mod Once
 pub mod Faced
 pub mod Meant
+pub mod Walked
 pub mod Refused
 pub mod Judged
 pub mod Tiled

@@ -29,6 +29,7 @@ meant = record {
   validate = λ l video starts r. is;
   check-mcraw = λ l ts a b a′ b′ r. is;
   box-size = λ b remaining r. is;
+  children = λ b at r. is;
   child-place = λ b kind r. is;
   child = λ b kind r. is;
   find-box-place = λ b start end kind text r. is;

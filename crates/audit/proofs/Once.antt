@@ -18,6 +18,7 @@ once = record {
   validate = λ κs a. (tt, record { the = record { result = _; last = _ }; said = refl; only = λ e p i. record { result = p i; last = e .last } });
   check-mcraw = λ κs a. (tt, record { the = record { result = _; last = _ }; said = record { answer = refl; first-cleared = refl; second-cleared = refl }; only = λ e p i. record { result = p .answer i; last = (tt, (tt, (tt, (tt, (tt, (tt, (p .first-cleared i, (p .second-cleared i, tt)))))))) } });
   box-size = λ κs a. (tt, record { the = record { result = _; last = _ }; said = refl; only = λ e p i. record { result = p i; last = e .last } });
+  children = λ κs a. (tt, record { the = record { result = _; last = _ }; said = refl; only = λ e p i. record { result = p i; last = e .last } });
   child-place = λ κs a. (tt, record { the = record { result = _; last = _ }; said = refl; only = λ e p i. record { result = p i; last = e .last } });
   find-box-place = λ κs a. (tt, record { the = record { result = _; last = _ }; said = refl; only = λ e p i. record { result = p i; last = e .last } });
   table-text-place = λ κs a. (tt, record { the = record { result = _; last = _ }; said = refl; only = λ e p i. record { result = p i; last = e .last } });

@@ -19,6 +19,7 @@ use Rattle.table.proofs.rows_of_table as rows-of-table·
 use Rattle.judge.proofs.validate as validate·
 use Rattle.judge.proofs.check_mcraw as check-mcraw·
 use Rattle.boxes.proofs.box_size as box-size·
+use Rattle.boxes.proofs.children as children·
 use Rattle.boxes.proofs.child_place as child-place·
 use Rattle.boxes.proofs.child as child·
 use Rattle.boxes.proofs.find_box_place as find-box-place·
@@ -93,6 +94,12 @@ module _ {M : Type 1} (𝓤 : URA M) (H : Heap 𝓤) (A : Atoms 𝓤) (mem : Mem
 
   pub box-size-quoted : (κs : Regions calls.box-size) (a : Given calls.box-size κs) → box-size·.clauses 𝓤 H A mem run κs a .ensures tt ≡ (λ z e. fact 𝓤 (calls.box-size .Learnt κs a z e))
   box-size-quoted κs a = refl
+
+  pub children-asks-nothing : (κs : Regions calls.children) (a : Given calls.children κs) → children·.clauses 𝓤 H A mem run κs a .requires tt ≡ emp 𝓤
+  children-asks-nothing κs a = refl
+
+  pub children-quoted : (κs : Regions calls.children) (a : Given calls.children κs) → children·.clauses 𝓤 H A mem run κs a .ensures tt ≡ (λ z e. fact 𝓤 (calls.children .Learnt κs a z e))
+  children-quoted κs a = refl
 
   pub child-place-asks-nothing : (κs : Regions calls.child-place) (a : Given calls.child-place κs) → child-place·.clauses 𝓤 H A mem run κs a .requires tt ≡ emp 𝓤
   child-place-asks-nothing κs a = refl

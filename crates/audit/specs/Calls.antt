@@ -29,6 +29,8 @@ use Rattle.judge.proofs.check_mcraw as check-mcraw·
 use Rattle.judge.proofs.check_mcraw.Reads as check-mcraw·reads
 use Rattle.boxes.proofs.box_size as box-size·
 use Rattle.boxes.proofs.box_size.Reads as box-size·reads
+use Rattle.boxes.proofs.children as children·
+use Rattle.boxes.proofs.children.Reads as children·reads
 use Rattle.boxes.proofs.child_place as child-place·
 use Rattle.boxes.proofs.child_place.Reads as child-place·reads
 use Rattle.boxes.proofs.child as child·
@@ -164,6 +166,17 @@ BoxSize «data» remaining ans = box-size .Learnt ([], tt) (lent «data», (rema
 
 pub box-size·anywhere : Anywhere box-size (λ κs a e. BoxSize (now (a .0)) (a .1 .0) (e .result))
 box-size·anywhere κs a e = refl
+
+-- boxes::children
+abbrev pub children : Promise
+children = record { types = children·.ended; Asked = children·reads.Asked; Learnt = children·reads.Learnt }
+
+-- children(payload, at) answers ans
+abbrev pub Children : List ℕ → ℕ → Result children ([], tt) → Type 0
+Children payload at ans = children .Learnt ([], tt) (lent payload, (at, tt)) ans (lent payload, (at, tt))
+
+pub children·anywhere : Anywhere children (λ κs a e. Children (now (a .0)) (a .1 .0) (e .result))
+children·anywhere κs a e = refl
 
 -- boxes::child_place
 abbrev pub child-place : Promise

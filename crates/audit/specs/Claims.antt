@@ -4,7 +4,7 @@
 use Prim.Native.Nat.{ℕ, _+_, _-_, _*_, _≤_, _<_}
 use mathlib.Core.Bool.{Bool, true}
 use mathlib.Core.List.{List}
-use mathlib.Core.Logic.{_↔_}
+use mathlib.Core.Logic.{_↔_, _⊎_}
 use mathlib.Core.Path.{_≡_}
 use lib.IntN.{ℤ, negℤ}
 use lib.ListN.{length, take}
@@ -46,8 +46,11 @@ use Rattle.maps.specs.declared.Traced.the-variants as traced
 use Rattle.maps.specs.Answers as maps
 use Rattle.maps.specs.Laws as laws
 use Rattle.boxes.specs.declared.Sized.{Sized}
+use Rattle.boxes.specs.declared.Reached.{Reached}
+use Rattle.boxes.specs.declared.Reached.the-variants as reached
 use Rattle.boxes.specs.declared.Place.{Place}
-use Rattle.boxes.specs.Boxes.{boxSize}
+use Rattle.boxes.specs.Boxes.{boxSize, childrenAt}
+use Rattle.boxes.specs.Boxes as boxes
 use Rattle.boxes.specs.Places.{PartAt, childPlace, findBoxPlace, tableTextPlace}
 use Rattle.frame_times.specs.declared.FrameTimes.{FrameTimes}
 use Rattle.frame_times.specs.Times as frames
@@ -72,6 +75,7 @@ pub record Answers : Type 0 where
   pub validate : OneAnswer calls.validate
   pub check-mcraw : OneAnswer calls.check-mcraw
   pub box-size : OneAnswer calls.box-size
+  pub children : OneAnswer calls.children
   pub child-place : OneAnswer calls.child-place
   pub find-box-place : OneAnswer calls.find-box-place
   pub table-text-place : OneAnswer calls.table-text-place
@@ -106,6 +110,7 @@ pub record Face : Type 0 where
   pub st-merge : OneAnswer face.st-merge
   pub st-origin : OneAnswer face.st-origin
   pub st-box-size : OneAnswer face.st-box-size
+  pub st-children : OneAnswer face.st-children
   pub st-child : OneAnswer face.st-child
   pub st-find-box : OneAnswer face.st-find-box
   pub st-table-text : OneAnswer face.st-table-text
@@ -175,6 +180,7 @@ pub record Meanings : Type 0 where
   pub validate : (l : Lent) (video : Video) (starts : List ℤ) (r : Checked) → Validate l video starts r ↔ (r ≡ validateOf (table l) (shownBy video starts))
   pub check-mcraw : (l : Lent) (ts a b a′ b′ : List ℤ) (r : Checked) → CheckMcraw l ts a b r a′ b′ ↔ Settled (table l) ts a b r a′ b′
   pub box-size : (b : List ℕ) (remaining : ℕ) (r : Sized) → calls.BoxSize b remaining r ↔ (r ≡ boxSize b remaining)
+  pub children : (b : List ℕ) (at : ℕ) (r : Reached) → calls.Children b at r ↔ (r ≡ childrenAt b at)
   pub child-place : (b : List ℕ) (kind : ℕ) (r : Place) → calls.ChildPlace b kind r ↔ (r ≡ childPlace b kind)
   pub child : (b : RefT (List ℕ)) (kind : ℕ) (r : RefT (List ℕ)) → calls.Child b kind r ↔ PartAt b (childPlace (now b) kind) r
   pub find-box-place : (b : List ℕ) (start end kind : ℕ) (text : Bool) (r : Place) → calls.FindBoxPlace b start end kind text r ↔ (r ≡ findBoxPlace b start end kind text)
@@ -191,6 +197,15 @@ pub record Meanings : Type 0 where
   -- The lookup over records answers what the lookup over words answers of the words that say the same.
   pub segment-of-frame-records : (sources text : List ℕ) (rs : List TrimSegment) (log : Bool) (f : ℕ) (r : Found)
       → calls.SegmentOfFrameRecords sources text rs log f r ↔ SegmentOfFrame (inWords sources text rs log) f r
+
+-- THE WALK `children` MEETS THE BOXES, by which `child` and the other searches are defined: a box that it answers is the first of those from its offset on, and the
+-- others are those from `next` on, which lies further on in the bytes; where it answers 31 there are none, and the boxes end clean or with a bad header. So a walk
+-- from 0 on meets all boxes of the bytes, in order, and ends in 31. (Document 01, `children`; demand 2; boxes/specs/Boxes.antt has `boxesAt`.)
+pub record Walking : Type 0 where
+  pub turn : (b : List ℕ) (at kind start len next : ℕ) → calls.Children b at (reached.Box kind start len next)
+      → boxes.boxesAt b at ≡ boxes.box at kind start len (boxes.boxesAt b next)
+  pub on : (b : List ℕ) (at kind start len next : ℕ) → calls.Children b at (reached.Box kind start len next) → (at < next) × (next ≤ length b)
+  pub end : (b : List ℕ) (at : ℕ) → calls.Children b at (reached.Refused 31 0) → (boxes.boxesAt b at ≡ boxes.clean) ⊎ (boxes.boxesAt b at ≡ boxes.bad at)
 
 -- TO THE NEAREST WHOLE NUMBER, as `ticksToUs` has it by `rounded`: q is n / d rounded exactly when n / d is at least q - 1/2 and less than q + 1/2, so that a half
 -- goes up; and below zero it is the same with the sign, so that a half goes away from zero. (Document 01, `ticks_to_us`; demand 2.)
@@ -237,6 +252,7 @@ pub record Claims : Type 0 where
   pub refusals : Refusals
   pub acceptances : Acceptances
   pub meanings : Meanings
+  pub walking : Walking
   pub rounding : Rounding
   pub ordering : Ordering
   pub ignored : Ignored

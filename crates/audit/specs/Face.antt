@@ -41,6 +41,8 @@ use Rattle.segment_table.proofs.tables.st_rows_of_table as st-rows-of-table·
 use Rattle.segment_table.proofs.tables.st_rows_of_table.Reads as st-rows-of-table·reads
 use Rattle.segment_table.proofs.walk.st_box_size as st-box-size·
 use Rattle.segment_table.proofs.walk.st_box_size.Reads as st-box-size·reads
+use Rattle.segment_table.proofs.walk.st_children as st-children·
+use Rattle.segment_table.proofs.walk.st_children.Reads as st-children·reads
 use Rattle.segment_table.proofs.walk.st_child as st-child·
 use Rattle.segment_table.proofs.walk.st_child.Reads as st-child·reads
 use Rattle.segment_table.proofs.walk.st_find_box as st-find-box·
@@ -123,6 +125,10 @@ st-rows-of-table = record { types = st-rows-of-table·.ended; Asked = st-rows-of
 -- segment_table::walk::st_box_size
 abbrev pub st-box-size : Promise
 st-box-size = record { types = st-box-size·.ended; Asked = st-box-size·reads.Asked; Learnt = st-box-size·reads.Learnt }
+
+-- segment_table::walk::st_children
+abbrev pub st-children : Promise
+st-children = record { types = st-children·.ended; Asked = st-children·reads.Asked; Learnt = st-children·reads.Learnt }
 
 -- segment_table::walk::st_child
 abbrev pub st-child : Promise

@@ -1,5 +1,6 @@
 // Box sizes and searches on stored cases: stdin has the cases, stdout the answers (compare/README.md).
 use boxes::Place;
+use boxes::Reached;
 use boxes::Sized;
 use cases::lines;
 use cases::read;
@@ -21,7 +22,7 @@ fn is_at(part: &[u8], bytes: &[u8], place: Place) -> bool {
             }
             steps::same(part, &bytes[start..start + len])
         }
-        Place::Refused(_) => part.len() == 0,
+        Place::Refused(_, _) => part.len() == 0,
     }
 }
 
@@ -33,7 +34,7 @@ fn say_place(place: Place, kept: bool) {
             say::value(start as u64);
             say::value(len as u64);
         }
-        Place::Refused(number) => say::refused(number, 0),
+        Place::Refused(number, index) => say::refused(number, index),
     }
     say::end(kept);
 }
@@ -51,7 +52,32 @@ fn box_size(line: &[u8], c: Cursor, bytes: &[u8]) {
             say::value(size);
             say::value(header);
         }
-        Sized::Refused(number) => say::refused(number, 0),
+        Sized::Refused(number, index) => say::refused(number, index),
+    }
+    say::end(true);
+}
+
+// children BYTES AT
+fn children(line: &[u8], c: Cursor, bytes: &[u8]) {
+    let at = read::number(line, c);
+    if !read::ended(line, at) {
+        say::malformed();
+        return;
+    }
+    match boxes::children(bytes, at.number as usize) {
+        Reached::Box {
+            kind,
+            start,
+            len,
+            next,
+        } => {
+            say::accepted();
+            say::value(kind as u64);
+            say::value(start as u64);
+            say::value(len as u64);
+            say::value(next as u64);
+        }
+        Reached::Refused(number, index) => say::refused(number, index),
     }
     say::end(true);
 }
@@ -107,6 +133,8 @@ fn answer(line: &[u8]) {
     let bytes = &held[..n];
     if read::is(line, b"box_size") {
         box_size(line, c, bytes);
+    } else if read::is(line, b"children") {
+        children(line, c, bytes);
     } else if read::is(line, b"child") {
         child(line, c, bytes);
     } else if read::is(line, b"find_box") {

@@ -33,7 +33,7 @@ fn ticks_to_us(line: &[u8], c: Cursor) {
             say::accepted();
             say::long(us);
         }
-        Us::Refused(number) => say::refused(number, 0),
+        Us::Refused(number, index) => say::refused(number, index),
     }
     say::end(true);
 }

@@ -3,11 +3,17 @@
  *
  * Answers. A call that can refuse returns the refusal's number, and 0 where it accepts. It writes `index` always: the
  * refusal's index, or 0. It writes the other words only where it accepts. Slices that it fills stay as lent on a refusal,
- * and past an accepted answer's length; working slices hold 0 after every answer.
+ * and past an accepted answer's length; working slices hold 0 after every answer. Memory that is lent to be written may be
+ * unset before the call.
  *
  * Lending. A slice is a pointer and a length in elements; its pointer may be null only with length 0. A word is a pointer
- * to one number, and is never null. What a call may write overlaps nothing else that it is lent. Pointers to numbers of
- * 8 bytes are aligned; bytes may lie anywhere. A bool is 0 or 1. No call keeps a pointer or allocates memory.
+ * to one number, and is never null. Pointers to numbers of 8 bytes are aligned; bytes may lie anywhere. A bool is 0 or 1.
+ * size_t has 64 bits. No call keeps a pointer or a state, or allocates memory: calls may run in several threads at once,
+ * while none writes what another is lent.
+ *
+ * Overlap. What a call may write overlaps nothing else that it is lent. No proof reaches a call that breaks this: memory
+ * may be corrupted. With one array as both working slices st_video_frame_times_of_moov ends in a segmentation fault;
+ * with its timestamps as the starts st_mcraw_times answers wrong starts.
  *
  * A table: `sources`, ten words each: frames; fps numerator, denominator; creation time present (0, 1), its offset and
  * length in `text`; clock (0 none, 1 no modulus, 2 modulus), its rate's numerator, denominator, its modulus. `segments`,
@@ -21,8 +27,14 @@
  * A map: `words`, five a row: source, source first frame, frame count, out first frame, shift present (0, 1); `shifts`,
  * one a row, 0 where it is absent.
  *
+ * Frame times: `starts`, where each frame starts, in ticks of `scale` a second; `end`, where the last frame ends;
+ * `nominal`, how long a frame is as a rule. Of a moov that is the most frequent duration of all frames, of several the
+ * smallest; of a recording the middle interval, the lower of two.
+ *
  * Refusals. The index is the source in 4 to 7, the segment in 9 to 17, 23 and 24, the later timestamp of the first falling
- * pair in 34, the row in 51, else 0.
+ * pair in 34, the row in 51 (0 for slice lengths or no rows, which are tested first), else 0. Each call names its refusals
+ * in the order of its tests: 4 to 7 source by source, 9 to 17 and 23 with 24 segment by segment, a join's 51 of its first
+ * map and then of its second.
  *  1 a slice length isn't a multiple of its record, the two segment slices disagree, a flag or kind is outside its set,
  *    or a present creation time's range leaves the text
  *  2 over 64 sources or 512 segments
@@ -37,7 +49,8 @@
  * 11 segment: out or source first frame plus count passes 2^64 - 1
  * 12 segment: source end past the source's frames
  * 13 segment: any of the six times negative
- * 14 segment: a start plus its duration passes 2^63 - 1
+ * 14 segment: source start plus duration, or the capture pair, passes 2^63 - 1; tested after 16, out start plus duration
+ *    or its capture pair does
  * 15 segment: out first frame isn't the end before (0 for the first)
  * 16 segment: out start or out capture start isn't the end before; the first is free
  * 17 segment: shift without clock, clock without shift, or a modulus with shift outside 0..modulus
@@ -48,14 +61,14 @@
  * 24 a segment's frame time differs from out start
  * 25 the end isn't near
  * 30 over 16,777,216 bytes or timestamps
- * 31 there is none: no such box, or no frame times to be had
+ * 31 there is none: no such box, no box at the offset, or no frame times to be had
  * 32 lent room too small
  * 33 a start, span or end outside 64 bits
  * 34 timestamps not ascending (equal neighbours are allowed)
  * 35 recording without frames
- * 40 no MTRM box
+ * 40 no MTRM box: no moov, no udta in it, or none in that
  * 41 more than one MTRM box
- * 42 a search range outside the bytes, or starting past its end
+ * 42 a search range outside the bytes, or starting past its end; an offset past the bytes
  * 50 cut range: a >= b, or b past the map
  * 51 map rows malformed, slice lengths that disagree, or no rows
  * 52 over 1,024 rows in or out, or lent room too small
@@ -87,14 +100,15 @@ uint64_t st_ticks_to_us(int64_t ticks, uint64_t scale, int64_t *us, uint64_t *in
 
 /* The frames a..b of a map as a map: each row's overlap, counted from a.
  * Lent: a map, and room for the rows. Writes the rows, rows (how many), index. Refuses: 51, 52, 50, 52.
- * A null pointer only with length 0. */
+ * A null pointer only with length 0; what is written overlaps nothing else. */
 uint64_t st_cut(const uint64_t *words, size_t words_len, const int64_t *shifts, size_t shifts_len, uint64_t a,
                 uint64_t b, uint64_t *out_words, size_t out_words_len, int64_t *out_shifts,
                 size_t out_shifts_len, uint64_t *rows, uint64_t *index);
 
 /* Two maps as one, the second after the first.
- * Lent: two maps, and room for the rows. Writes the rows, rows (how many), index. Refuses: 51, 52, 53, 52.
- * A null pointer only with length 0. */
+ * Lent: two maps, and room for the rows. Writes the rows, rows (how many), index. Refuses: 51 (of the first map, then of the
+ * second), 52, 53, 52.
+ * A null pointer only with length 0; what is written overlaps nothing else. */
 uint64_t st_join(const uint64_t *words, size_t words_len, const int64_t *shifts, size_t shifts_len,
                  const uint64_t *second_words, size_t second_words_len, const int64_t *second_shifts,
                  size_t second_shifts_len, uint64_t *out_words, size_t out_words_len, int64_t *out_shifts,
@@ -102,7 +116,7 @@ uint64_t st_join(const uint64_t *words, size_t words_len, const int64_t *shifts,
 
 /* A map with one row of neighbours that continue: the same source, frames that run on, flag and shift equal.
  * Lent: a map, and room for the rows. Writes the rows, rows (how many), index. Refuses: 51, 52, 52.
- * A null pointer only with length 0. */
+ * A null pointer only with length 0; what is written overlaps nothing else. */
 uint64_t st_merge(const uint64_t *words, size_t words_len, const int64_t *shifts, size_t shifts_len,
                   uint64_t *out_words, size_t out_words_len, int64_t *out_shifts, size_t out_shifts_len,
                   uint64_t *rows, uint64_t *index);
@@ -144,7 +158,7 @@ uint64_t st_validate_times(const uint64_t *sources, size_t sources_len, const ui
  * judged as one frame at the rate of segment 0's source.
  * Lent: a table, the timestamps, two working slices as long as the timestamps or longer (of one timestamp, of any length).
  * Writes both working slices (all 0), frames, index. Refuses: 1 to 17, 30, 35, 34, 33, 32, 35, 33, 20, 22, 23 with 24, 25.
- * A null pointer only with length 0. */
+ * A null pointer only with length 0; what is written overlaps nothing else. */
 uint64_t st_check_mcraw(const uint64_t *sources, size_t sources_len, const uint64_t *segments,
                         size_t segments_len, const int64_t *times, size_t times_len, bool log,
                         const uint8_t *text, size_t text_len, const int64_t *timestamps,
@@ -194,7 +208,7 @@ uint64_t st_segment_of_frame_records(const uint64_t *sources, size_t sources_len
  * (1,000,000,000), the nominal interval and the end; the starts count from the first timestamp.
  * Lent: the timestamps, room for the starts, a working slice; both as long as the timestamps or longer.
  * Writes starts, work (all 0), frames, scale, nominal, end, index. Refuses: 30, 31, 34, 33, 32, 31, 33.
- * A null pointer only with length 0. */
+ * A null pointer only with length 0; what is written overlaps nothing else. */
 uint64_t st_mcraw_times(const int64_t *timestamps, size_t timestamps_len, int64_t *starts, size_t starts_len,
                         int64_t *work, size_t work_len, uint64_t *frames, uint64_t *scale, int64_t *nominal,
                         int64_t *end, uint64_t *index);
@@ -204,7 +218,7 @@ uint64_t st_mcraw_times(const int64_t *timestamps, size_t timestamps_len, int64_
  * Lent: the payload of a moov box, room for the starts, two working slices as long. As many elements as the track has
  * frames are enough for each. Writes starts, both working slices (all 0), frames, scale, nominal, end, index. Refuses:
  * 30, 31, 32, 31, 33.
- * A null pointer only with length 0. */
+ * A null pointer only with length 0; what is written overlaps nothing else. */
 uint64_t st_video_frame_times_of_moov(const uint8_t *moov, size_t moov_len, int64_t *starts,
                                       size_t starts_len, int64_t *work_a, size_t work_a_len, int64_t *work_b,
                                       size_t work_b_len, uint64_t *frames, uint64_t *scale, int64_t *nominal,
@@ -246,7 +260,7 @@ uint64_t st_continues(const uint64_t *sources, size_t sources_len, const uint64_
 
 /* The map of an accepted table: one row a segment, an absent shift as 0.
  * Lent: a table, and room for the rows. Writes the rows, rows (how many), index. Refuses: 1 to 17, 32.
- * A null pointer only with length 0. */
+ * A null pointer only with length 0; what is written overlaps nothing else. */
 uint64_t st_rows_of_table(const uint64_t *sources, size_t sources_len, const uint64_t *segments,
                           size_t segments_len, const int64_t *times, size_t times_len, bool log,
                           const uint8_t *text, size_t text_len, uint64_t *out_words, size_t out_words_len,

@@ -22,31 +22,29 @@ static int failed = 0;
 
 static uint64_t x, y, z, w, at; /* lent words; at is the index */
 static int64_t p, q;
+static uint32_t kind;
 
 static void lend(void) {
     x = y = z = w = at = LENT;
     p = q = LENT;
+    kind = LENT;
 }
 
-/* A call that refuses with a number and leaves the value words as they were. */
-#define REFUSED(number, call)                                                   \
+/* A call that refuses with a number and an index, and leaves the value words as they were. */
+#define REFUSED_AT(number, index, call)                                         \
     do {                                                                        \
         lend();                                                                 \
         IS((call) == (number));                                                 \
-        IS(x == LENT && y == LENT && z == LENT && w == LENT && p == LENT && q == LENT); \
-    } while (0)
-
-#define REFUSED_AT(number, index, call)                                         \
-    do {                                                                        \
-        REFUSED(number, call);                                                  \
         IS(at == (index));                                                      \
+        IS(x == LENT && y == LENT && z == LENT && w == LENT);                   \
+        IS(p == LENT && q == LENT && kind == LENT);                             \
     } while (0)
 
 #define ACCEPTED(call)                                                          \
     do {                                                                        \
         lend();                                                                 \
         IS((call) == 0);                                                        \
-        IS(at == LENT || at == 0);                                              \
+        IS(at == 0);                                                            \
     } while (0)
 
 static void clock_calls(void) {
@@ -58,16 +56,16 @@ static void clock_calls(void) {
     IS(st_is_utc_second((const uint8_t *)leap, 20));
     IS(!st_is_utc_second((const uint8_t *)bad, 20));
 
-    ACCEPTED(st_ticks_to_us(1001, 30000, &p));
+    ACCEPTED(st_ticks_to_us(1001, 30000, &p, &at));
     IS(p == 33367);
-    ACCEPTED(st_ticks_to_us(-1, 2000000, &p));
+    ACCEPTED(st_ticks_to_us(-1, 2000000, &p, &at));
     IS(p == -1);
-    ACCEPTED(st_ticks_to_us(INT64_MIN, 1000000, &p));
+    ACCEPTED(st_ticks_to_us(INT64_MIN, 1000000, &p, &at));
     IS(p == INT64_MIN);
-    REFUSED(23, st_ticks_to_us(INT64_MAX, 1, &p));
-    REFUSED(23, st_ticks_to_us(1, 0, &p));
-    REFUSED(20, st_ticks_to_us(1, 4294967296, &p));
-    REFUSED(20, st_ticks_to_us(INT64_MIN, MOST, &p));
+    REFUSED_AT(23, 0, st_ticks_to_us(INT64_MAX, 1, &p, &at));
+    REFUSED_AT(23, 0, st_ticks_to_us(1, 0, &p, &at));
+    REFUSED_AT(20, 0, st_ticks_to_us(1, 4294967296, &p, &at));
+    REFUSED_AT(20, 0, st_ticks_to_us(INT64_MIN, MOST, &p, &at));
 }
 
 /* Table T of document 01: two sources of 100 and 50 frames at 25 fps, rows (A,10,30,0) and (B,5,20,30). */
@@ -263,42 +261,75 @@ static void map_calls(void) {
     REFUSED_AT(51, 0, st_origin(NULL, 0, NULL, 0, 0, &x, &y, &z, &p, &at));
 }
 
+/* Walks boxes from offset to offset, and into those that hold boxes: how many there are. */
+static int walked(const uint8_t *payload, size_t length) {
+    const char *inner[] = {"trak", "mdia", "minf", "stbl"};
+    uint64_t from = 0, start, size, next = 0;
+    int count = 0;
+    while (at = LENT, st_children(payload, length, from, &kind, &start, &size, &next, &at) == 0) {
+        const uint32_t found = kind;
+        IS(at == 0 && from + 8 <= start && start + size == next && next <= length);
+        for (size_t k = 0; k < COUNT(inner); k++) if (found == code(inner[k])) count += walked(payload + start, size);
+        from = next;
+        count++;
+    }
+    IS(at == 0 && from == length);
+    return count;
+}
+
 static void box_calls(void) {
     uint8_t room[96], *large = calloc(16777217, 1);
+#define FOUND &kind, &x, &y, &z, &at
     for (size_t shift = 0; shift < 8; shift++) {
         uint8_t *file = room + shift; /* free, then moov / udta / MTRM of five bytes; 8 addresses */
         box(file, "free", 3);
         memcpy(box(box(box(file + 11, "moov", 21), "udta", 13), "MTRM", 5), "table", 5);
-        ACCEPTED(st_table_text(file, 40, &x, &y));
+        ACCEPTED(st_table_text(file, 40, &x, &y, &at));
         IS(x == 35 && y == 5 && memcmp(file + x, "table", 5) == 0);
-        ACCEPTED(st_find_box(file, 40, 0, 40, code("moov"), true, &x, &y));
+        ACCEPTED(st_find_box(file, 40, 0, 40, code("moov"), true, &x, &y, &at));
         IS(x == 19 && y == 21);
-        ACCEPTED(st_child(file, 40, code("free"), &x, &y));
+        ACCEPTED(st_children(file, 40, 0, FOUND));
+        IS(kind == code("free") && x == 8 && y == 3 && z == 11);
+        ACCEPTED(st_children(file, 40, 11, FOUND));
+        IS(kind == code("moov") && x == 19 && y == 21 && z == 40);
+        REFUSED_AT(31, 0, st_children(file, 40, 40, FOUND));
+        REFUSED_AT(31, 0, st_children(file, 40, 33, FOUND));
+        REFUSED_AT(31, 0, st_children(file, 39, 11, FOUND));
+        REFUSED_AT(42, 0, st_children(file, 40, 41, FOUND));
+        REFUSED_AT(42, 0, st_children(file, 40, MOST, FOUND));
+        ACCEPTED(st_child(file, 40, code("free"), &x, &y, &at));
         IS(x == 8 && y == 3);
-        ACCEPTED(st_box_size(file + 11, 29, 29, &x, &y));
+        ACCEPTED(st_box_size(file + 11, 29, 29, &x, &y, &at));
         IS(x == 29 && y == 8);
-        REFUSED(31, st_box_size(file + 11, 29, 28, &x, &y));
-        REFUSED(31, st_child(file, 40, code("udta"), &x, &y));
-        REFUSED(40, st_table_text(file, 39, &x, &y));
-        REFUSED(42, st_find_box(file, 40, 0, 41, code("moov"), true, &x, &y));
-        REFUSED(42, st_find_box(file, 40, 40, 39, code("moov"), true, &x, &y));
-        REFUSED(42, st_find_box(file, 40, MOST, MOST, code("moov"), false, &x, &y));
-        REFUSED(42, st_find_box(file, 40, 0, MOST, MOST >> 32, false, &x, &y));
+        REFUSED_AT(31, 0, st_box_size(file + 11, 29, 28, &x, &y, &at));
+        REFUSED_AT(31, 0, st_child(file, 40, code("udta"), &x, &y, &at));
+        REFUSED_AT(40, 0, st_table_text(file, 39, &x, &y, &at));
+        REFUSED_AT(42, 0, st_find_box(file, 40, 0, 41, code("moov"), true, &x, &y, &at));
+        REFUSED_AT(42, 0, st_find_box(file, 40, 40, 39, code("moov"), true, &x, &y, &at));
+        REFUSED_AT(42, 0, st_find_box(file, 40, MOST, MOST, code("moov"), false, &x, &y, &at));
+        REFUSED_AT(42, 0, st_find_box(file, 40, 0, MOST, MOST >> 32, false, &x, &y, &at));
         box(file, "moov", 24);
         box(file + 8, "udta", 16);
         box(file + 16, "MTRM", 0);
         box(file + 24, "MTRM", 0);
-        REFUSED(41, st_table_text(file, 32, &x, &y));
+        REFUSED_AT(41, 0, st_table_text(file, 32, &x, &y, &at));
     }
-    REFUSED(31, st_box_size(NULL, 0, MOST, &x, &y));
-    REFUSED(31, st_child(NULL, 0, 0, &x, &y));
-    REFUSED(31, st_find_box(NULL, 0, 0, 0, 0, true, &x, &y));
-    REFUSED(40, st_table_text(NULL, 0, &x, &y));
+    REFUSED_AT(31, 0, st_box_size(NULL, 0, MOST, &x, &y, &at));
+    REFUSED_AT(31, 0, st_children(NULL, 0, 0, FOUND));
+    REFUSED_AT(42, 0, st_children(NULL, 0, 1, FOUND));
+    REFUSED_AT(42, 0, st_children(NULL, 0, MOST, FOUND));
+    REFUSED_AT(31, 0, st_child(NULL, 0, 0, &x, &y, &at));
+    REFUSED_AT(31, 0, st_find_box(NULL, 0, 0, 0, 0, true, &x, &y, &at));
+    REFUSED_AT(40, 0, st_table_text(NULL, 0, &x, &y, &at));
     if (large) {
-        REFUSED(30, st_box_size(large, 16777217, MOST, &x, &y));
-        REFUSED(30, st_child(large, 16777217, 0, &x, &y));
-        REFUSED(30, st_find_box(large, 16777217, 0, 0, 0, true, &x, &y));
-        REFUSED(30, st_table_text(large, 16777217, &x, &y));
+        REFUSED_AT(30, 0, st_box_size(large, 16777217, MOST, &x, &y, &at));
+        REFUSED_AT(30, 0, st_children(large, 16777217, 0, FOUND));
+        REFUSED_AT(30, 0, st_children(large, 16777217, MOST, FOUND));
+        ACCEPTED(st_children(large, 16777216, 0, FOUND)); /* size 0: to the end */
+        IS(kind == 0 && x == 8 && y == 16777208 && z == 16777216);
+        REFUSED_AT(30, 0, st_child(large, 16777217, 0, &x, &y, &at));
+        REFUSED_AT(30, 0, st_find_box(large, 16777217, 0, 0, 0, true, &x, &y, &at));
+        REFUSED_AT(30, 0, st_table_text(large, 16777217, &x, &y, &at));
     }
     free(large);
 }
@@ -331,28 +362,29 @@ static bool zero(const int64_t *a, size_t count) {
 static void movie_calls(void) {
     uint8_t room[256];
     int64_t starts[4] = {9, 9, 9, 9}, a[3] = {9, 9, 9}, b[3] = {9, 9, 9};
-#define TIMES &x, &y, &p, &q
+#define TIMES &x, &y, &p, &q, &at
     for (size_t shift = 0; shift < 8; shift++) { /* file bytes at 8 addresses */
         uint8_t *moov = room + shift;
         size_t n = make_moov(moov, 25, (const uint32_t[]){2, 1, 1, 2}, 4);
+        IS(walked(moov, n) == 8); /* mvhd, trak, mdia, mdhd, hdlr, minf, stbl, stts */
         a[0] = b[2] = starts[3] = 9;
         ACCEPTED(st_video_frame_times_of_moov(moov, n, starts, 4, a, 3, b, 3, TIMES));
         IS(x == 3 && y == 25 && p == 1 && q == 4 && zero(a, 3) && zero(b, 3));
         IS(starts[0] == 0 && starts[1] == 1 && starts[2] == 2 && starts[3] == 9);
         a[0] = b[0] = starts[0] = 9;
-        REFUSED(32, st_video_frame_times_of_moov(moov, n, starts, 2, a, 3, b, 3, TIMES));
-        REFUSED(32, st_video_frame_times_of_moov(moov, n, starts, 4, a, 3, b, 2, TIMES));
-        REFUSED(32, st_video_frame_times_of_moov(moov, n, NULL, 0, NULL, 0, NULL, 0, TIMES));
+        REFUSED_AT(32, 0, st_video_frame_times_of_moov(moov, n, starts, 2, a, 3, b, 3, TIMES));
+        REFUSED_AT(32, 0, st_video_frame_times_of_moov(moov, n, starts, 4, a, 3, b, 2, TIMES));
+        REFUSED_AT(32, 0, st_video_frame_times_of_moov(moov, n, NULL, 0, NULL, 0, NULL, 0, TIMES));
         IS(starts[0] == 9 && zero(a, 3) && zero(b, 3));
         for (size_t less = 0; less < n; less++) /* every shorter moov */
-            REFUSED(31, st_video_frame_times_of_moov(moov, less, starts, 4, a, 3, b, 3, TIMES));
+            REFUSED_AT(31, 0, st_video_frame_times_of_moov(moov, less, starts, 4, a, 3, b, 3, TIMES));
         n = make_moov(moov, 25, (const uint32_t[]){1, UINT32_MAX, UINT32_MAX, UINT32_MAX}, 4);
-        REFUSED(31, st_video_frame_times_of_moov(moov, n, starts, 4, a, 3, b, 3, TIMES));
+        REFUSED_AT(31, 0, st_video_frame_times_of_moov(moov, n, starts, 4, a, 3, b, 3, TIMES));
         n = make_moov(moov, UINT32_MAX, (const uint32_t[]){2, UINT32_MAX}, 2);
         ACCEPTED(st_video_frame_times_of_moov(moov, n, starts, 4, a, 3, b, 3, TIMES));
         IS(x == 2 && y == UINT32_MAX && p == UINT32_MAX && q == 2 * (int64_t)UINT32_MAX && starts[1] == UINT32_MAX);
     }
-    REFUSED(31, st_video_frame_times_of_moov(NULL, 0, NULL, 0, NULL, 0, NULL, 0, TIMES));
+    REFUSED_AT(31, 0, st_video_frame_times_of_moov(NULL, 0, NULL, 0, NULL, 0, NULL, 0, TIMES));
 }
 
 static void judge_calls(void) {

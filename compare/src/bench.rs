@@ -116,6 +116,7 @@ fn rust_side(case: &Case) -> Work<'_> {
             Box::new(move || { checked(&t); t.validate(&VideoFrames::Times(reach::mcraw_times(black_box(timestamps)).unwrap())).is_ok() as u64 })
         }
         Case::BoxSize { data, remaining } => Box::new(|| reach::box_size(black_box(data), black_box(*remaining)).unwrap().0),
+        Case::Children { payload, at } => Box::new(move || reach::children(&black_box(payload)[*at as usize..]).next().unwrap().2),
         Case::Child { payload, kind } => Box::new(|| reach::child(black_box(payload), &kind.to_be_bytes()).unwrap().len() as u64),
         Case::FindBox { bytes, from, to, kind, text_types } => Box::new(|| reach::find_box(black_box(bytes), *from, *to, &kind.to_be_bytes(), *text_types).unwrap().unwrap().0),
         Case::TableText { file } => Box::new(|| reach::table_places(black_box(file))[0].0),
@@ -184,6 +185,7 @@ fn small() -> Inputs {
         ("1001 at 30000".into(), Case::TicksToUs { ticks: 1001, scale: 30000 }),
         ("-2^62 at 4,294,967,295".into(), Case::TicksToUs { ticks: -(1 << 62), scale: 4_294_967_295 }),
         ("8 bytes".into(), Case::BoxSize { data: boxed(Form::Short, b"free", &[]), remaining: 8 }),
+        ("the last of 1,001 boxes".into(), Case::Children { payload: last.clone(), at: many.len() as u64 }),
         ("the last of 1,001 boxes".into(), Case::Child { payload: last.clone(), kind: code(b"last") }),
         ("the last of 1,001 boxes".into(), Case::FindBox { bytes: last, from: 0, to, kind: code(b"last"), text_types: true }),
         ("after 1,000 boxes of udta".into(), Case::TableText { file }),

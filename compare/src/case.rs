@@ -4,20 +4,20 @@
 use std::{ cell::OnceCell, hash::{ DefaultHasher, Hash, Hasher }, rc::Rc };
 use oracle::segment_table::SegmentTable;
 
-/// The calls, in the order of the table that is printed
+/// The calls, in the order of the table that is printed. A call's random cases go by its place here, so a new one comes last
 #[derive(Clone, Copy, Debug, PartialEq, Eq, PartialOrd, Ord)]
 pub enum Call {
     IsUtcSecond, TicksToUs, Check, SegmentOfFrame, SegmentOfFrameRecords, SegmentOfTimeUs, Continues, RowsOfTable,
     ValidateNoVideo, ValidateConstant, ValidateTimes, BoxSize, Child, FindBox, TableText, VideoFrameTimesOfMoov,
-    McrawTimes, CheckMcraw, Cut, Join, Merge, Origin,
+    McrawTimes, CheckMcraw, Cut, Join, Merge, Origin, Children,
 }
 
 impl Call {
-    pub const ALL: [Call; 22] = [
+    pub const ALL: [Call; 23] = [
         Call::IsUtcSecond, Call::TicksToUs, Call::Check, Call::SegmentOfFrame, Call::SegmentOfFrameRecords,
         Call::SegmentOfTimeUs, Call::Continues, Call::RowsOfTable, Call::ValidateNoVideo, Call::ValidateConstant,
         Call::ValidateTimes, Call::BoxSize, Call::Child, Call::FindBox, Call::TableText, Call::VideoFrameTimesOfMoov,
-        Call::McrawTimes, Call::CheckMcraw, Call::Cut, Call::Join, Call::Merge, Call::Origin,
+        Call::McrawTimes, Call::CheckMcraw, Call::Cut, Call::Join, Call::Merge, Call::Origin, Call::Children,
     ];
 
     /// The name of the call, without the library's prefix
@@ -35,6 +35,7 @@ impl Call {
             Call::ValidateConstant => "validate_constant",
             Call::ValidateTimes => "validate_times",
             Call::BoxSize => "box_size",
+            Call::Children => "children",
             Call::Child => "child",
             Call::FindBox => "find_box",
             Call::TableText => "table_text",
@@ -55,18 +56,17 @@ impl Call {
         match self {
             Call::ValidateNoVideo => 0,
             Call::BoxSize | Call::Child | Call::FindBox | Call::TableText => 2,
-            Call::VideoFrameTimesOfMoov | Call::McrawTimes | Call::Origin => 4,
+            Call::Children | Call::VideoFrameTimesOfMoov | Call::McrawTimes | Call::Origin => 4,
             _ => 1,
         }
     }
 
-    /// Whether the call can refuse; `is_utc_second` answers a bool alone
+    /// Whether the call can refuse, and so answers a number and an index; `is_utc_second` answers a bool alone
     pub fn refuses(self) -> bool { self != Call::IsUtcSecond }
 
-    /// Whether the call answers an index beside its number
-    #[cfg_attr(not(feature = "archive"), allow(dead_code))]
-    pub fn has_index(self) -> bool {
-        !matches!(self, Call::IsUtcSecond | Call::TicksToUs | Call::BoxSize | Call::Child | Call::FindBox | Call::TableText | Call::VideoFrameTimesOfMoov)
+    /// What a value word holds when it is lent: a type of a box is a word of 32 bits
+    pub fn lent(self, k: usize) -> i128 {
+        if self == Call::Children && k == 0 { LENT_VALUE as u32 as i128 } else { LENT_VALUE as i128 }
     }
 }
 
@@ -147,6 +147,7 @@ pub enum Case {
     ValidateConstant { table: Rc<Lent>, frames: u64, num: u64, den: u64 },
     ValidateTimes { table: Rc<Lent>, scale: u64, starts: Vec<i64>, end: i64, nominal: i64 },
     BoxSize { data: Vec<u8>, remaining: u64 },
+    Children { payload: Vec<u8>, at: u64 },
     Child { payload: Vec<u8>, kind: u32 },
     FindBox { bytes: Vec<u8>, from: u64, to: u64, kind: u32, text_types: bool },
     TableText { file: Vec<u8> },
@@ -194,6 +195,7 @@ impl Case {
             Case::ValidateConstant { .. } => Call::ValidateConstant,
             Case::ValidateTimes { .. } => Call::ValidateTimes,
             Case::BoxSize { .. } => Call::BoxSize,
+            Case::Children { .. } => Call::Children,
             Case::Child { .. } => Call::Child,
             Case::FindBox { .. } => Call::FindBox,
             Case::TableText { .. } => Call::TableText,
@@ -223,6 +225,7 @@ impl Case {
             Call::ValidateConstant => Case::ValidateConstant { table, frames: 0, num: 0, den: 0 },
             Call::ValidateTimes => Case::ValidateTimes { table, scale: 0, starts: vec![], end: 0, nominal: 0 },
             Call::BoxSize => Case::BoxSize { data: vec![], remaining: 0 },
+            Call::Children => Case::Children { payload: vec![], at: 0 },
             Call::Child => Case::Child { payload: vec![], kind: 0 },
             Call::FindBox => Case::FindBox { bytes: vec![], from: 0, to: 0, kind: 0, text_types: false },
             Call::TableText => Case::TableText { file: vec![] },
@@ -254,6 +257,7 @@ impl Case {
                 &mut []
             }
             Case::BoxSize { data, remaining } => { parts.extend([Bytes(data), Word(remaining)]); &mut [] }
+            Case::Children { payload, at } => { parts.extend([Bytes(payload), Word(at)]); &mut [] }
             Case::Child { payload, kind } => { parts.extend([Bytes(payload), Kind(kind)]); &mut [] }
             Case::FindBox { bytes, from, to, kind, text_types } => {
                 parts.extend([Bytes(bytes), Word(from), Word(to), Kind(kind), Flag(text_types)]);
@@ -320,7 +324,7 @@ pub fn outcome(case: &Case, answer: &Answer) -> Outcome {
     let mut after = Outcome { number: answer.number, index: answer.index, ..Outcome::default() };
     let accepted = answer.number == 0;
     for k in 0..call.values() {
-        after.values[k] = if accepted { answer.values[k] } else { LENT_VALUE as i128 };
+        after.values[k] = if accepted { answer.values[k] } else { call.lent(k) };
     }
     match case {
         Case::RowsOfTable { room, .. } | Case::Cut { room, .. } | Case::Join { room, .. } | Case::Merge { room, .. } => {

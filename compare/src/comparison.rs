@@ -1,7 +1,7 @@
 //! The comparison of a case, and its count.
 
 use std::{ collections::BTreeMap, time::{ Duration, Instant } };
-use crate::{ case::{ Answer, Call, Case, Outcome, outcome }, generate, ours, random::Random, reference, rust::{ self, Said }, shrink, text };
+use crate::{ case::{ Answer, Call, Case, Outcome, outcome }, generate, ours, random::Random, reference::{ self, MOST_BYTES }, rust::{ self, Said }, shrink, text };
 
 /// How a case differs
 #[derive(Debug)]
@@ -12,7 +12,12 @@ pub enum Difference {
     Library { expected: Box<Outcome>, library: Box<Outcome> },
     /// The library wrote where it may only read
     Written,
+    /// The children that are reached from offset to offset, and the Rust's
+    Walk { rust: Vec<Child>, reached: Vec<Child> },
 }
+
+/// A child's type, and its payload's start and length
+type Child = (i128, i128, i128);
 
 /// Numbers outside the domain of demand 2, the room for an answer aside
 const OUTSIDE: [u64; 6] = [1, 2, 20, 30, 34, 42];
@@ -36,7 +41,34 @@ pub fn compare(case: &Case) -> Result<Answer, Difference> {
         let expected = outcome(case, &reading);
         if library != expected { return Err(Difference::Library { expected: Box::new(expected), library: Box::new(library) }); }
     }
+    walked(case)?;
     Ok(reading)
+}
+
+/// From the first offset on, the children that each answer leads to must be the Rust's, one for one
+fn walked(case: &Case) -> Result<(), Difference> {
+    let Case::Children { payload, at: 0 } = case else { return Ok(()) };
+    if payload.len() > MOST_BYTES { return Ok(()); }
+    let (mut step, mut reached) = (case.clone(), Vec::new());
+    loop {
+        let after = answered(&step);
+        if after.number != 0 { break; }
+        let [kind, start, length, next] = after.values;
+        reached.push((kind, start, length));
+        let Case::Children { at, .. } = &mut step else { break };
+        if next <= *at as i128 { break; }
+        *at = next as u64;
+    }
+    let rust: Vec<Child> = rust::children(payload).into_iter().map(|(kind, start, length)| (kind as i128, start as i128, length as i128)).collect();
+    if reached == rust { Ok(()) } else { Err(Difference::Walk { rust, reached }) }
+}
+
+/// The library's outcome; without it, that of the reading of document 01
+fn answered(case: &Case) -> Outcome {
+    match ours::Lent::of(case) {
+        Some(mut lent) => { let number = lent.call(case); lent.outcome(case, number) }
+        None => outcome(case, &reference::answer(case)),
+    }
 }
 
 /// What was seen of one call
@@ -99,6 +131,7 @@ pub fn show(case: &Case) -> bool {
         Err(Difference::Reading { rust, reading }) => println!("  differs: the Rust says      {}\n           document 01 says   {}", shown(format!("{rust:?}")), shown(format!("{reading:?}"))),
         Err(Difference::Library { expected, library }) => println!("  differs: expected           {}\n           the library says   {}", shown(format!("{expected:?}")), shown(format!("{library:?}"))),
         Err(Difference::Written) => println!("  differs: the library wrote into what it may only read"),
+        Err(Difference::Walk { rust, reached }) => println!("  differs: the Rust's children {}\n           reached are        {}", shown(format!("{rust:?}")), shown(format!("{reached:?}"))),
         Ok(answer) => println!("  agreed: {}", shown(format!("{answer:?}"))),
     }
     compared.is_ok()
@@ -124,6 +157,7 @@ pub fn run(plan: &Plan) -> Run {
 fn turns(call: Call) -> u64 {
     match call {
         Call::IsUtcSecond | Call::TicksToUs | Call::BoxSize | Call::VideoFrameTimesOfMoov => 20_000,
+        Call::Children => 4_000,
         Call::Child | Call::FindBox | Call::TableText | Call::McrawTimes | Call::Check | Call::ValidateConstant | Call::ValidateTimes | Call::CheckMcraw => 10_000,
         Call::Cut | Call::Join | Call::Merge | Call::Origin => 5_000,
         _ => 2_000,

@@ -8,7 +8,7 @@ const PROGRAMS: [(&str, &[Call]); 6] = [
     ("replay_numbers", &[Call::IsUtcSecond, Call::TicksToUs]),
     ("replay_table", &[Call::Check, Call::SegmentOfFrame, Call::SegmentOfTimeUs, Call::Continues, Call::RowsOfTable, Call::SegmentOfFrameRecords]),
     ("replay_judge", &[Call::ValidateNoVideo, Call::ValidateConstant, Call::ValidateTimes, Call::CheckMcraw]),
-    ("replay_boxes", &[Call::BoxSize, Call::Child, Call::FindBox, Call::TableText]),
+    ("replay_boxes", &[Call::BoxSize, Call::Child, Call::FindBox, Call::TableText, Call::Children]),
     ("replay_times", &[Call::VideoFrameTimesOfMoov, Call::McrawTimes]),
     ("replay_maps", &[Call::Cut, Call::Join, Call::Merge, Call::Origin]),
 ];
@@ -27,7 +27,7 @@ const TURNS: usize = 40_000;
 fn wanted(call: Call) -> (usize, usize) {
     match call {
         Call::VideoFrameTimesOfMoov => (150, 40),
-        Call::IsUtcSecond | Call::TicksToUs | Call::BoxSize | Call::Child | Call::FindBox | Call::TableText | Call::McrawTimes => (120, 30),
+        Call::IsUtcSecond | Call::TicksToUs | Call::BoxSize | Call::Children | Call::Child | Call::FindBox | Call::TableText | Call::McrawTimes => (120, 30),
         Call::Cut | Call::Join | Call::Merge | Call::Origin => (100, 20),
         _ => (40, 3),
     }

@@ -58,6 +58,10 @@ fn said(case: &Case) -> Said {
         }),
         Case::BoxSize { data, .. } if data.len() > MOST_BYTES => Said::Outside,
         Case::BoxSize { data, remaining } => place(reach::box_size(data, *remaining)),
+        Case::Children { payload, at } => {
+            if payload.len() > MOST_BYTES || *at > payload.len() as u64 { return Said::Outside; }
+            child_at(payload, *at)
+        }
         Case::Child { payload, .. } if payload.len() > MOST_BYTES => Said::Outside,
         Case::Child { payload, kind } => {
             let found = reach::child(payload, &kind.to_be_bytes());
@@ -78,6 +82,9 @@ fn said(case: &Case) -> Said {
     }
 }
 
+/// All children of a payload
+pub fn children(payload: &[u8]) -> Vec<(u32, u64, u64)> { reach::children(payload).collect() }
+
 fn one(value: u64) -> Said { Said::Answer(Answer::of(&[value as i128])) }
 fn refused(refusal: Refusal) -> Said { Said::Answer(Answer::refused(refusal)) }
 
@@ -85,6 +92,14 @@ fn refused(refusal: Refusal) -> Said { Said::Answer(Answer::refused(refusal)) }
 fn place(found: Option<(u64, u64)>) -> Said {
     match found {
         Some((a, b)) => Said::Answer(Answer::of(&[a as i128, b as i128])),
+        None => refused((31, 0)),
+    }
+}
+
+/// The first child of what follows an offset, or 31. The next one starts where its payload ends
+fn child_at(payload: &[u8], at: u64) -> Said {
+    match reach::children(&payload[at as usize..]).next() {
+        Some((kind, start, length)) => Said::Answer(Answer::of(&[kind as i128, (at + start) as i128, length as i128, (at + start + length) as i128])),
         None => refused((31, 0)),
     }
 }

@@ -22,7 +22,14 @@ pub fn smallest(mut case: Case, differs: impl Fn(&Case) -> bool) -> Case {
 /// The cases that are one step smaller
 fn cases(case: &Case) -> impl Iterator<Item = Case> + '_ {
     let parts = case.clone().parts().len();
-    (0..parts).flat_map(move |k| of_part(case, k))
+    from_offset(case).into_iter().chain((0..parts).flat_map(move |k| of_part(case, k)))
+}
+
+/// The boxes before an offset taken out, and the offset moved with them
+fn from_offset(case: &Case) -> Option<Case> {
+    let Case::Children { payload, at } = case else { return None };
+    let rest = payload.get(usize::try_from(*at).ok()?..)?;
+    (*at > 0).then(|| Case::Children { payload: rest.to_vec(), at: 0 })
 }
 
 /// The case with its part `k` set

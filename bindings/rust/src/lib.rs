@@ -17,7 +17,9 @@
 //! # Ok::<(), segment_table::Refusal>(())
 //! ```
 //!
-//! A call that refuses gives a [`Refusal`], with its number, its index and its words.
+//! A call that refuses gives a [`Refusal`], with its number, its index and its words. All calls may be made in several
+//! threads at once: none keeps anything.
+#![warn(missing_docs)]
 
 pub mod ffi;
 mod map;
@@ -32,7 +34,7 @@ pub use map::{FrameMap, Origin, Row, Rows};
 pub use recording::{mcraw_times, video_frame_times_of_moov, FrameTimes};
 pub use table::{segment_of_frame_records, Clock, Segment, Source, Table};
 pub use video::Video;
-pub use walk::{box_size, child, find_box, table_text, BoxSize};
+pub use walk::{box_size, child, children, find_box, table_text, BoxSize, Children};
 
 use std::fmt;
 
@@ -46,12 +48,15 @@ use std::fmt;
 /// ```
 #[derive(Clone, Copy, Debug, PartialEq, Eq, Hash)]
 pub struct Refusal {
+    /// Which of the paper's refusals it is.
     pub number: u64,
+    /// The source, segment, row or timestamp that is refused, by the number; 0 where there is none.
     pub index: u64,
 }
 
 impl Refusal {
     /// What the number says.
+    #[must_use]
     pub fn words(&self) -> &'static str {
         ffi::REFUSALS.iter().find(|(number, _)| *number == self.number).map_or("no such refusal", |(_, words)| words)
     }
@@ -79,6 +84,7 @@ fn answer<T>(number: u64, index: u64, value: T) -> Result<T, Refusal> {
 /// assert!(segment_table::is_utc_second(b"0000-02-29T00:00:00Z"));
 /// assert!(!segment_table::is_utc_second(b"1900-02-29T00:00:00Z"));
 /// ```
+#[must_use]
 pub fn is_utc_second(bytes: &[u8]) -> bool {
     unsafe { ffi::st_is_utc_second(bytes.as_ptr(), bytes.len()) }
 }
@@ -90,7 +96,7 @@ pub fn is_utc_second(bytes: &[u8]) -> bool {
 /// assert_eq!(segment_table::ticks_to_us(-1, 2_000_000), Ok(-1));
 /// ```
 pub fn ticks_to_us(ticks: i64, scale: u64) -> Result<i64, Refusal> {
-    let mut us = 0;
-    let number = unsafe { ffi::st_ticks_to_us(ticks, scale, &mut us) };
-    answer(number, 0, us)
+    let (mut us, mut index) = (0, 0);
+    let number = unsafe { ffi::st_ticks_to_us(ticks, scale, &mut us, &mut index) };
+    answer(number, index, us)
 }

@@ -8,21 +8,26 @@ const MOST_ROWS: usize = 1024;
 /// A run of frames of one source.
 #[derive(Clone, Copy, Debug, PartialEq, Eq, Hash)]
 pub struct Row {
+    /// The source's number.
     pub source: u64,
     /// The source's frame behind the first one.
     pub source_first: u64,
+    /// How many frames there are, one at least.
     pub count: u64,
     /// The first one's number in the map.
     pub out_first: u64,
-    /// By how many ticks of the source's clock the run was moved.
+    /// The shift, in ticks of the source's clock.
     pub shift: Option<i64>,
 }
 
 /// Where a frame comes from.
 #[derive(Clone, Copy, Debug, PartialEq, Eq, Hash)]
 pub struct Origin {
+    /// The source's number.
     pub source: u64,
+    /// The frame's number there.
     pub frame: u64,
+    /// The shift of the row that it lies in.
     pub shift: Option<i64>,
 }
 
@@ -79,6 +84,7 @@ impl FrameMap {
     }
 
     /// How many frames it has.
+    #[must_use]
     pub fn frames(&self) -> u64 {
         let last = self.rows().last().expect("a map has a row");
         last.out_first + last.count
@@ -90,6 +96,7 @@ impl FrameMap {
     }
 
     /// The rows as they are lent: five words a row, one shift a row.
+    #[must_use]
     pub fn as_words(&self) -> (&[u64], &[i64]) {
         (&self.words, &self.shifts)
     }
@@ -124,6 +131,7 @@ impl FrameMap {
     }
 
     /// The map with one row of neighbours that continue. Every frame keeps its origin.
+    #[must_use]
     pub fn merge(&self) -> FrameMap {
         FrameMap::filled(self.shifts.len(), |ou, os, rows, index| unsafe {
             ffi::st_merge(
@@ -158,6 +166,7 @@ impl<'a> IntoIterator for &'a FrameMap {
 
 /// The rows of a map, in order.
 #[derive(Clone, Debug)]
+#[must_use]
 pub struct Rows<'a> {
     words: &'a [u64],
     shifts: &'a [i64],

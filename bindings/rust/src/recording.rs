@@ -6,7 +6,8 @@ use crate::{answer, ffi, Refusal};
 pub struct FrameTimes {
     /// Ticks a second.
     pub scale: u64,
-    /// How long a frame is as a rule.
+    /// How long a frame is as a rule: of a moov the most frequent duration, of several the smallest; of a recording the
+    /// middle interval.
     pub nominal: i64,
     /// Where the last frame ends.
     pub end: i64,
@@ -51,11 +52,11 @@ pub fn video_frame_times_of_moov(moov: &[u8]) -> Result<FrameTimes, Refusal> {
     let mut room = ROOM.min(moov.len());
     loop {
         let (mut starts, mut a, mut b) = (vec![0; room], vec![0; room], vec![0; room]);
-        let (mut frames, mut scale, mut nominal, mut end) = (0, 0, 0, 0);
+        let (mut frames, mut scale, mut nominal, mut end, mut index) = (0, 0, 0, 0, 0);
         let number = unsafe {
             ffi::st_video_frame_times_of_moov(
                 moov.as_ptr(), moov.len(), starts.as_mut_ptr(), room, a.as_mut_ptr(), room, b.as_mut_ptr(), room,
-                &mut frames, &mut scale, &mut nominal, &mut end,
+                &mut frames, &mut scale, &mut nominal, &mut end, &mut index,
             )
         };
         if number == 32 && room < moov.len() {
@@ -63,6 +64,6 @@ pub fn video_frame_times_of_moov(moov: &[u8]) -> Result<FrameTimes, Refusal> {
             continue;
         }
         starts.truncate(frames as usize);
-        return answer(number, 0, FrameTimes { scale, nominal, end, starts });
+        return answer(number, index, FrameTimes { scale, nominal, end, starts });
     }
 }

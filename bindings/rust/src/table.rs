@@ -4,38 +4,54 @@ use crate::{answer, ffi, FrameMap, Refusal, TrimSegment};
 /// A camera clock: ticks a second as a fraction, and where it wraps.
 #[derive(Clone, Copy, Debug, PartialEq, Eq, Hash)]
 pub struct Clock {
+    /// Ticks a second as a fraction.
     pub rate: (u64, u64),
+    /// How many ticks it counts before it starts again; a clock without one never does.
     pub modulus: Option<u64>,
 }
 
 /// A recording that frames come from.
 #[derive(Clone, Debug, PartialEq, Eq, Hash)]
 pub struct Source {
+    /// How many frames it has.
     pub frames: u64,
     /// Frames a second as a fraction.
     pub fps: (u64, u64),
-    /// `YYYY-MM-DDTHH:MM:SSZ`.
+    /// When it was made, `YYYY-MM-DDTHH:MM:SSZ`.
     pub creation_time: Option<String>,
+    /// The clock that its segments' shifts count in.
     pub clock: Option<Clock>,
 }
 
 /// A run of frames of one source, with its times in microseconds.
 #[derive(Clone, Copy, Debug, Default, PartialEq, Eq, Hash)]
 pub struct Segment {
+    /// The source's number.
     pub source: u64,
+    /// Its first frame in the source.
     pub src_first_frame: u64,
+    /// How many frames it has.
     pub frame_count: u64,
+    /// Its first frame in the output.
     pub out_first_frame: u64,
+    /// Where it starts in the source.
     pub src_start_us: i64,
+    /// Where it starts in the output.
     pub out_start_us: i64,
+    /// How long it is.
     pub duration_us: i64,
+    /// Where its capture starts in the source.
     pub src_capture_start_us: i64,
+    /// Where its capture starts in the output.
     pub out_capture_start_us: i64,
+    /// How long its capture is.
     pub capture_duration_us: i64,
+    /// The shift, in ticks of the source's clock; present where the source has one.
     pub clock_shift: Option<i64>,
 }
 
-/// An accepted segment table.
+/// An accepted segment table. Of what is absent nothing is kept: two tables that differ only in words that are ignored are
+/// equal.
 ///
 /// ```
 /// use segment_table::{Segment, Source, Table};
@@ -140,15 +156,34 @@ impl Table {
         let (mut frames, mut index) = (0, 0);
         let number = unsafe { lent!(st_check, table, &mut frames, &mut index) };
         table.frames = frames;
-        answer(number, index, table)
+        answer(number, index, ())?;
+        table.clean();
+        Ok(table)
+    }
+
+    /// Sets the words of what is absent to 0: no call looks at them, and equality and hash must not.
+    fn clean(&mut self) {
+        for source in self.sources.chunks_exact_mut(10) {
+            if source[3] == 0 { source[4..6].fill(0) } // the creation time's offset and length
+            match source[6] {
+                0 => source[7..10].fill(0), // the clock's rate and modulus
+                1 => source[9] = 0,
+                _ => {}
+            }
+        }
+        for (words, times) in self.segments.chunks_exact(5).zip(self.times.chunks_exact_mut(7)) {
+            if words[4] == 0 { times[6] = 0 } // the shift
+        }
     }
 
     /// How many frames it has.
+    #[must_use]
     pub fn frames(&self) -> u64 {
         self.frames
     }
 
     /// The index of the segment that has a frame; past the last frame, of the last one.
+    #[must_use]
     pub fn segment_of_frame(&self, frame: u64) -> usize {
         let (mut segment, mut index) = (0, 0);
         let number = unsafe { lent!(st_segment_of_frame, self, frame, &mut segment, &mut index) };
@@ -157,6 +192,7 @@ impl Table {
     }
 
     /// The index of the segment that presents a time: before the first one the first, past the last one the last.
+    #[must_use]
     pub fn segment_of_time_us(&self, time: i64) -> usize {
         let (mut segment, mut index) = (0, 0);
         let number = unsafe { lent!(st_segment_of_time_us, self, time, &mut segment, &mut index) };
@@ -165,6 +201,7 @@ impl Table {
     }
 
     /// Whether a segment continues the one before it: same source, source frames that run on, equal shift.
+    #[must_use]
     pub fn continues(&self, segment: usize) -> bool {
         let (mut yes, mut index) = (0, 0);
         let number = unsafe { lent!(st_continues, self, segment as u64, &mut yes, &mut index) };
@@ -173,6 +210,7 @@ impl Table {
     }
 
     /// Its map: one row a segment.
+    #[must_use]
     pub fn map(&self) -> FrameMap {
         FrameMap::filled(self.segments.len() / 5, |ou, os, rows, index| unsafe {
             lent!(st_rows_of_table, self, ou.as_mut_ptr(), ou.len(), os.as_mut_ptr(), os.len(), rows, index)

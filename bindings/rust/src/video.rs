@@ -6,8 +6,13 @@ use crate::{answer, FrameTimes, Refusal, Table};
 pub enum Video<'a> {
     /// There is none.
     Absent,
-    /// So many frames at a constant rate, frames a second as a fraction.
-    Constant { frames: u64, fps: (u64, u64) },
+    /// So many frames at a constant rate.
+    Constant {
+        /// How many frames it has.
+        frames: u64,
+        /// Frames a second, as a fraction.
+        fps: (u64, u64),
+    },
     /// The times of its frames.
     Times(&'a FrameTimes),
 }

@@ -1,11 +1,13 @@
 //! The boxes of an ISO base media file.
 use crate::{answer, ffi, Refusal};
-use std::ops::Range;
+use std::{iter::FusedIterator, ops::Range};
 
 /// A box's size and its header's.
 #[derive(Clone, Copy, Debug, PartialEq, Eq, Hash)]
 pub struct BoxSize {
+    /// The whole box's, its header's bytes among them.
     pub size: u64,
+    /// The header's: 8, or 16 where the size is written in 64 bits.
     pub header: u64,
 }
 
@@ -17,18 +19,66 @@ pub struct BoxSize {
 /// # Ok::<(), segment_table::Refusal>(())
 /// ```
 pub fn box_size(data: &[u8], remaining: u64) -> Result<BoxSize, Refusal> {
-    let (mut size, mut header) = (0, 0);
-    let number = unsafe { ffi::st_box_size(data.as_ptr(), data.len(), remaining, &mut size, &mut header) };
-    answer(number, 0, BoxSize { size, header })
+    let (mut size, mut header, mut index) = (0, 0, 0);
+    let number = unsafe { ffi::st_box_size(data.as_ptr(), data.len(), remaining, &mut size, &mut header, &mut index) };
+    answer(number, index, BoxSize { size, header })
 }
 
-/// The part of the bytes that a call found.
-fn part(bytes: &[u8], call: impl FnOnce(&mut u64, &mut u64) -> u64) -> Result<&[u8], Refusal> {
-    let (mut start, mut length) = (0, 0);
-    let number = call(&mut start, &mut length);
-    answer(number, 0, ())?;
+/// The part of the bytes that a call found: it writes start, length and index.
+fn part(bytes: &[u8], call: impl FnOnce(&mut u64, &mut u64, &mut u64) -> u64) -> Result<&[u8], Refusal> {
+    let (mut start, mut length, mut index) = (0, 0, 0);
+    let number = call(&mut start, &mut length, &mut index);
+    answer(number, index, ())?;
     Ok(&bytes[start as usize..][..length as usize])
 }
+
+/// The child boxes of a box's payload, type and payload of each, in order, up to the first one that doesn't fit. Refuses
+/// 30.
+///
+/// ```
+/// let payload = b"\0\0\0\x0aname42\0\0\0\x08free\0\0\0\x09torn";
+/// let boxes: Vec<_> = segment_table::children(payload)?.collect();
+/// assert_eq!(boxes, [(*b"name", &b"42"[..]), (*b"free", &b""[..])]);
+/// # Ok::<(), segment_table::Refusal>(())
+/// ```
+pub fn children(payload: &[u8]) -> Result<Children<'_>, Refusal> {
+    match box_at(payload, 0) {
+        Err(refusal) if refusal.number != NO_BOX => Err(refusal),
+        _ => Ok(Children { payload, at: 0 }),
+    }
+}
+
+/// The refusal where no box is.
+const NO_BOX: u64 = 31;
+
+/// The box at an offset: its type, its payload, and the offset of the next one.
+fn box_at(payload: &[u8], at: u64) -> Result<([u8; 4], &[u8], u64), Refusal> {
+    let (mut kind, mut next) = (0, 0);
+    let found = part(payload, |start, length, index| unsafe {
+        ffi::st_children(payload.as_ptr(), payload.len(), at, &mut kind, start, length, &mut next, index)
+    })?;
+    Ok((kind.to_be_bytes(), found, next))
+}
+
+/// The child boxes of a payload, which [`children`] gives.
+#[derive(Clone, Debug)]
+#[must_use]
+pub struct Children<'a> {
+    payload: &'a [u8],
+    at: u64,
+}
+
+impl<'a> Iterator for Children<'a> {
+    type Item = ([u8; 4], &'a [u8]);
+
+    fn next(&mut self) -> Option<Self::Item> {
+        let (kind, found, next) = box_at(self.payload, self.at).ok()?;
+        self.at = next;
+        Some((kind, found))
+    }
+}
+
+impl FusedIterator for Children<'_> {}
 
 /// The payload of the first child of a type. Refuses 30, 31.
 ///
@@ -37,8 +87,8 @@ fn part(bytes: &[u8], call: impl FnOnce(&mut u64, &mut u64) -> u64) -> Result<&[
 /// assert_eq!(segment_table::child(b"", *b"name").unwrap_err().number, 31);
 /// ```
 pub fn child(payload: &[u8], kind: [u8; 4]) -> Result<&[u8], Refusal> {
-    part(payload, |start, length| unsafe {
-        ffi::st_child(payload.as_ptr(), payload.len(), u32::from_be_bytes(kind), start, length)
+    part(payload, |start, length, index| unsafe {
+        ffi::st_child(payload.as_ptr(), payload.len(), u32::from_be_bytes(kind), start, length, index)
     })
 }
 
@@ -51,9 +101,9 @@ pub fn child(payload: &[u8], kind: [u8; 4]) -> Result<&[u8], Refusal> {
 /// assert_eq!(segment_table::find_box(file, 0..19, *b"moov", true).unwrap_err().number, 42);
 /// ```
 pub fn find_box(bytes: &[u8], range: Range<u64>, kind: [u8; 4], text_types: bool) -> Result<&[u8], Refusal> {
-    part(bytes, |start, length| unsafe {
+    part(bytes, |start, length, index| unsafe {
         let kind = u32::from_be_bytes(kind);
-        ffi::st_find_box(bytes.as_ptr(), bytes.len(), range.start, range.end, kind, text_types, start, length)
+        ffi::st_find_box(bytes.as_ptr(), bytes.len(), range.start, range.end, kind, text_types, start, length, index)
     })
 }
 
@@ -65,5 +115,5 @@ pub fn find_box(bytes: &[u8], range: Range<u64>, kind: [u8; 4], text_types: bool
 /// assert_eq!(segment_table::table_text(&file[..20]).unwrap_err().number, 40);
 /// ```
 pub fn table_text(file: &[u8]) -> Result<&[u8], Refusal> {
-    part(file, |start, length| unsafe { ffi::st_table_text(file.as_ptr(), file.len(), start, length) })
+    part(file, |start, length, index| unsafe { ffi::st_table_text(file.as_ptr(), file.len(), start, length, index) })
 }

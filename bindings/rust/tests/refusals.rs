@@ -82,6 +82,7 @@ fn numbers() {
 fn boxes() {
     let large = vec![0; 16_777_217];
     refused(30, 0, box_size(&large, 8));
+    refused(30, 0, children(&large));
     refused(30, 0, child(&large, *b"moov"));
     refused(30, 0, find_box(&large, 0..0, *b"moov", true));
     refused(30, 0, table_text(&large));

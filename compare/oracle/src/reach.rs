@@ -8,6 +8,11 @@ pub mod reach {
     pub fn check(table: &SegmentTable) -> bool { table.check().is_ok() }
     pub fn time_us(video: &VideoFrames, frame: u64) -> Option<i64> { video.time_us(frame) }
     pub fn box_size(data: &[u8], remaining: u64) -> Option<(u64, u64)> { super::box_size(data, remaining) }
+    /// The children's types and where their payloads lie
+    pub fn children(payload: &[u8]) -> impl Iterator<Item = (u32, u64, u64)> {
+        let place = |p: &[u8]| p.as_ptr() as u64 - payload.as_ptr() as u64;
+        super::children(payload).map(move |(typ, p)| (u32::from_be_bytes(typ), place(p), p.len() as u64))
+    }
     pub fn child<'a>(payload: &'a [u8], typ: &[u8; 4]) -> Option<&'a [u8]> { super::child(payload, typ) }
     pub fn video_frame_times_of_moov(moov: &[u8]) -> Option<VideoFrameTimes> { super::video_frame_times_of_moov(moov) }
     pub fn mcraw_times(timestamps: &[i64]) -> Option<VideoFrameTimes> { super::mcraw_times(timestamps) }
@@ -28,7 +33,6 @@ pub mod reach {
         let Ok(Some((moov, moov_len))) = find_box(file, 0, size, b"moov", true) else { return Vec::new() };
         let Ok(Some((udta, udta_len))) = find_box(file, moov, moov + moov_len, b"udta", false) else { return Vec::new() };
         let payload = &file[udta as usize..(udta + udta_len) as usize];
-        let place = |p: &[u8]| (udta + (p.as_ptr() as u64 - payload.as_ptr() as u64), p.len() as u64);
-        children(payload).filter(|(t, _)| *t == BOX_TYPE).map(|(_, p)| place(p)).collect()
+        children(payload).filter(|(typ, ..)| typ.to_be_bytes() == BOX_TYPE).map(|(_, start, len)| (udta + start, len)).collect()
     }
 }

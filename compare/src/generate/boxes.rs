@@ -1,7 +1,7 @@
 //! Boxes: sizes, children, searches in a range, and files with an MTRM box.
 
 use super::{ Emit, damaged };
-use crate::{ case::Case, random::Random, reference::boxes::code };
+use crate::{ case::Case, random::Random, reference::boxes::{ code, walk } };
 
 /// How a box says its size
 #[derive(Clone, Copy)]
@@ -57,28 +57,58 @@ pub fn size(r: &mut Random, emit: Emit) {
 const KINDS: [&[u8; 4]; 3] = [b"aaaa", b"bbbb", b"a\x7eb "];
 
 /// Two boxes of every small size and type, cut off at every length; 64-bit sizes; nested boxes that go to the end
-pub fn every_child(emit: Emit) {
+fn every_payload(mut take: impl FnMut(&[u8])) {
     for (one, two) in (0..=20u32).flat_map(|a| (0..=20u32).map(move |b| (a, b))) {
         for kinds in [[0, 1], [1, 0], [1, 1]] {
             let mut bytes = [&one.to_be_bytes()[..], KINDS[kinds[0]], &[9; 12]].concat();
             let at = (one.max(8) as usize).min(20);
             bytes.truncate(at);
             bytes.extend([&two.to_be_bytes()[..], KINDS[kinds[1]], &[9; 12]].concat());
-            for len in 0..=bytes.len() { emit(Case::Child { payload: bytes[..len].to_vec(), kind: code(KINDS[0]) }); }
+            for len in 0..=bytes.len() { take(&bytes[..len]); }
         }
     }
     for size in (0..=40).chain(SIZES) {
         for len in 0..=40 {
             let bytes = [&1u32.to_be_bytes()[..], KINDS[0], &size.to_be_bytes(), &boxed(Form::Short, KINDS[1], &[5; 16])].concat();
-            for kind in [KINDS[0], KINDS[1]] { emit(Case::Child { payload: bytes[..len].to_vec(), kind: code(kind) }); }
+            take(&bytes[..len]);
         }
     }
     let mut nested = Vec::new();
     for _ in 0..40 {
         nested = boxed(Form::ToTheEnd, KINDS[0], &nested);
-        emit(Case::Child { payload: nested.clone(), kind: code(KINDS[0]) });
-        emit(Case::Child { payload: nested.clone(), kind: code(KINDS[1]) });
+        take(&nested);
     }
+}
+
+/// The first child of each of two types of every one of them
+pub fn every_child(emit: Emit) {
+    every_payload(|payload| for kind in [KINDS[0], KINDS[1]] { emit(Case::Child { payload: payload.to_vec(), kind: code(kind) }) });
+}
+
+/// The offsets that a walk of a payload reaches, its end among them where it gets there
+fn reached(payload: &[u8]) -> Vec<u64> {
+    let ends = walk(payload, 0, payload.len()).into_iter().map(|found| found.end as u64);
+    std::iter::once(0).chain(ends).collect()
+}
+
+/// Every one of them at the offsets that a walk reaches, one before and after each, at its end and past it; boxes of every
+/// form at every offset
+pub fn every_offset(emit: Emit) {
+    every_payload(|payload| {
+        let end = payload.len() as u64;
+        let mut at: Vec<u64> = reached(payload).into_iter().flat_map(|at| [at.saturating_sub(1), at, at + 1]).chain([end, end + 1]).collect();
+        at.sort_unstable();
+        at.dedup();
+        for at in at { emit(Case::Children { payload: payload.to_vec(), at }); }
+    });
+    let payload = of_every_form();
+    for at in (0..=payload.len() as u64 + 9).chain(SIZES) { emit(Case::Children { payload: payload.clone(), at }); }
+}
+
+/// Boxes of every form, one of them with a box inside
+fn of_every_form() -> Vec<u8> {
+    let inside = boxed(Form::Short, KINDS[0], &[]);
+    [boxed(Form::Short, KINDS[0], &[1; 3]), boxed(Form::Long, KINDS[1], &[2; 2]), boxed(Form::Short, KINDS[2], &inside), boxed(Form::ToTheEnd, KINDS[0], &[4])].concat()
 }
 
 /// A run of boxes, some of which hold boxes
@@ -99,6 +129,15 @@ fn kind(r: &mut Random, bytes: &[u8]) -> u32 {
     code(r.pick(&KINDS))
 }
 
+/// A run of boxes, good or damaged, from its start, at each offset that a walk reaches, and at any other
+pub fn offsets(r: &mut Random, emit: Emit) {
+    let mut payload = tree(r, 2);
+    if r.one_in(2) { payload = damaged(r, payload); }
+    let end = payload.len() as u64;
+    for at in reached(&payload) { emit(Case::Children { payload: payload.clone(), at }); }
+    for at in [r.below(end + 1), end, end + 1 + r.below(3), r.word()] { emit(Case::Children { payload: payload.clone(), at }); }
+}
+
 pub fn child(r: &mut Random, emit: Emit) {
     let mut payload = tree(r, 2);
     if r.one_in(2) { payload = damaged(r, payload); }
@@ -108,7 +147,7 @@ pub fn child(r: &mut Random, emit: Emit) {
 
 /// Every range of a few boxes
 pub fn every_range(emit: Emit) {
-    let bytes = [boxed(Form::Short, KINDS[0], &[1; 3]), boxed(Form::Long, KINDS[1], &[2; 2]), boxed(Form::Short, KINDS[2], &boxed(Form::Short, KINDS[0], &[])), boxed(Form::ToTheEnd, KINDS[0], &[4])].concat();
+    let bytes = of_every_form();
     for (from, to) in (0..=bytes.len() as u64 + 2).flat_map(|a| (0..=bytes.len() as u64 + 2).map(move |b| (a, b))) {
         for kind in KINDS {
             for text_types in [false, true] { emit(Case::FindBox { bytes: bytes.clone(), from, to, kind: code(kind), text_types }); }

@@ -14,6 +14,7 @@ const TOO_MANY: [usize; 3] = [MOST + 1, MOST + 2, MOST + 4096];
 pub fn cases(call: Call, emit: Emit) {
     match call {
         Call::BoxSize => for len in LENGTHS { sizes(len, emit) },
+        Call::Children => for payload in LENGTHS.into_iter().flat_map(payloads) { offsets(payload, emit) },
         Call::Child => for payload in LENGTHS.into_iter().flat_map(payloads) { emit(Case::Child { payload, kind: code(WANTED) }) },
         Call::FindBox => for len in LENGTHS { ranges(len, emit) },
         Call::TableText => for file in LENGTHS.into_iter().flat_map(files) { emit(Case::TableText { file }) },
@@ -50,6 +51,12 @@ fn payloads(len: usize) -> [Vec<u8>; 5] {
         vec![0; len],
         lengthened([boxed(Form::Short, OTHER, &[]).repeat(len / 8 - 1), last].concat(), len),
     ]
+}
+
+/// The first box, the second, one at the end, and what no box starts at
+fn offsets(payload: Vec<u8>, emit: Emit) {
+    let end = payload.len() as u64;
+    for at in [0, 8, end - 8, end - 1, end, end + 1, u64::MAX] { emit(Case::Children { payload: payload.clone(), at }); }
 }
 
 /// The whole of each of them; ranges that are too long, empty, and turned round

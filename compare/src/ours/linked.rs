@@ -52,6 +52,7 @@ pub type Ready<'a> = Box<dyn FnMut() -> u64 + 'a>;
 
 /// The words and slices that are lent to a call
 pub struct Lent {
+    kind: u32,
     u: [u64; 3],
     i: [i64; 2],
     index: u64,
@@ -64,7 +65,7 @@ impl Lent {
     /// What is lent for a case; none for a case that can't be put to the library
     pub fn of(case: &Case) -> Option<Self> {
         let (value, none) = (LENT_VALUE, [vec![], vec![], vec![]]);
-        let mut lent = Self { u: [value; 3], i: [value as i64; 2], index: value, words: vec![], longs: none, records: vec![] };
+        let mut lent = Self { kind: value as u32, u: [value; 3], i: [value as i64; 2], index: value, words: vec![], longs: none, records: vec![] };
         let rooms: &[usize] = match case {
             Case::RowsOfTable { room, .. } | Case::Cut { room, .. } | Case::Join { room, .. } | Case::Merge { room, .. } => {
                 lent.words = lent_words(room[0]);
@@ -145,20 +146,22 @@ impl Lent {
     }
 
     fn of_the_rest<'a>(&'a mut self, case: &'a Case) -> Ready<'a> {
-        let ([a, b, _], [c, d], [starts, one, two], index) = (&mut self.u, &mut self.i, &mut self.longs, &mut self.index);
+        let ([a, b, next], [c, d], [starts, one, two]) = (&mut self.u, &mut self.i, &mut self.longs);
+        let (found, index) = (&mut self.kind, &mut self.index);
         let rooms = [starts.len(), one.len(), two.len()];
         let (starts, one, two) = (mut_ptr(starts), mut_ptr(one), mut_ptr(two));
         match case {
             Case::IsUtcSecond { bytes } => Box::new(move || { *a = unsafe { st_is_utc_second(ptr(bytes), bytes.len()) } as u64; 0 }),
-            Case::TicksToUs { ticks, scale } => Box::new(move || unsafe { st_ticks_to_us(*ticks, *scale, c) }),
-            Case::BoxSize { data, remaining } => Box::new(move || unsafe { st_box_size(ptr(data), data.len(), *remaining, a, b) }),
-            Case::Child { payload, kind } => Box::new(move || unsafe { st_child(ptr(payload), payload.len(), *kind, a, b) }),
+            Case::TicksToUs { ticks, scale } => Box::new(move || unsafe { st_ticks_to_us(*ticks, *scale, c, index) }),
+            Case::BoxSize { data, remaining } => Box::new(move || unsafe { st_box_size(ptr(data), data.len(), *remaining, a, b, index) }),
+            Case::Children { payload, at } => Box::new(move || unsafe { st_children(ptr(payload), payload.len(), *at, found, a, b, next, index) }),
+            Case::Child { payload, kind } => Box::new(move || unsafe { st_child(ptr(payload), payload.len(), *kind, a, b, index) }),
             Case::FindBox { bytes, from, to, kind, text_types } => {
-                Box::new(move || unsafe { st_find_box(ptr(bytes), bytes.len(), *from, *to, *kind, *text_types, a, b) })
+                Box::new(move || unsafe { st_find_box(ptr(bytes), bytes.len(), *from, *to, *kind, *text_types, a, b, index) })
             }
-            Case::TableText { file } => Box::new(move || unsafe { st_table_text(ptr(file), file.len(), a, b) }),
+            Case::TableText { file } => Box::new(move || unsafe { st_table_text(ptr(file), file.len(), a, b, index) }),
             Case::VideoFrameTimesOfMoov { moov, .. } => Box::new(move || unsafe {
-                st_video_frame_times_of_moov(ptr(moov), moov.len(), starts, rooms[0], one, rooms[1], two, rooms[2], a, b, c, d)
+                st_video_frame_times_of_moov(ptr(moov), moov.len(), starts, rooms[0], one, rooms[1], two, rooms[2], a, b, c, d, index)
             }),
             Case::McrawTimes { timestamps, .. } => Box::new(move || unsafe {
                 st_mcraw_times(ptr(timestamps), timestamps.len(), starts, rooms[0], one, rooms[1], a, b, c, d, index)
@@ -173,11 +176,12 @@ impl Lent {
         let (u, i) = (self.u.map(|u| u as i128), self.i.map(|i| i as i128));
         let values = match call {
             Call::TicksToUs => [i[0], 0, 0, 0],
+            Call::Children => [self.kind as i128, u[0], u[1], u[2]],
             Call::VideoFrameTimesOfMoov | Call::McrawTimes => [u[0], u[1], i[0], i[1]],
             Call::Origin => [u[0], u[1], u[2], i[0]],
             _ => [u[0], u[1], u[2], 0],
         };
-        let mut after = Outcome { number, index: if call.has_index() { self.index } else { 0 }, words: self.words, longs: self.longs, ..Outcome::default() };
+        let mut after = Outcome { number, index: if call.refuses() { self.index } else { 0 }, words: self.words, longs: self.longs, ..Outcome::default() };
         after.values[..call.values()].copy_from_slice(&values[..call.values()]);
         after
     }

@@ -34,17 +34,17 @@ pub fn box_size(data: &[u8], remaining: u64) -> Result<(u64, u64), Refusal> {
     sized(data, remaining).ok_or((31, 0))
 }
 
-/// The boxes of `bytes[from..to]` in order, up to the first header that isn't whole or size that doesn't fit
+/// The box at the start of `bytes[at..to]`; none where its header isn't whole or its size doesn't fit
+fn box_at(bytes: &[u8], at: usize, to: usize) -> Option<Box> {
+    let rest = &bytes[at..to];
+    if rest.len() < 8 { return None; }
+    let (size, header) = sized(rest, rest.len() as u64)?;
+    Some(Box { kind: number(rest, 4, 4)? as u32, start: at + header as usize, end: at + size as usize })
+}
+
+/// The boxes of `bytes[from..to]` in order, up to the first that isn't whole
 pub fn walk(bytes: &[u8], from: usize, to: usize) -> Vec<Box> {
-    let mut found = Vec::new();
-    let mut at = from;
-    while to - at >= 8 {
-        let rest = &bytes[at..to];
-        let Some((size, header)) = sized(rest, rest.len() as u64) else { break };
-        found.push(Box { kind: number(rest, 4, 4).unwrap() as u32, start: at + header as usize, end: at + size as usize });
-        at += size as usize;
-    }
-    found
+    std::iter::successors(box_at(bytes, from, to), |found| box_at(bytes, found.end, to)).collect()
 }
 
 /// The first box of a type in the range; with `text_types` the search stops at a type with a byte outside 20..7E hex
@@ -58,6 +58,15 @@ fn first(bytes: &[u8], from: usize, to: usize, kind: u32, text_types: bool) -> O
 
 /// The place of a payload: start and length
 fn place(found: Box) -> (u64, u64) { (found.start as u64, (found.end - found.start) as u64) }
+
+/// The box at an offset: its type, where its payload lies, and where the next one starts
+pub fn children(payload: &[u8], at: u64) -> Result<(u32, u64, u64, u64), Refusal> {
+    if payload.len() > MOST_BYTES { return Err((30, 0)); }
+    if at > payload.len() as u64 { return Err((42, 0)); }
+    let found = box_at(payload, at as usize, payload.len()).ok_or((31, 0))?;
+    let (start, length) = place(found);
+    Ok((found.kind, start, length, found.end as u64))
+}
 
 pub fn child(payload: &[u8], kind: u32) -> Result<(u64, u64), Refusal> {
     if payload.len() > MOST_BYTES { return Err((30, 0)); }

@@ -44,6 +44,10 @@ fn answered(case: &Case) -> Result<Answer, Refusal> {
             one(validate::times(&Table::checked(&table.table)?, *scale, starts, *end, *nominal)?)
         }
         Case::BoxSize { data, remaining } => two(boxes::box_size(data, *remaining)?),
+        Case::Children { payload, at } => {
+            let (kind, start, length, next) = boxes::children(payload, *at)?;
+            Answer::of(&[kind as i128, start as i128, length as i128, next as i128])
+        }
         Case::Child { payload, kind } => two(boxes::child(payload, *kind)?),
         Case::FindBox { bytes, from, to, kind, text_types } => two(boxes::find_box(bytes, *from, *to, *kind, *text_types)?),
         Case::TableText { file } => two(boxes::table_text(file)?),

@@ -69,7 +69,8 @@ pub extern "C" fn st_cut(
 }
 
 // Two maps as one, the second after the first.
-// Lent: two maps, and room for the rows. Writes the rows, rows (how many), index. Refuses: 51, 52, 53, 52.
+// Lent: two maps, and room for the rows. Writes the rows, rows (how many), index. Refuses: 51 (of the first map, then of the
+// second), 52, 53, 52.
 #[no_mangle]
 pub extern "C" fn st_join(
     words: &[u64],

@@ -3,11 +3,17 @@
 //
 // Answers. A call that can refuse returns the refusal's number, and 0 where it accepts. It writes `index` always: the
 // refusal's index, or 0. It writes the other words only where it accepts. Slices that it fills stay as lent on a refusal,
-// and past an accepted answer's length; working slices hold 0 after every answer.
+// and past an accepted answer's length; working slices hold 0 after every answer. Memory that is lent to be written may be
+// unset before the call.
 //
 // Lending. A slice is a pointer and a length in elements; its pointer may be null only with length 0. A word is a pointer
-// to one number, and is never null. What a call may write overlaps nothing else that it is lent. Pointers to numbers of
-// 8 bytes are aligned; bytes may lie anywhere. A bool is 0 or 1. No call keeps a pointer or allocates memory.
+// to one number, and is never null. Pointers to numbers of 8 bytes are aligned; bytes may lie anywhere. A bool is 0 or 1.
+// size_t has 64 bits. No call keeps a pointer or a state, or allocates memory: calls may run in several threads at once,
+// while none writes what another is lent.
+//
+// Overlap. What a call may write overlaps nothing else that it is lent. No proof reaches a call that breaks this: memory
+// may be corrupted. With one array as both working slices st_video_frame_times_of_moov ends in a segmentation fault;
+// with its timestamps as the starts st_mcraw_times answers wrong starts.
 //
 // A table: `sources`, ten words each: frames; fps numerator, denominator; creation time present (0, 1), its offset and
 // length in `text`; clock (0 none, 1 no modulus, 2 modulus), its rate's numerator, denominator, its modulus. `segments`,
@@ -21,8 +27,14 @@
 // A map: `words`, five a row: source, source first frame, frame count, out first frame, shift present (0, 1); `shifts`,
 // one a row, 0 where it is absent.
 //
+// Frame times: `starts`, where each frame starts, in ticks of `scale` a second; `end`, where the last frame ends;
+// `nominal`, how long a frame is as a rule. Of a moov that is the most frequent duration of all frames, of several the
+// smallest; of a recording the middle interval, the lower of two.
+//
 // Refusals. The index is the source in 4 to 7, the segment in 9 to 17, 23 and 24, the later timestamp of the first falling
-// pair in 34, the row in 51, else 0.
+// pair in 34, the row in 51 (0 for slice lengths or no rows, which are tested first), else 0. Each call names its refusals
+// in the order of its tests: 4 to 7 source by source, 9 to 17 and 23 with 24 segment by segment, a join's 51 of its first
+// map and then of its second.
 //  1 a slice length isn't a multiple of its record, the two segment slices disagree, a flag or kind is outside its set,
 //    or a present creation time's range leaves the text
 //  2 over 64 sources or 512 segments
@@ -37,7 +49,8 @@
 // 11 segment: out or source first frame plus count passes 2^64 - 1
 // 12 segment: source end past the source's frames
 // 13 segment: any of the six times negative
-// 14 segment: a start plus its duration passes 2^63 - 1
+// 14 segment: source start plus duration, or the capture pair, passes 2^63 - 1; tested after 16, out start plus duration
+//    or its capture pair does
 // 15 segment: out first frame isn't the end before (0 for the first)
 // 16 segment: out start or out capture start isn't the end before; the first is free
 // 17 segment: shift without clock, clock without shift, or a modulus with shift outside 0..modulus
@@ -48,14 +61,14 @@
 // 24 a segment's frame time differs from out start
 // 25 the end isn't near
 // 30 over 16,777,216 bytes or timestamps
-// 31 there is none: no such box, or no frame times to be had
+// 31 there is none: no such box, no box at the offset, or no frame times to be had
 // 32 lent room too small
 // 33 a start, span or end outside 64 bits
 // 34 timestamps not ascending (equal neighbours are allowed)
 // 35 recording without frames
-// 40 no MTRM box
+// 40 no MTRM box: no moov, no udta in it, or none in that
 // 41 more than one MTRM box
-// 42 a search range outside the bytes, or starting past its end
+// 42 a search range outside the bytes, or starting past its end; an offset past the bytes
 // 50 cut range: a >= b, or b past the map
 // 51 map rows malformed, slice lengths that disagree, or no rows
 // 52 over 1,024 rows in or out, or lent room too small

@@ -1,5 +1,4 @@
 // The lines of standard input, of which one piece at a time is held.
-use libc::STDIN_FILENO;
 ghost use Prim.Native.Nat.{_≤_};
 ghost use lib.ListN.{length};
 
@@ -54,14 +53,19 @@ fn to_front(text: &mut [u8], from: usize, held: usize)
     }
 }
 
-// The bytes from a place on stay, and more are read after them: how many are held then.
+// The bytes from a place on stay, and more are read after them: how many are held then. Where a read fails that is said, and none are: what was cut off is no case.
 fn refilled(text: &mut [u8], from: usize, held: usize) -> usize
     requires { ⌜ (from ≤ held) × (held ≤ length (now text)) ⌝ }
     ensures { λ r. ⌜ r ≤ length (now (text .exit)) ⌝ }
 {
     to_front(text, from, held);
     let kept = held - from;
-    kept + io::read_full(STDIN_FILENO, &mut text[kept..])
+    let more = reading::fill(&mut text[kept..]);
+    if more.failed {
+        reading::say_failed();
+        return 0;
+    }
+    kept + more.held
 }
 
 // The line after the one at hand. One that is longer than the piece comes in parts.

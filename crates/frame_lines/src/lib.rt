@@ -4,10 +4,10 @@ use boxes::find_box_place;
 use boxes::read::code;
 use frame_times::FrameTimes;
 use frame_times::video_frame_times_of_moov;
-use libc::STDIN_FILENO;
 use printing::number;
 use printing::signed;
 use printing::text;
+use reading::End;
 ghost use Rattle.frame_times.specs.Times.{Answered, room};
 ghost use Rattle.frame_lines.specs.Files.{fileTimes};
 
@@ -97,21 +97,15 @@ fn print_file(file: &[u8]) {
     }
 }
 
-// Whether a byte is left on standard input.
-fn has_more() -> bool {
-    let mut byte = [0u8; 1];
-    io::read_full(STDIN_FILENO, &mut byte) != 0
-}
-
-// The program.
+// The program. Of a file that can't be read to its end it says just that: what was read of it has no frame times.
 pub fn run() {
-    let mut file = [0u8; 32768];
-    let n = io::read_full(STDIN_FILENO, &mut file);
-    if n == FILE_BYTES {
-        if has_more() {
-            print_refusal(TOO_LONG);
-            return;
-        }
+    let mut file = [0u8; FILE_BYTES];
+    let input = reading::read_input(&mut file);
+    let n = input.held;
+    let end = input.end;
+    match end {
+        End::Within => print_file(&file[..n]),
+        End::Past => print_refusal(TOO_LONG),
+        End::Failed => reading::say_failed(),
     }
-    print_file(&file[..n]);
 }

@@ -1,2 +1,4 @@
 pub mod Laid
 pub mod Known
+pub mod Calling
+pub mod Lent

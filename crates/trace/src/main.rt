@@ -6,19 +6,12 @@
 //     merge                                  one row of neighbours that continue
 //     origin FRAME                           where a frame comes from
 //
-// Every map goes through the proved calls; this program only holds the rows and prints.
-use libc::STDIN_FILENO;
-use maps::MOST_ROWS;
+// Every map goes through the proved calls, and every refusal is theirs, that of a 1,025th row too; this program only holds the rows and prints.
 use maps::Mapped;
+use reading::End;
 use steps::Step;
 ghost use Prim.Native.Nat.{_≤_};
 ghost use lib.ListN.{length};
-
-// The bytes of input that are held.
-const ROOM: usize = 65536;
-
-// 2^64 - 1.
-const LARGEST: u64 = 0xffff_ffff_ffff_ffff;
 
 // How many rows the map has, how many the second map of a join, and whether a join waits for its rows.
 struct Held {
@@ -130,7 +123,6 @@ fn head_row(source: u64, first: u64, count: u64, flag: u64, shift: i64) {
 // A row goes to the second map of a join that waits for its rows, else to the map.
 fn do_row(
     h: Held,
-    line: usize,
     row: &[u64],
     shift: &[i64],
     u: &mut [u64],
@@ -141,20 +133,12 @@ fn do_row(
     let rows = h.rows;
     let second = h.second;
     if h.joining {
-        if second == MOST_ROWS {
-            maptext::fault(line, b"too many rows");
-            return h;
-        }
         let k = add(second, row, shift, v, t);
         return Held {
             rows: rows,
             second: k,
             joining: true,
         };
-    }
-    if rows == MOST_ROWS {
-        maptext::fault(line, b"too many rows");
-        return h;
     }
     let k = add(rows, row, shift, u, s);
     Held {
@@ -253,7 +237,7 @@ fn act(
             head_row(source, first, count, flag, shift);
             let row = [source, first, count, 0, flag];
             let z = [shift];
-            do_row(h, line, &row, &z, u, s, v, t)
+            do_row(h, &row, &z, u, s, v, t)
         }
         _ => {
             let settled = settle(h, u, s, v, t);
@@ -323,40 +307,24 @@ fn lesson(text: &[u8]) -> usize
     run(text, &mut u, &mut s, &mut v, &mut t)
 }
 
-// Whether there is more input: a part of it is read.
-fn more() -> bool {
-    let mut buffer = io::large_buffer();
-    io::read_full(STDIN_FILENO, &mut buffer) != 0
-}
-
-// Reads the rest of the input.
-fn drain() {
-    let mut turns: u64 = LARGEST;
-    while 0 < turns {
-        if !more() {
-            return;
-        }
-        turns -= 1;
-    }
-}
-
-// The whole lines of an input that is too long, and that it is; the rest of it is read.
+// The whole lines of an input that is too long, and that it is. What comes after them is left unread: an input may never end.
 fn too_long(text: &[u8]) {
     let k = whole_lines(text);
     let lines = lesson(&text[..k]);
     maptext::fault(lines + 1, b"the input is too long");
-    drain();
 }
 
-// The lines of standard input.
+// The lines of standard input; of one that can't be read to its end, none.
 fn main() {
     let mut file = io::large_buffer();
-    let n = io::read_full(STDIN_FILENO, &mut file);
-    if n == ROOM {
-        if more() {
-            too_long(&file[..n]);
-            return;
+    let input = reading::read_input(&mut file);
+    let n = input.held;
+    let end = input.end;
+    match end {
+        End::Within => {
+            lesson(&file[..n]);
         }
+        End::Past => too_long(&file[..n]),
+        End::Failed => reading::say_failed(),
     }
-    lesson(&file[..n]);
 }

@@ -15,4 +15,4 @@ pub too-long-spec : {M : Type 1} → statement M
 too-long-spec =
     tie.close (tie.spec
     (λ c κs. search needs) slice-aggregate-lesson (λ c κs. search needs) add-fault (λ c. search needs) (λ c κs. search needs)
-    (λ c κs. search needs) (λ c. search needs))
+    (λ c. search needs))

@@ -22,7 +22,7 @@ struct Line {
 pub fn run(runs: usize) -> bool {
     println!("| call | input | the Rust, µs | library, µs | library / Rust |\n|---|---|---:|---:|---:|");
     let inputs = small().into_iter().chain(tables()).chain(maps());
-    let lines: Vec<Line> = inputs.chain(moovs()).chain(recordings()).map(|(input, case)| measured(input, &case, runs)).collect();
+    let lines: Vec<Line> = inputs.chain(moovs()).chain(recordings()).chain(slow()).map(|(input, case)| measured(input, &case, runs)).collect();
     for line in lines.iter().filter(|line| !line.accepted) { eprintln!("compare: {}, {}: not accepted", line.call.name(), line.input); }
     let fast = !ours::LINKED || records(&lines);
     fast && lines.iter().all(|line| line.accepted)
@@ -247,12 +247,17 @@ fn maps() -> Inputs {
     inputs
 }
 
-/// A moov of `frames` frames, with as many bytes again as files have for the frames' sizes; where frames have offsets, an
-/// edit starts at the first one's
+/// A moov of frames that last 512 ticks; where they have offsets, an edit starts at the first one's
 fn moov(frames: u32, offsets: Option<Vec<(u32, i32)>>) -> Case {
-    let head = |scale| Head { version: 0, scale };
     let elst = offsets.as_ref().map(|list| Edits { version: 0, list: vec![(0, list[0].1 as i64, 0x10000)] });
-    let plan = Moov { movie: head(1000), media: head(12800), handler: *b"vide", stts: vec![(frames, 512)], ctts: offsets, elst };
+    lasting(vec![(frames, 512)], offsets, elst)
+}
+
+/// A moov of frames that last so long, with as many bytes again as files have for the frames' sizes
+fn lasting(stts: Vec<(u32, u32)>, ctts: Option<Vec<(u32, i32)>>, elst: Option<Edits>) -> Case {
+    let head = |scale| Head { version: 0, scale };
+    let frames: u32 = stts.iter().map(|entry| entry.0).sum();
+    let plan = Moov { movie: head(1000), media: head(12800), handler: *b"vide", stts, ctts, elst };
     let moov = plan.in_order(&boxed(Form::Short, b"free", &vec![0; frames as usize * 4]));
     Case::VideoFrameTimesOfMoov { moov, room: [frames as usize; 3] }
 }
@@ -265,6 +270,25 @@ fn moovs() -> Inputs {
         inputs.push((format!("{frames} frames, I"), moov(frames, None)));
         inputs.push((format!("{frames} frames, IPP"), moov(frames, Some(vec![(frames, 1024)]))));
         inputs.push((format!("{frames} frames, IBBP"), moov(frames, Some(reordered))));
+    }
+    inputs
+}
+
+/// What the library is slow at: times that fall, many different durations, and a recording with a pause of an hour
+fn slow() -> Inputs {
+    let mut inputs = Inputs::new();
+    let mut r = Random::new(5);
+    for n in [100u32, 10_000, 1_000_000] {
+        let falling = (0..n).map(|k| (1, (n - k) as i32 * 1024)).collect();
+        inputs.push((format!("{n} frames, times that fall"), lasting(vec![(n, 512)], Some(falling), None)));
+        let durations = (0..n).map(|_| (1, 1 + r.below(1 << 20) as u32)).collect();
+        inputs.push((format!("{n} frames, any durations"), lasting(durations, None, None)));
+        let mut left = n / 2;
+        let timestamps = recording(n as usize, || {
+            left = left.wrapping_sub(1);
+            if left == 0 { 3_600_000_000_000 } else { 40_000_000 + r.below(2000) }
+        });
+        inputs.push((format!("{n} timestamps, one pause"), Case::McrawTimes { timestamps, room: [n as usize; 2] }));
     }
     inputs
 }

@@ -1,33 +1,41 @@
 //! Real files: the frame times of each, by the Rust, by the library, and by ffprobe.
 
-use std::{ fs, io, path::{ Path, PathBuf }, process::Command };
+use std::{ fs, io, path::Path, process::Command };
 use crate::{ case::{ Answer, Case }, comparison, generate::boxes::{ Form, boxed }, ours, reference::boxes::{ code, walk } };
 
 /// Compares every file of a folder and prints a table; whether the library and the Rust agree on all
 pub fn compare(folder: &Path) -> io::Result<bool> {
     with_a_wide_moov(folder)?;
-    let mut files: Vec<PathBuf> = fs::read_dir(folder)?.collect::<io::Result<Vec<_>>>()?.into_iter().map(|e| e.path()).collect();
-    files.retain(|f| f.extension().is_some_and(|e| e == "mp4" || e == "mov"));
-    files.sort();
-    println!("| file | frames | timescale | nominal | end | {} | ffprobe's packets | ffprobe's frames |", if ours::LINKED { "library and Rust" } else { "Rust" });
-    println!("|---|---:|---:|---:|---:|---|---|---|");
+    println!("| file | what it is | frames | timescale | nominal | end | {} | ffprobe's packets | ffprobe's frames |", if ours::LINKED { "library and Rust" } else { "Rust" });
+    println!("|---|---|---:|---:|---:|---:|---|---|---|");
     let mut agreed = true;
-    for file in files { agreed &= line(&file)?; }
+    for (name, what) in files(folder)? { agreed &= line(&folder.join(&name), &format!("`{name}` | {what}"))?; }
     Ok(agreed)
 }
 
-/// One line of the table
-fn line(path: &Path) -> io::Result<bool> {
-    let name = path.file_name().unwrap_or_default().to_string_lossy().into_owned();
+/// The files of a folder, and what each is: those that compare/media lists there, in its order; without a list all, by name
+fn files(folder: &Path) -> io::Result<Vec<(String, String)>> {
+    if let Ok(list) = fs::read_to_string(folder.join("files")) {
+        return Ok(list.lines().filter_map(|l| l.split_once('\t')).map(|(name, what)| (name.into(), what.into())).collect());
+    }
+    let mut names = Vec::new();
+    for entry in fs::read_dir(folder)? { names.push(entry?.file_name().to_string_lossy().into_owned()); }
+    names.retain(|name| name.ends_with(".mp4") || name.ends_with(".mov"));
+    names.sort();
+    Ok(names.into_iter().map(|name| (name, String::new())).collect())
+}
+
+/// One line of the table, which begins so
+fn line(path: &Path, begins: &str) -> io::Result<bool> {
     let (answer, agrees) = answered(&fs::read(path)?);
     let said = if agrees { "same" } else { "differ" };
     let (packets, frames) = (probe(path, PACKETS)?, probe(path, FRAMES)?);
     if answer.number != 0 {
-        println!("| `{name}` | | | | | {said}, refused {} | {} packets | {} frames |", answer.number, packets.len(), frames.len());
+        println!("| {begins} | | | | | {said}, refused {} | {} packets | {} frames |", answer.number, packets.len(), frames.len());
         return Ok(agrees);
     }
     let [count, scale, nominal, end] = answer.values;
-    println!("| `{name}` | {count} | {scale} | {nominal} | {end} | {said} | {} | {} |", beside(&answer.longs, &packets), beside(&answer.longs, &frames));
+    println!("| {begins} | {count} | {scale} | {nominal} | {end} | {said} | {} | {} |", beside(&answer.longs, &packets), beside(&answer.longs, &frames));
     Ok(agrees)
 }
 

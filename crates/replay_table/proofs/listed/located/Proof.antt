@@ -171,7 +171,7 @@ module _ {M : Type 1} (𝓤 : URA M) (H : Heap 𝓤) (A : Atoms 𝓤) (W : Given
       nothing ! $ owned ! u64 (Is u64) (uint-makes 𝓤 H A W w64) fr _ (refl, gf) $ fjoin ! $ owned ! bool (Is bool) (bool-makes 𝓤 H A W) lg _ refl $ fjoin ! $ owned ! u64 (Is u64) (uint-makes 𝓤 H A W w64) n _ (refl, gn) $ fjoin ! $
       move ! (2 ∷ 0 ∷ []) $ fjoin ! $ move ! (2 ∷ 0 ∷ []) $ fjoin ! $ move ! (2 ∷ 0 ∷ []) $ fjoin ! $ frame ! $ done !
 
-  module _ (𝓣 : Tables 𝓤 H) (known : Triple 𝓤 (𝓣 .C #lookup) (Lookup 𝓤 H A mem run)) (e : length xs ≡ 9) (l : n ≤ 9) (gn : n < 2 ^ 64) (gf : fr < 2 ^ 64) (l₀ l₁ l₂ l₃ l₄ l₅ l₆ l₇ l₈ l₉ : ℕ) (α : ℕ) (γ : GName) where
+  module _ (𝓣 : Tables 𝓤 H) (e : length xs ≡ 9) (l : n ≤ 9) (gn : n < 2 ^ 64) (gf : fr < 2 ^ 64) (l₀ l₁ l₂ l₃ l₄ l₅ l₆ l₇ l₈ l₉ : ℕ) (α : ℕ) where
     abbrev En : Env 𝓤 H
     En = (S′.mir, l₀) ∷ (sourcesTy, l₁) ∷ (textTy, l₂) ∷ (listTy, l₃) ∷ (word, l₄) ∷ (tyBool, l₅) ∷ (word, l₆) ∷ (listTy, l₇) ∷ (listRefTy, l₈) ∷ (frontTy, l₉) ∷ []
 
@@ -218,7 +218,7 @@ module _ {M : Type 1} (𝓤 : URA M) (H : Heap 𝓤) (A : Atoms 𝓤) (W : Given
       calls-lookup 𝓤 H A W mem run κ₀ κ₁ (α ∷ []) q₀ q₁ fullShare src txt (front xs n l₇ γ) (sliceVal (l₇, 0) n) lg fr ! (fmOf 𝓤 H (W .laws) 𝓣) known gf
       (and-then ! (load ! (from ! (stop !)) (look ! 20 refl)) (and-then ! (load ! (from ! (stop !)) (look ! 18 refl)) (and-then ! (load ! (from ! (stop !)) (look ! 5 refl)) (and-then ! (load ! (from ! (stop !)) (look ! 12 refl)) (and-then ! (load ! (from ! (stop !)) (look ! 10 refl)) (no-more !)))))) (λ u r eq is.
       land ! (from ! (stop !)) (init ! 23 refl (EL.lawful S.the-type S′.the-laws 𝓤 H A W tt .typed r _ is .0)) $
-      returned 𝓣 known e l gn gf l₀ l₁ l₂ l₃ l₄ l₅ l₆ l₇ l₈ l₉ α γ r u eq)))))))))))))
+      returned 𝓣 e l gn gf l₀ l₁ l₂ l₃ l₄ l₅ l₆ l₇ l₈ l₉ α r u eq)))))))))))))
 
 module _ {M : Type 1} (𝓤 : URA M) (H : Heap 𝓤) (A : Atoms 𝓤) (W : Given 𝓤 H A) (mem : Memory → SProp 𝓤) (run : Routine → Fun 𝓤) (𝓣 : Tables 𝓤 H) where
   located-walks : Triple 𝓤 (𝓣 .C #lookup) (Lookup 𝓤 H A mem run) → Walks 𝓤 H A f.ended stayed (WpFn 𝓤 H (𝓣 .C) (𝓣 .Λ) code.function) (f.clauses 𝓤 H A mem run)

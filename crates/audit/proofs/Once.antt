@@ -2,8 +2,8 @@
 use mathlib.Core.Path.{refl, ap, _∙_}
 use denote.Ref.{now}
 use Rattle.slices.specs.Slices.{laid}
-use Rattle.mcraw.specs.declared.Times.{Times}
-use Rattle.mcraw.specs.Mcraw.{written}
+use Rattle.mcraw.specs.declared.RecordingTimes.{RecordingTimes}
+use Rattle.mcraw.specs.Mcraw.{startsWritten}
 use Rattle.audit.specs.Claims.{Answers}
 
 pub once : Answers
@@ -28,7 +28,7 @@ once = record {
     record {
       the = record { result = _; last = _ };
       said = record { answer = refl; laid-out = refl; cleared = refl };
-      only = λ e p i. record { result = p .answer i; last = (tt, ((p .laid-out ∙ ap (λ (r : Times). laid (written r (now (a .0))) (now (a .1 .0))) (p .answer)) i, (p .cleared i, tt))) };
+      only = λ e p i. record { result = p .answer i; last = (tt, ((p .laid-out ∙ ap (λ (r : RecordingTimes). laid (startsWritten r (now (a .0))) (now (a .1 .0))) (p .answer)) i, (p .cleared i, tt))) };
     },
   );
   cut = λ κs a. (tt, record { the = record { result = _; last = _ }; said = record { answer = refl; words = refl; shifts = refl }; only = λ e p i. record { result = p .answer i; last = (tt, (tt, (tt, (tt, (p .words i, (p .shifts i, tt)))))) } });

@@ -11,7 +11,7 @@ use Rattle.boxes.specs.declared.Sized.{Sized}
 use Rattle.boxes.specs.declared.Place.{Place}
 use Rattle.boxes.specs.declared.Reached.{Reached}
 use Rattle.rules.specs.declared.Checked.{Checked}
-use Rattle.rules.specs.declared.Found.{Found}
+use Rattle.rules.specs.declared.Lookup.{Lookup}
 use Rattle.rules.specs.declared.Continued.{Continued}
 use Rattle.table.specs.declared.Filled.{Filled}
 use Rattle.judge.specs.Video.{shownBy}
@@ -19,8 +19,8 @@ use Rattle.maps.specs.declared.Mapped.{Mapped}
 use Rattle.maps.specs.declared.Traced.{Traced}
 use Rattle.maps.specs.Answers.{Placed}
 use Rattle.frame_times.specs.declared.FrameTimes.{FrameTimes}
-use Rattle.mcraw.specs.declared.Times.{Times}
-use Rattle.segment_table.specs.Told.{usTold, sizeTold, placeTold, reachedTold, checkedTold, refusalTold, foundTold, continuedTold, filledTold, mappedTold, tracedTold, timesTold, moovTold}
+use Rattle.mcraw.specs.declared.RecordingTimes.{RecordingTimes}
+use Rattle.segment_table.specs.Told.{usTold, sizeTold, placeTold, reachedTold, checkedTold, refusalTold, lookupTold, continuedTold, filledTold, mappedTold, tracedTold, timesTold, moovTold}
 use Rattle.segment_table.specs.Written.{MapTold}
 use Rattle.audit.proofs.Worked.{started}
 use Rattle.audit.specs.Words.{Tells}
@@ -42,8 +42,8 @@ pub telling : Telling
 unfolding shownBy
 telling = record {
   st-check = λ l frames index r frames′ index′. one (λ (c : Checked). checkedTold c frames);
-  st-segment-of-frame = λ l f segment index r segment′ index′. one (λ (c : Found). foundTold c segment);
-  st-segment-of-time-us = λ l t segment index r segment′ index′. one (λ (c : Found). foundTold c segment);
+  st-segment-of-frame = λ l f segment index r segment′ index′. one (λ (c : Lookup). lookupTold c segment);
+  st-segment-of-time-us = λ l t segment index r segment′ index′. one (λ (c : Lookup). lookupTold c segment);
   st-continues = λ l k answer index r answer′ index′. one (λ (c : Continued). continuedTold c answer);
   st-rows-of-table = λ l ou ou′ os os′ rows index r rows′ index′. (
     λ p. record { answer = _; given = record { answer = refl; words = p .words; shifts = p .shifts }; told = p .told },
@@ -56,7 +56,7 @@ telling = record {
     λ p. record { answer = _; given = record { answer = refl; first-cleared = p .first-cleared; second-cleared = p .second-cleared }; told = p .told },
     λ q. record { told = q .told ∙ ap (λ (c : Checked). checkedTold c frames) (q .given .answer); first-cleared = q .given .first-cleared; second-cleared = q .given .second-cleared },
   );
-  st-segment-of-frame-records = λ sources text rs log f segment index r segment′ index′. one (λ (c : Found). foundTold c segment);
+  st-segment-of-frame-records = λ sources text rs log f segment index r segment′ index′. one (λ (c : Lookup). lookupTold c segment);
   st-cut = λ u s a b ou ou′ os os′ rows index r rows′ index′. placed rows;
   st-join = λ u v s t ou ou′ os os′ rows index r rows′ index′. placed rows;
   st-merge = λ u s ou ou′ os os′ rows index r rows′ index′. placed rows;
@@ -72,7 +72,7 @@ telling = record {
   );
   st-mcraw-times = λ ts starts work starts′ work′ frames scale nominal end index r frames′ scale′ nominal′ end′ index′. (
     λ p. record { answer = _; given = record { answer = refl; laid-out = p .laid-out; cleared = p .cleared }; told = p .told },
-    λ q. record { told = q .told ∙ ap (λ (c : Times). timesTold c frames scale nominal end) (q .given .answer); laid-out = started (q .given); cleared = q .given .cleared },
+    λ q. record { told = q .told ∙ ap (λ (c : RecordingTimes). timesTold c frames scale nominal end) (q .given .answer); laid-out = started (q .given); cleared = q .given .cleared },
   );
   st-is-utc-second = λ b r. (λ p. p, λ p. p);
   st-ticks-to-us = λ t scale us index r us′ index′. one (λ (c : Us). usTold c us);

@@ -17,16 +17,16 @@ use Rattle.choice.specs.Records.{orRefused}
 use Rattle.choice.proofs.Runs.{getD-run}
 use Rattle.slices.specs.Slices.{after}
 use Rattle.rows.specs.declared.Row.{Row}
-use Rattle.rows.specs.Rows.{end, total, origin, WellFormed}
+use Rattle.rows.specs.Rows.{rowEnd, total, origin, WellFormed}
 use Rattle.rows.specs.Lent.{rowAt, rows, wordsOf, shiftsOf}
 use Rattle.rows.proofs.Demanded.{demanded}
 use Rattle.rows.proofs.Flat.{length-words, length-shifts, rows-flat}
 use Rattle.rules.specs.declared.Checked.the-variants.{Frames}
-use Rattle.rules.specs.declared.Found.the-variants.{Index}
+use Rattle.rules.specs.declared.Lookup.the-variants.{Index}
 use Rattle.rules.specs.Records.{Table, noSegment, segment}
-use Rattle.rules.specs.Lookups.{ended, overBy, found, segmentOfFrame}
+use Rattle.rules.specs.Lookups.{ended, overBy, lookedUp, segmentOfFrame}
 use Rattle.rules.specs.Records as records
-use Rattle.rules.specs.Rules.{refusal, answered, checkOf}
+use Rattle.rules.specs.Rules.{refusal, checkedOf, checkOf}
 use Rattle.rules.proofs.Accepted.{accepted}
 use Rattle.rules.proofs.Holder.{Holds, holder}
 use Rattle.table.specs.declared.Filled.{Filled}
@@ -39,12 +39,12 @@ use Rattle.maps.specs.declared.Mapped.the-variants as answers
 use Rattle.maps.specs.Answers.{tracedOf, originRefusal, Cut, Trace}
 use Rattle.maps.specs.Laws.{LentMap}
 use Rattle.maps.proofs.Lawful.{lawful}
-use Rattle.audit.specs.Words.{table, written}
-use Rattle.audit.specs.Claims.{told, Origins}
+use Rattle.audit.specs.Words.{table, mapWritten}
+use Rattle.audit.specs.Claims.{tracedIn, Origins}
 
 -- an accepted check is refused nothing
-none-of : (x : Refusal) (n N : ℕ) → Frames N ≡ answered x n → x ≡ Never
-unfolding answered
+none-of : (x : Refusal) (n N : ℕ) → Frames N ≡ checkedOf x n → x ≡ Never
+unfolding checkedOf
 none-of Never n N e = refl
 none-of (At m i) n N e = let z : _≡_ {A = ℕ} 0 1 = cc in absurd (omega arith)
 
@@ -57,7 +57,7 @@ filled-of (At m i) n k e = let z : _≡_ {A = ℕ} 0 1 = cc in absurd (omega ari
 room : (t : Table) (N : ℕ) (nu ns : ℕ) → Frames N ≡ checkOf t → 5 * length (t .segments) ≤ nu → length (t .segments) ≤ ns → rowsRefusal t nu ns ≡ Never
 unfolding checkOf rowsRefusal orRefused when
 room t N nu ns e g h =
-    let x = none-of (refusal t) (records.total (t .segments)) N e in
+    let x = none-of (refusal t) (records.frameTotal (t .segments)) N e in
     let a : ltb nu (length (t .segments) * 5) ≡ false = le-ltb nu (length (t .segments) * 5) (omega arith) in
     let b : ltb ns (length (t .segments)) ≡ false = le-ltb _ _ h in
     rw (x, a, b)
@@ -86,13 +86,13 @@ module _ (t : Table) (N k : ℕ) (ou ou′ : List ℕ) (os os′ : List ℤ) (c 
       ap (take k) (p .shifts ∙ ap (λ (y : Refusal). after y (shiftsOf (rowsOf t)) os) none)
       ∙ take-at (shiftsOf (rowsOf t)) (drop (length (shiftsOf (rowsOf t))) os) k (length-shifts (rowsOf t) ∙ sym rows-count)
 
-  is : written k ou′ os′ ≡ rowsOf t
+  is : mapWritten k ou′ os′ ≡ rowsOf t
   is = ap₂ rows words-are shifts-are ∙ rows-flat (rowsOf t)
 
-  well : WellFormed (written k ou′ os′)
+  well : WellFormed (mapWritten k ou′ os′)
   well = rw is (mapped t .well N (sym c))
 
-  frames : total (written k ou′ os′) ≡ N
+  frames : total (mapWritten k ou′ os′) ≡ N
   frames = ap total is ∙ mapped t .frames N (sym c)
 
   lent : LentMap (take (5 * k) ou′) (take k os′)
@@ -105,12 +105,12 @@ module _ (t : Table) (N k : ℕ) (ou ou′ : List ℕ) (os os′ : List ℤ) (c 
 
 -- the segment that a lookup of an accepted table answers
 index-is : (t : Table) (N f i : ℕ) → Frames N ≡ checkOf t → Index i ≡ segmentOfFrame t f → i ≡ ended (overBy f) (t .segments)
-unfolding segmentOfFrame found
-index-is t N f i c e = let q : Index i ≡ found (Frames N) (ended (overBy f) (t .segments)) = e ∙ ap (λ x. found x (ended (overBy f) (t .segments))) (sym c) in cc
+unfolding segmentOfFrame lookedUp
+index-is t N f i c e = let q : Index i ≡ lookedUp (Frames N) (ended (overBy f) (t .segments)) = e ∙ ap (λ x. lookedUp x (ended (overBy f) (t .segments))) (sym c) in cc
 
 -- an answer made of row j, where that is row i, and row i is x
-made : (u : List ℕ) (s : List ℤ) (f i j : ℕ) (r : Traced) (x : Row) → i ≡ j → rowAt u s i ≡ x → r ≡ told (rowAt u s j) f → r ≡ told x f
-made u s f i j r x e q g = g ∙ ap (λ (n : ℕ). told (rowAt u s n) f) (sym e) ∙ ap (λ (y : Row). told y f) q
+made : (u : List ℕ) (s : List ℤ) (f i j : ℕ) (r : Traced) (x : Row) → i ≡ j → rowAt u s i ≡ x → r ≡ tracedIn (rowAt u s j) f → r ≡ tracedIn x f
+made u s f i j r x e q g = g ∙ ap (λ (n : ℕ). tracedIn (rowAt u s n) f) (sym e) ∙ ap (λ (y : Row). tracedIn y f) q
 
 module _ (t : Table) (N k f i : ℕ) (ou ou′ : List ℕ) (os os′ : List ℤ) (r : Traced) (c : Frames N ≡ checkOf t) (p : Rowed t ou os (Rows k) ou′ os′) (h : f < N)
     (e : Index i ≡ segmentOfFrame t f) (o : Trace (take (5 * k) ou′) (take k os′) f r) where
@@ -127,12 +127,12 @@ module _ (t : Table) (N k f i : ℕ) (ou ou′ : List ℕ) (os os′ : List ℤ)
       ∙ ap (λ (x : List Row). getD x i (rowOf noSegment)) (is t N k ou ou′ os os′ c p)
       ∙ List·getD-map rowOf (t .segments) i noSegment
 
-  agreed : (i < length (t .segments)) × (r ≡ told (rowOf (segment t i)) f)
+  agreed : (i < length (t .segments)) × (r ≡ tracedIn (rowOf (segment t i)) f)
   unfolding rowOf
   agreed =
       let m = lent t N k ou ou′ os os′ c p in
       let w = lawful .origin-found _ _ f r m (omega (arith, frames t N k ou ou′ os os′ c p)) o in
-      let j = w .only i inside (subst (λ (x : Row). x .out ≤ f) (sym row-is) (here .from)) (subst (λ (x : Row). f < end x) (sym row-is) (here .to)) in
+      let j = w .only i inside (subst (λ (x : Row). x .out ≤ f) (sym row-is) (here .from)) (subst (λ (x : Row). f < rowEnd x) (sym row-is) (here .to)) in
       (here .exists, made (take (5 * k) ou′) (take k os′) f i (w .index) r (rowOf (segment t i)) j row-is (w .gives))
 
 -- the same of a clip that was cut twice
@@ -140,7 +140,7 @@ module _ (t : Table) (N k m n a b c d f i : ℕ) (ou ou′ pu pu′ qu qu′ : L
     (p : Rowed t ou os (Rows k) ou′ os′) (x : Cut (take (5 * k) ou′) (take k os′) a b pu ps (answers.Rows m) pu′ ps′)
     (y : Cut (take (5 * m) pu′) (take m ps′) c d qu qs (answers.Rows n) qu′ qs′) (h : f < d - c) (e : Index i ≡ segmentOfFrame t (a + (c + f)))
     (o : Trace (take (5 * n) qu′) (take n qs′) f r) where
-  pub agreed-twice : (i < length (t .segments)) × (r ≡ told (rowOf (segment t i)) (a + (c + f)))
+  pub agreed-twice : (i < length (t .segments)) × (r ≡ tracedIn (rowOf (segment t i)) (a + (c + f)))
   agreed-twice =
       let gx = lawful .cut-gives (take (5 * k) ou′) (take k os′) a b m pu pu′ ps ps′ x in
       let gy = lawful .cut-gives (take (5 * m) pu′) (take m ps′) c d n qu qu′ qs qs′ y in
@@ -158,7 +158,7 @@ tiled = record {
   written-out = λ l N ou ou′ os os′ r c g h p. rows-of (table l) N ou ou′ os os′ r c g h p;
   tiles = λ l N k ou ou′ os os′ c p.
       let t = table l in
-      (record { lent = lent t N k ou ou′ os os′ c p; is = is t N k ou ou′ os os′ c p }, demanded .tiles (written k ou′ os′) (well t N k ou ou′ os os′ c p) .0, frames t N k ou ou′ os os′ c p);
+      (record { lent = lent t N k ou ou′ os os′ c p; is = is t N k ou ou′ os os′ c p }, demanded .tiles (mapWritten k ou′ os′) (well t N k ou ou′ os os′ c p) .0, frames t N k ou ou′ os os′ c p);
   one = λ l N k f ou ou′ os os′ r c p o.
       let t = frames (table l) N k ou ou′ os os′ c p in
       let m = lent (table l) N k ou ou′ os os′ c p in

@@ -12,23 +12,23 @@ use Rattle.rows.specs.Lent.{rows}
 use Rattle.utc.specs.Utc.{two, days, utcBytes, utcSecond}
 use Rattle.ticks.specs.Ticks.{microsOf, usOf, ticksToUs, endsNear, mediaTicks}
 use Rattle.signed.specs.Signed.{ofBits}
-use Rattle.order.specs.Order.{insert, sorted, countBy, firstOf, mode}
+use Rattle.order.specs.Order.{insert, sorted, countBy, takenFirst, mode}
 use Rattle.boxes.specs.Boxes.{fittingIn, sizeOf, headerAt, boxesFrom, boxesAt, firstSuch}
 use Rattle.boxes.specs.Tracks.{isVideo, isVideoTrack}
-use Rattle.tracks.specs.Tables.{scaleOf, rowsOf as tableRows, optionalRows, entriesFrom, total as entriesTotal, perFrame}
+use Rattle.tracks.specs.Tables.{scaleOf, tableRows, optionalRows, entriesFrom, entryTotal as entriesTotal, perFrame}
 use Rattle.tracks.specs.Edits.{lineAt, keptLine, twoLines, linesOf, elstOf, editOf}
 use Rattle.frame_times.specs.Frames.{framesFrom, kept, lastOf}
-use Rattle.frame_times.specs.Times.{placed, shown, ofKept, ofTables, ofMedia, ofTrack, timesOf as moovTimes}
-use Rattle.rules.specs.Records.{noSource, noSegment, total}
-use Rattle.rules.specs.Rules.{badSource, badSegment, malformed, sourceRefusal, timesOf as stampTimes, judged, segmentRefusal, start, endsOf, ends, segmentsFrom, frontRefusal, refusal, answered, checkOf}
-use Rattle.rules.specs.Lookups.{count, ended, found, segmentOfFrame, segmentOfTime}
+use Rattle.frame_times.specs.Times.{placed, shown, ofKept, ofTables, ofMedia, ofTrack, timesOfMoov as moovTimes}
+use Rattle.rules.specs.Records.{noSource, noSegment, frameTotal}
+use Rattle.rules.specs.Rules.{badSource, badSegment, malformed, sourceRefusal, stampTimes, judged, segmentRefusal, start, endsOf, ends, segmentsFrom, frontRefusal, refusal, checkedOf, checkOf}
+use Rattle.rules.specs.Lookups.{countSuch, ended, lookedUp, segmentOfFrame, segmentOfTime}
 use Rattle.table.specs.Layout.{sourcesOf, segmentsOf, tableOf}
 use Rattle.table.specs.Rows.{rowOf, rowsOf, rowsRefusal, filled}
 use Rattle.judge.specs.Video.{shownBy}
 use Rattle.judge.specs.Judge.{startsAt, startRefusal, videoRefusal, validateOf}
 use Rattle.maps.specs.Answers.{firstBad, mapRefusal, roomRefusal, cutRefusal, joinRefusal, mergeRefusal, originRefusal}
-use Rattle.mcraw.specs.declared.Times.{Times}
-use Rattle.mcraw.specs.Mcraw.{gaps, startsOf, span, nominal, end, fallOf, refusalOf, timesUnless, timesOf, written, Answered}
+use Rattle.mcraw.specs.declared.RecordingTimes.{RecordingTimes}
+use Rattle.mcraw.specs.Mcraw.{gaps, startsOf, span, nominal, end, fallOf, refusalOf, timesUnless, mcrawTimes, startsWritten, McrawAnswers}
 use Rattle.audit.specs.Examples.{Holds, examples}
 
 -- what was written over room for k rows
@@ -36,10 +36,10 @@ wrote : (k : ℕ) {w ou : List ℕ} {z os : List ℤ} (are : List Row) → ou �
 wrote k are p q e = ap₂ (λ (x : List ℕ) (y : List ℤ). rows (take (5 * k) x) (take k y)) p q ∙ e
 
 -- where a recording's frames start
-pub started : {ts starts work starts′ work′ : List ℤ} {r : Times} → Answered ts starts work r starts′ work′
-    → starts′ ≡ laid (written (timesOf ts (length starts) (length work)) ts) starts
-started {ts} {starts} p = p .laid-out ∙ ap (λ (x : Times). laid (written x ts) starts) (p .answer)
+pub started : {ts starts work starts′ work′ : List ℤ} {r : RecordingTimes} → McrawAnswers ts starts work r starts′ work′
+    → starts′ ≡ laid (startsWritten (mcrawTimes ts (length starts) (length work)) ts) starts
+started {ts} {starts} p = p .laid-out ∙ ap (λ (x : RecordingTimes). laid (startsWritten x ts) starts) (p .answer)
 
 pub all-hold : All Holds examples
-unfolding when past run any firstRefused orRefused two days utcBytes utcSecond microsOf usOf ticksToUs endsNear startsAt startRefusal videoRefusal validateOf shownBy mediaTicks ofBits insert sorted countBy firstOf mode fittingIn sizeOf headerAt boxesFrom boxesAt firstSuch isVideo isVideoTrack scaleOf tableRows optionalRows entriesFrom entriesTotal perFrame lineAt keptLine twoLines linesOf elstOf editOf framesFrom kept lastOf placed shown ofKept ofTables ofMedia ofTrack moovTimes noSource noSegment total badSource badSegment malformed sourceRefusal stampTimes judged segmentRefusal start endsOf ends segmentsFrom frontRefusal refusal answered checkOf count ended found segmentOfFrame segmentOfTime sourcesOf segmentsOf tableOf rowOf rowsOf rowsRefusal filled firstBad mapRefusal roomRefusal cutRefusal joinRefusal mergeRefusal originRefusal gaps startsOf span nominal end fallOf refusalOf timesUnless timesOf written
+unfolding when past run any firstRefused orRefused two days utcBytes utcSecond microsOf usOf ticksToUs endsNear startsAt startRefusal videoRefusal validateOf shownBy mediaTicks ofBits insert sorted countBy takenFirst mode fittingIn sizeOf headerAt boxesFrom boxesAt firstSuch isVideo isVideoTrack scaleOf tableRows optionalRows entriesFrom entriesTotal perFrame lineAt keptLine twoLines linesOf elstOf editOf framesFrom kept lastOf placed shown ofKept ofTables ofMedia ofTrack moovTimes noSource noSegment frameTotal badSource badSegment malformed sourceRefusal stampTimes judged segmentRefusal start endsOf ends segmentsFrom frontRefusal refusal checkedOf checkOf countSuch ended lookedUp segmentOfFrame segmentOfTime sourcesOf segmentsOf tableOf rowOf rowsOf rowsRefusal filled firstBad mapRefusal roomRefusal cutRefusal joinRefusal mergeRefusal originRefusal gaps startsOf span nominal end fallOf refusalOf timesUnless mcrawTimes startsWritten
 all-hold = (λ r p. p, (λ r p. p, (λ r p. p, (λ r p. p, (λ r p. p, (λ r p. p, (λ r p. p, (λ r p. p, (λ r p. p, (λ r p. p, (λ r p. p, (λ r p. p, (λ r p. p, (λ r p. p, (λ r p. p, (λ r p. p, (λ r p. p, (λ r p. p, (λ r p. p, (λ r p. p, (λ r ou os p. (p .answer, wrote 2 _ (p .words) (p .shifts) refl), (λ r ou os p. (p .answer, wrote 2 _ (p .words) (p .shifts) refl), (λ r ou os p. (p .answer, wrote 2 _ (p .words) (p .shifts) refl), (λ r ou os p. (p .answer, wrote 2 _ (p .words) (p .shifts) refl), (λ r starts′ a′ b′ p. (p .answer, p .starts), (λ r starts′ a′ b′ p. (p .answer, p .starts), (λ r starts′ a′ b′ p. (p .answer, p .starts), (λ r starts′ a′ b′ p. (p .answer, p .starts), (λ r starts′ work′ p. (p .answer, started p), (λ r p. p, (λ r p. p, (λ r ou os p. (p .answer, wrote 3 _ (p .words) (p .shifts) refl), (λ r ou os p. (p .answer, wrote 3 _ (p .words) (p .shifts) refl), (λ r ou os p. (p .answer, wrote 3 _ (p .words) (p .shifts) refl), (λ r ou os p. (p .answer, wrote 3 _ (p .words) (p .shifts) refl), (λ r p. p, (λ r p. p, (λ r p. p, (λ r ou os p. (p .answer, wrote 2 _ (p .words) (p .shifts) refl), (λ r ou os p. (p .answer, wrote 2 _ (p .words) (p .shifts) refl), (λ r ou os p. (p .answer, wrote 4 _ (p .words) (p .shifts) refl), (λ r ou os p. (p .answer, wrote 3 _ (p .words) (p .shifts) refl), (λ r ou os p. (p .answer, wrote 2 _ (p .words) (p .shifts) refl), (λ r ou os p. (p .answer, wrote 1 _ (p .words) (p .shifts) refl), (λ r ou os p. (p .answer, wrote 2 _ (p .words) (p .shifts) refl), (λ r ou os p. (p .answer, wrote 2 _ (p .words) (p .shifts) refl), tt))))))))))))))))))))))))))))))))))))))))))))))

@@ -14,14 +14,14 @@ use Rattle.signed.specs.Rounded.{nearest, rounded}
 use Rattle.utc.specs.Utc.{utcSecond}
 use Rattle.ticks.specs.declared.Us.{Us}
 use Rattle.ticks.specs.Ticks.{ticksToUs}
-use Rattle.order.specs.Order.{sorted, count, Asc, MostFrequent, mode}
+use Rattle.order.specs.Order.{sorted, countOf, Asc, MostFrequent, mode}
 use Rattle.rows.specs.declared.Row.{Row}
 use Rattle.rows.specs.Rows.{total}
 use Rattle.rows.specs.Demands.{Tiles, Demands}
 use Rattle.rules.specs.declared.Checked.{Checked}
 use Rattle.rules.specs.declared.Checked.the-variants.{Frames}
-use Rattle.rules.specs.declared.Found.{Found}
-use Rattle.rules.specs.declared.Found.the-variants.{Index}
+use Rattle.rules.specs.declared.Lookup.{Lookup}
+use Rattle.rules.specs.declared.Lookup.the-variants.{Index}
 use Rattle.rules.specs.declared.Continued.{Continued}
 use Rattle.rules.specs.Records.{segment}
 use Rattle.rules.specs.Records as records
@@ -55,13 +55,13 @@ use Rattle.boxes.specs.Boxes as boxes
 use Rattle.boxes.specs.Places.{PartAt, childPlace, findBoxPlace, tableTextPlace}
 use Rattle.frame_times.specs.declared.FrameTimes.{FrameTimes}
 use Rattle.frame_times.specs.Times as frames
-use Rattle.mcraw.specs.declared.Times.{Times}
-use Rattle.mcraw.specs.Mcraw.{Answered}
-use Rattle.segment_table.specs.Told.{usTold, sizeTold, placeTold, reachedTold, checkedTold, refusalTold, foundTold, continuedTold, filledTold, mappedTold, tracedTold, timesTold, moovTold}
+use Rattle.mcraw.specs.declared.RecordingTimes.{RecordingTimes}
+use Rattle.mcraw.specs.Mcraw.{McrawAnswers}
+use Rattle.segment_table.specs.Told.{usTold, sizeTold, placeTold, reachedTold, checkedTold, refusalTold, lookupTold, continuedTold, filledTold, mappedTold, tracedTold, timesTold, moovTold}
 use Rattle.audit.specs.Promise.{OneAnswer, OnePart}
 use Rattle.audit.specs.Calls as calls
 use Rattle.audit.specs.Face as face
-use Rattle.audit.specs.Words.{Lent, table, on, Tells, Check, SegmentOfFrame, SegmentOfTimeUs, Continues, RowsOfTable, Validate, CheckMcraw, inWords, written}
+use Rattle.audit.specs.Words.{Lent, table, on, Tells, Check, SegmentOfFrame, SegmentOfTimeUs, Continues, RowsOfTable, Validate, CheckMcraw, inWords, mapWritten}
 use Rattle.audit.specs.Examples.{Holds, examples}
 
 -- 1 and 2. ONE ANSWER. No public call has a `requires`; and whatever its arguments, exactly one result, with exactly one content of each lent slice, meets its
@@ -128,9 +128,9 @@ pub record Telling : Type 0 where
   pub st-check : (l : Lent) (frames index r frames′ index′ : ℕ)
       → on face.StCheck l frames index r frames′ index′ ↔ Tells (Check l) (λ c. (r, frames′, index′) ≡ checkedTold c frames)
   pub st-segment-of-frame : (l : Lent) (f segment index r segment′ index′ : ℕ)
-      → on face.StSegmentOfFrame l f segment index r segment′ index′ ↔ Tells (SegmentOfFrame l f) (λ c. (r, segment′, index′) ≡ foundTold c segment)
+      → on face.StSegmentOfFrame l f segment index r segment′ index′ ↔ Tells (SegmentOfFrame l f) (λ c. (r, segment′, index′) ≡ lookupTold c segment)
   pub st-segment-of-time-us : (l : Lent) (t : ℤ) (segment index r segment′ index′ : ℕ)
-      → on face.StSegmentOfTimeUs l t segment index r segment′ index′ ↔ Tells (SegmentOfTimeUs l t) (λ c. (r, segment′, index′) ≡ foundTold c segment)
+      → on face.StSegmentOfTimeUs l t segment index r segment′ index′ ↔ Tells (SegmentOfTimeUs l t) (λ c. (r, segment′, index′) ≡ lookupTold c segment)
   pub st-continues : (l : Lent) (k answer index r answer′ index′ : ℕ)
       → on face.StContinues l k answer index r answer′ index′ ↔ Tells (Continues l k) (λ c. (r, answer′, index′) ≡ continuedTold c answer)
   pub st-rows-of-table : (l : Lent) (ou ou′ : List ℕ) (os os′ : List ℤ) (rows index r rows′ index′ : ℕ)
@@ -146,7 +146,7 @@ pub record Telling : Type 0 where
       → on face.StCheckMcraw l ts a b frames index r a′ b′ frames′ index′ ↔ Tells (λ c. CheckMcraw l ts a b c a′ b′) (λ c. (r, frames′, index′) ≡ checkedTold c frames)
   pub st-segment-of-frame-records : (sources text : List ℕ) (rs : List TrimSegment) (log : Bool) (f segment index r segment′ index′ : ℕ)
       → face.StSegmentOfFrameRecords sources text rs log f segment index r segment′ index′
-      ↔ Tells (calls.SegmentOfFrameRecords sources text rs log f) (λ c. (r, segment′, index′) ≡ foundTold c segment)
+      ↔ Tells (calls.SegmentOfFrameRecords sources text rs log f) (λ c. (r, segment′, index′) ≡ lookupTold c segment)
   pub st-cut : (u : List ℕ) (s : List ℤ) (a b : ℕ) (ou ou′ : List ℕ) (os os′ : List ℤ) (rows index r rows′ index′ : ℕ)
       → face.StCut u s a b ou os rows index r ou′ os′ rows′ index′ ↔ Tells (λ c. calls.Cut u s a b ou os c ou′ os′) (λ c. (r, rows′, index′) ≡ mappedTold c rows)
   pub st-join : (u v : List ℕ) (s t : List ℤ) (ou ou′ : List ℕ) (os os′ : List ℤ) (rows index r rows′ index′ : ℕ)
@@ -179,8 +179,8 @@ pub record Telling : Type 0 where
       → face.StTicksToUs t scale us index r us′ index′ ↔ Tells (calls.TicksToUs t scale) (λ c. (r, us′, index′) ≡ usTold c us)
 
 -- what `origin` answers of frame f, where it lies in row r
-abbrev pub told : Row → ℕ → Traced
-told r f = traced.From (r .source) (r .first + (f - r .out)) (r .flag) (r .shift)
+abbrev pub tracedIn : Row → ℕ → Traced
+tracedIn r f = traced.From (r .source) (r .first + (f - r .out)) (r .flag) (r .shift)
 
 -- 3. AN ACCEPTED TABLE'S ROWS TILE ITS FRAMES, AND EACH FRAME HAS ONE ORIGIN. (Demand 3, and the auditor's first two questions.)
 pub record Origins : Type 0 where
@@ -192,32 +192,32 @@ pub record Origins : Type 0 where
   -- where the one before it ends, has frames, and together they have N.
   pub tiles : (l : Lent) (N k : ℕ) (ou ou′ : List ℕ) (os os′ : List ℤ)
       → Check l (Frames N) → RowsOfTable l ou os (Rows k) ou′ os′
-      → laws.Wrote k ou′ os′ (rowsOf (table l)) × Tiles 0 (written k ou′ os′) × (total (written k ou′ os′) ≡ N)
+      → laws.Wrote k ou′ os′ (rowsOf (table l)) × Tiles 0 (mapWritten k ou′ os′) × (total (mapWritten k ou′ os′) ≡ N)
   -- Each frame below N lies in one row and no other, of which `origin` answers source, source frame, flag and shift; any other frame is 54.
   pub one : (l : Lent) (N k f : ℕ) (ou ou′ : List ℕ) (os os′ : List ℤ) (r : Traced)
       → Check l (Frames N) → RowsOfTable l ou os (Rows k) ou′ os′ → calls.Origin (take (5 * k) ou′) (take k os′) f r
-      → (f < N → laws.Found (take (5 * k) ou′) (take k os′) f r) × (N ≤ f → r ≡ traced.Refused 54 0)
+      → (f < N → laws.TracedTo (take (5 * k) ou′) (take k os′) f r) × (N ≤ f → r ≡ traced.Refused 54 0)
   -- It is the frame of the segment that `segment_of_frame` answers: its source, and as many frames after its first source frame as f is after its first output frame.
   pub agree : (l : Lent) (N k f i : ℕ) (ou ou′ : List ℕ) (os os′ : List ℤ) (r : Traced)
       → Check l (Frames N) → RowsOfTable l ou os (Rows k) ou′ os′ → f < N → SegmentOfFrame l f (Index i) → calls.Origin (take (5 * k) ou′) (take k os′) f r
-      → (i < length (table l .segments)) × (r ≡ told (rowOf (segment (table l) i)) f)
+      → (i < length (table l .segments)) × (r ≡ tracedIn (rowOf (segment (table l) i)) f)
   -- THE AUDITOR'S QUESTION: a table's rows, cut a..b, and that cut c..d. Behind frame f of it lies the frame that the table's segment of frame a + (c + f) gives.
   pub twice : (l : Lent) (N k m n a b c d f i : ℕ) (ou ou′ pu pu′ qu qu′ : List ℕ) (os os′ ps ps′ qs qs′ : List ℤ) (r : Traced)
       → Check l (Frames N) → RowsOfTable l ou os (Rows k) ou′ os′
       → calls.Cut (take (5 * k) ou′) (take k os′) a b pu ps (mapped.Rows m) pu′ ps′
       → calls.Cut (take (5 * m) pu′) (take m ps′) c d qu qs (mapped.Rows n) qu′ qs′
       → f < d - c → SegmentOfFrame l (a + (c + f)) (Index i) → calls.Origin (take (5 * n) qu′) (take n qs′) f r
-      → (i < length (table l .segments)) × (r ≡ told (rowOf (segment (table l) i)) (a + (c + f)))
+      → (i < length (table l .segments)) × (r ≡ tracedIn (rowOf (segment (table l) i)) (a + (c + f)))
 
 -- 5. A REFUSAL IS RIGHT. Whatever is lent, `check` refuses with n at i exactly when the paper's condition n holds there and none that is tested before it does, and
 -- accepts with N exactly when none holds and the segments have N frames. So do `validate` and `check_mcraw`, whose conditions are those of `check` and then those of
 -- the video or recording. (Demand 1, and the auditor's third question; `Rightly`, in rules/specs/Paper.antt, says it; that file and judge/specs/Paper.antt have document 01's table.)
 pub record Refusals : Type 0 where
-  pub check : (l : Lent) (r : Checked) → Check l r → Rightly r (tests (table l)) (records.total (table l .segments))
+  pub check : (l : Lent) (r : Checked) → Check l r → Rightly r (tests (table l)) (records.frameTotal (table l .segments))
   pub validate : (l : Lent) (video : Video) (starts : List ℤ) (r : Checked) → Validate l video starts r
-      → Rightly r (validateTests (table l) video starts) (records.total (table l .segments))
+      → Rightly r (validateTests (table l) video starts) (records.frameTotal (table l .segments))
   pub check-mcraw : (l : Lent) (ts a b a′ b′ : List ℤ) (r : Checked) → CheckMcraw l ts a b r a′ b′
-      → Rightly r (mcrawTests (table l) ts (length a) (length b)) (records.total (table l .segments))
+      → Rightly r (mcrawTests (table l) ts (length a) (length b)) (records.frameTotal (table l .segments))
   -- Of condition 1, what `uneven` is of the lent words: a length that is no multiple of its record's, or segment slices that disagree.
   pub uneven : (l : Lent) → (table l .uneven ≡ true) ↔ Uneven (length (l .sources)) (length (l .words)) (length (l .stamps))
 
@@ -233,8 +233,8 @@ pub record Meanings : Type 0 where
   pub ticks-to-us : (t : ℤ) (scale : ℕ) (r : Us) → calls.TicksToUs t scale r ↔ (r ≡ ticksToUs t scale)
   pub is-utc-second : (b : List ℕ) (r : Bool) → calls.IsUtcSecond b r ↔ (r ≡ utcSecond b)
   pub check : (l : Lent) (r : Checked) → Check l r ↔ (r ≡ checkOf (table l))
-  pub segment-of-frame : (l : Lent) (f : ℕ) (r : Found) → SegmentOfFrame l f r ↔ (r ≡ segmentOfFrame (table l) f)
-  pub segment-of-time-us : (l : Lent) (t : ℤ) (r : Found) → SegmentOfTimeUs l t r ↔ (r ≡ segmentOfTime (table l) t)
+  pub segment-of-frame : (l : Lent) (f : ℕ) (r : Lookup) → SegmentOfFrame l f r ↔ (r ≡ segmentOfFrame (table l) f)
+  pub segment-of-time-us : (l : Lent) (t : ℤ) (r : Lookup) → SegmentOfTimeUs l t r ↔ (r ≡ segmentOfTime (table l) t)
   pub continues : (l : Lent) (k : ℕ) (r : Continued) → Continues l k r ↔ (r ≡ continuesAt (table l) k)
   pub rows-of-table : (l : Lent) (ou ou′ : List ℕ) (os os′ : List ℤ) (r : Filled) → RowsOfTable l ou os r ou′ os′ ↔ Rowed (table l) ou os r ou′ os′
   pub validate : (l : Lent) (video : Video) (starts : List ℤ) (r : Checked) → Validate l video starts r ↔ (r ≡ validateOf (table l) (shownBy video starts))
@@ -248,14 +248,14 @@ pub record Meanings : Type 0 where
   pub table-text-place : (b : List ℕ) (r : Place) → calls.TableTextPlace b r ↔ (r ≡ tableTextPlace b)
   pub table-text : (b : RefT (List ℕ)) (r : RefT (List ℕ)) → calls.TableText b r ↔ PartAt b (tableTextPlace (now b)) r
   pub video-frame-times-of-moov : (moov : List ℕ) (starts a b starts′ a′ b′ : List ℤ) (r : FrameTimes)
-      → calls.VideoFrameTimesOfMoov moov starts a b r starts′ a′ b′ ↔ frames.Answers moov starts a b r starts′ a′ b′
-  pub mcraw-times : (ts starts work starts′ work′ : List ℤ) (r : Times) → calls.McrawTimes ts starts work r starts′ work′ ↔ Answered ts starts work r starts′ work′
+      → calls.VideoFrameTimesOfMoov moov starts a b r starts′ a′ b′ ↔ frames.MoovAnswers moov starts a b r starts′ a′ b′
+  pub mcraw-times : (ts starts work starts′ work′ : List ℤ) (r : RecordingTimes) → calls.McrawTimes ts starts work r starts′ work′ ↔ McrawAnswers ts starts work r starts′ work′
   pub cut : (u : List ℕ) (s : List ℤ) (a b : ℕ) (ou ou′ : List ℕ) (os os′ : List ℤ) (r : Mapped) → calls.Cut u s a b ou os r ou′ os′ ↔ maps.Cut u s a b ou os r ou′ os′
   pub join : (u v : List ℕ) (s t : List ℤ) (ou ou′ : List ℕ) (os os′ : List ℤ) (r : Mapped) → calls.Join u s v t ou os r ou′ os′ ↔ maps.Join u s v t ou os r ou′ os′
   pub merge : (u : List ℕ) (s : List ℤ) (ou ou′ : List ℕ) (os os′ : List ℤ) (r : Mapped) → calls.Merge u s ou os r ou′ os′ ↔ maps.Merge u s ou os r ou′ os′
   pub origin : (u : List ℕ) (s : List ℤ) (f : ℕ) (r : Traced) → calls.Origin u s f r ↔ maps.Trace u s f r
   -- The lookup over records answers what the lookup over words answers of the words that say the same.
-  pub segment-of-frame-records : (sources text : List ℕ) (rs : List TrimSegment) (log : Bool) (f : ℕ) (r : Found)
+  pub segment-of-frame-records : (sources text : List ℕ) (rs : List TrimSegment) (log : Bool) (f : ℕ) (r : Lookup)
       → calls.SegmentOfFrameRecords sources text rs log f r ↔ SegmentOfFrame (inWords sources text rs log) f r
 
 -- THE WALK `children` MEETS THE BOXES, by which `child` and the other searches are defined: a box that it answers is the first of those from its offset on, and the
@@ -278,13 +278,13 @@ pub record Rounding : Type 0 where
 pub record Ordering : Type 0 where
   pub most : (l : List ℤ) (v : ℤ) → 0 < length l → (v ≡ mode l) ↔ MostFrequent l v
   pub ascends : (l : List ℤ) → Asc (sorted l)
-  pub keeps : (v : ℤ) (l : List ℤ) → count v (sorted l) ≡ count v l
+  pub keeps : (v : ℤ) (l : List ℤ) → countOf v (sorted l) ≡ countOf v l
 
 -- each call that takes a table answers of m what it answers of l: its promise allows of m what it allows of l, which by `answers` is one answer
 pub record SameAnswers (l m : Lent) : Type 0 where
   pub check : (r : Checked) → Check l r → Check m r
-  pub segment-of-frame : (f : ℕ) (r : Found) → SegmentOfFrame l f r → SegmentOfFrame m f r
-  pub segment-of-time-us : (t : ℤ) (r : Found) → SegmentOfTimeUs l t r → SegmentOfTimeUs m t r
+  pub segment-of-frame : (f : ℕ) (r : Lookup) → SegmentOfFrame l f r → SegmentOfFrame m f r
+  pub segment-of-time-us : (t : ℤ) (r : Lookup) → SegmentOfTimeUs l t r → SegmentOfTimeUs m t r
   pub continues : (k : ℕ) (r : Continued) → Continues l k r → Continues m k r
   pub rows-of-table : (ou ou′ : List ℕ) (os os′ : List ℤ) (r : Filled) → RowsOfTable l ou os r ou′ os′ → RowsOfTable m ou os r ou′ os′
   pub validate : (video : Video) (starts : List ℤ) (r : Checked) → Validate l video starts r → Validate m video starts r
@@ -297,7 +297,7 @@ pub record Ignored : Type 0 where
   -- and so does the lookup over records, of whose absent things some are words and some are fields
   pub segment-of-frame-records : (sources sources′ text text′ : List ℕ) (rs rs′ : List TrimSegment) (log log′ : Bool)
       → clean (table (inWords sources text rs log)) ≡ clean (table (inWords sources′ text′ rs′ log′))
-      → (f : ℕ) (r : Found) → calls.SegmentOfFrameRecords sources text rs log f r → calls.SegmentOfFrameRecords sources′ text′ rs′ log′ f r
+      → (f : ℕ) (r : Lookup) → calls.SegmentOfFrameRecords sources text rs log f r → calls.SegmentOfFrameRecords sources′ text′ rs′ log′ f r
 
 pub record Claims : Type 0 where
   pub answers : Answers

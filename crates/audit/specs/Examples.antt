@@ -11,8 +11,8 @@ use Rattle.rows.specs.declared.Row.{Row}
 use Rattle.rows.specs.Lent.{wordsOf, shiftsOf}
 use Rattle.rules.specs.declared.Checked.{Checked}
 use Rattle.rules.specs.declared.Checked.the-variants.{Frames, Refused}
-use Rattle.rules.specs.declared.Found.{Found}
-use Rattle.rules.specs.declared.Found.the-variants.{Index}
+use Rattle.rules.specs.declared.Lookup.{Lookup}
+use Rattle.rules.specs.declared.Lookup.the-variants.{Index}
 use Rattle.table.specs.declared.Filled.{Filled}
 use Rattle.table.specs.declared.Filled.the-variants as filled
 use Rattle.judge.specs.declared.Video.{Video}
@@ -24,12 +24,12 @@ use Rattle.maps.specs.declared.Traced.the-variants.{From}
 use Rattle.boxes.specs.Bytes.{trak, mdia, hdlr, vide}
 use Rattle.tracks.specs.Edits.{elst}
 use Rattle.frame_times.specs.declared.FrameTimes.{FrameTimes}
-use Rattle.frame_times.specs.declared.FrameTimes.the-variants.{Times}
+use Rattle.frame_times.specs.declared.FrameTimes.the-variants.{Presented}
 use Rattle.frame_times.specs.Times.{mvhd, mdhd, minf, stbl, stts, ctts, edts}
-use Rattle.mcraw.specs.declared.Times.{Times as Recording}
-use Rattle.mcraw.specs.declared.Times.the-variants.{Timed}
+use Rattle.mcraw.specs.declared.RecordingTimes.{RecordingTimes as Recording}
+use Rattle.mcraw.specs.declared.RecordingTimes.the-variants.{Timed}
 use Rattle.audit.specs.Calls.{TicksToUs, IsUtcSecond, Cut, Join, Merge, Origin, VideoFrameTimesOfMoov, McrawTimes}
-use Rattle.audit.specs.Words.{Lent, Check, SegmentOfFrame, SegmentOfTimeUs, RowsOfTable, Validate, written}
+use Rattle.audit.specs.Words.{Lent, Check, SegmentOfFrame, SegmentOfTimeUs, RowsOfTable, Validate, mapWritten}
 
 pub data Example : Type 0 where
   -- so many ticks of a scale are so many microseconds
@@ -41,8 +41,8 @@ pub data Example : Type 0 where
   -- a table against a video without lent starts
   judged : (l : Lent) (video : Video) (is : Checked) → Example
   -- the segment of a frame, and of a time
-  frame : (l : Lent) (k : ℕ) (is : Found) → Example
-  time : (l : Lent) (us : ℤ) (is : Found) → Example
+  frame : (l : Lent) (k : ℕ) (is : Lookup) → Example
+  time : (l : Lent) (us : ℤ) (is : Lookup) → Example
   -- the rows of a table
   map : (l : Lent) (are : List Row) → Example
   -- the frames a to b of a map are these rows
@@ -63,20 +63,20 @@ Holds (ticks t scale us) = (r : Us) → TicksToUs t scale r → r ≡ us
 Holds (second bytes is) = (r : Bool) → IsUtcSecond bytes r → r ≡ is
 Holds (checked l is) = (r : Checked) → Check l r → r ≡ is
 Holds (judged l video is) = (r : Checked) → Validate l video [] r → r ≡ is
-Holds (frame l k is) = (r : Found) → SegmentOfFrame l k r → r ≡ is
-Holds (time l us is) = (r : Found) → SegmentOfTimeUs l us r → r ≡ is
+Holds (frame l k is) = (r : Lookup) → SegmentOfFrame l k r → r ≡ is
+Holds (time l us is) = (r : Lookup) → SegmentOfTimeUs l us r → r ≡ is
 Holds (map l are) =
     (r : Filled) (ou : List ℕ) (os : List ℤ) → RowsOfTable l (replicate (5 * length are) 0) (replicate (length are) (pos 0)) r ou os
-    → (r ≡ filled.Rows (length are)) × (written (length are) ou os ≡ are)
+    → (r ≡ filled.Rows (length are)) × (mapWritten (length are) ou os ≡ are)
 Holds (cuts m a b are) =
     (r : Mapped) (ou : List ℕ) (os : List ℤ) → Cut (wordsOf m) (shiftsOf m) a b (replicate (5 * length are) 0) (replicate (length are) (pos 0)) r ou os
-    → (r ≡ mapped.Rows (length are)) × (written (length are) ou os ≡ are)
+    → (r ≡ mapped.Rows (length are)) × (mapWritten (length are) ou os ≡ are)
 Holds (joins m n are) =
     (r : Mapped) (ou : List ℕ) (os : List ℤ) → Join (wordsOf m) (shiftsOf m) (wordsOf n) (shiftsOf n) (replicate (5 * length are) 0) (replicate (length are) (pos 0)) r ou os
-    → (r ≡ mapped.Rows (length are)) × (written (length are) ou os ≡ are)
+    → (r ≡ mapped.Rows (length are)) × (mapWritten (length are) ou os ≡ are)
 Holds (merges m are) =
     (r : Mapped) (ou : List ℕ) (os : List ℤ) → Merge (wordsOf m) (shiftsOf m) (replicate (5 * length are) 0) (replicate (length are) (pos 0)) r ou os
-    → (r ≡ mapped.Rows (length are)) × (written (length are) ou os ≡ are)
+    → (r ≡ mapped.Rows (length are)) × (mapWritten (length are) ou os ≡ are)
 Holds (origin m k is) = (r : Traced) → Origin (wordsOf m) (shiftsOf m) k r → r ≡ is
 Holds (movie moov are starts) =
     (r : FrameTimes) (starts′ a′ b′ : List ℤ)
@@ -98,8 +98,8 @@ shifted s f n o z = record { source = s; first = f; count = n; out = o; flag = 1
 abbrev pub plain : ℕ → List ℕ
 plain frames = frames ∷ 25 ∷ 1 ∷ 0 ∷ 0 ∷ 0 ∷ 0 ∷ 0 ∷ 0 ∷ 0 ∷ []
 
-abbrev pub dated : ℕ → List ℕ
-dated frames = frames ∷ 25 ∷ 1 ∷ 1 ∷ 0 ∷ 20 ∷ 0 ∷ 0 ∷ 0 ∷ 0 ∷ []
+abbrev pub datedSource : ℕ → List ℕ
+datedSource frames = frames ∷ 25 ∷ 1 ∷ 1 ∷ 0 ∷ 20 ∷ 0 ∷ 0 ∷ 0 ∷ 0 ∷ []
 
 abbrev pub clocked : ℕ → List ℕ
 clocked frames = frames ∷ 25 ∷ 1 ∷ 0 ∷ 0 ∷ 0 ∷ 1 ∷ 1000000 ∷ 1 ∷ 0 ∷ []
@@ -123,11 +123,11 @@ abbrev pub stillBetween : Lent
 stillBetween = record { sources = plain 100; words = wordsOf (row 0 0 1 0 ∷ row 0 1 1 1 ∷ row 0 2 1 2 ∷ []); stamps = stamps 0 10 (pos 0) ++ stamps 10 0 (pos 0) ++ stamps 10 10 (pos 0); log = false; text = [] }
 
 -- 0000-02-29T00:00:00Z and 1900-02-29T00:00:00Z
-abbrev pub leap : List ℕ
-leap = 48 ∷ 48 ∷ 48 ∷ 48 ∷ 45 ∷ 48 ∷ 50 ∷ 45 ∷ 50 ∷ 57 ∷ 84 ∷ 48 ∷ 48 ∷ 58 ∷ 48 ∷ 48 ∷ 58 ∷ 48 ∷ 48 ∷ 90 ∷ []
+abbrev pub leapDay : List ℕ
+leapDay = 48 ∷ 48 ∷ 48 ∷ 48 ∷ 45 ∷ 48 ∷ 50 ∷ 45 ∷ 50 ∷ 57 ∷ 84 ∷ 48 ∷ 48 ∷ 58 ∷ 48 ∷ 48 ∷ 58 ∷ 48 ∷ 48 ∷ 90 ∷ []
 
-abbrev pub notLeap : List ℕ
-notLeap = 49 ∷ 57 ∷ 48 ∷ 48 ∷ 45 ∷ 48 ∷ 50 ∷ 45 ∷ 50 ∷ 57 ∷ 84 ∷ 48 ∷ 48 ∷ 58 ∷ 48 ∷ 48 ∷ 58 ∷ 48 ∷ 48 ∷ 90 ∷ []
+abbrev pub notLeapDay : List ℕ
+notLeapDay = 49 ∷ 57 ∷ 48 ∷ 48 ∷ 45 ∷ 48 ∷ 50 ∷ 45 ∷ 50 ∷ 57 ∷ 84 ∷ 48 ∷ 48 ∷ 58 ∷ 48 ∷ 48 ∷ 58 ∷ 48 ∷ 48 ∷ 90 ∷ []
 
 -- 30 frames at 30000/1001, of which the one segment lasts so many microseconds; as a video
 abbrev pub lasting : ℕ → Lent
@@ -142,38 +142,38 @@ abbrev pub numbers : List ℕ → List ℕ
 numbers [] = []
 numbers (n ∷ l) = (n / 16777216 ∷ n / 65536 % 256 ∷ n / 256 % 256 ∷ n % 256 ∷ []) ++ numbers l
 
-abbrev pub box : ℕ → List ℕ → List ℕ
-box kind payload = numbers ((8 + length payload) ∷ kind ∷ []) ++ payload
+abbrev pub boxOf : ℕ → List ℕ → List ℕ
+boxOf kind payload = numbers ((8 + length payload) ∷ kind ∷ []) ++ payload
 
 -- a moov of one video track, both timescales 100, of the entries of its stts and the boxes that may be absent: ctts, and edts
 abbrev pub moovOf : List ℕ → List ℕ → List ℕ → List ℕ
 moovOf durations offsets edit =
-    box mvhd (numbers (0 ∷ 0 ∷ 0 ∷ 100 ∷ []))
-    ++ box trak
-    (box mdia
-    (box mdhd (numbers (0 ∷ 0 ∷ 0 ∷ 100 ∷ []))
-    ++ box hdlr (numbers (0 ∷ 0 ∷ vide ∷ []))
-    ++ box minf (box stbl (box stts (numbers (0 ∷ (length durations / 2) ∷ durations)) ++ offsets)))
+    boxOf mvhd (numbers (0 ∷ 0 ∷ 0 ∷ 100 ∷ []))
+    ++ boxOf trak
+    (boxOf mdia
+    (boxOf mdhd (numbers (0 ∷ 0 ∷ 0 ∷ 100 ∷ []))
+    ++ boxOf hdlr (numbers (0 ∷ 0 ∷ vide ∷ []))
+    ++ boxOf minf (boxOf stbl (boxOf stts (numbers (0 ∷ (length durations / 2) ∷ durations)) ++ offsets)))
     ++ edit)
 
 -- M1 and M2: durations 10, 10, 10, offsets 10, 30, 0; M2 has one edit, time 10, duration 0, rate 1
 abbrev pub M : List ℕ → List ℕ
-M edit = moovOf (3 ∷ 10 ∷ []) (box ctts (numbers (0 ∷ 3 ∷ 1 ∷ 10 ∷ 1 ∷ 30 ∷ 1 ∷ 0 ∷ []))) edit
+M edit = moovOf (3 ∷ 10 ∷ []) (boxOf ctts (numbers (0 ∷ 3 ∷ 1 ∷ 10 ∷ 1 ∷ 30 ∷ 1 ∷ 0 ∷ []))) edit
 
 abbrev pub M2 : List ℕ
-M2 = M (box edts (box elst (numbers (0 ∷ 1 ∷ 0 ∷ 10 ∷ 0x10000 ∷ []))))
+M2 = M (boxOf edts (boxOf elst (numbers (0 ∷ 1 ∷ 0 ∷ 10 ∷ 0x10000 ∷ []))))
 
 -- ---- the auditor's clip: three originals at 25/1 of 90,000, 60,000 and 45,000 frames, the second with a clock; 108,500 frames are put out
 abbrev pub clipShift : ℤ
 clipShift = negℤ (pos 1800)
 
-abbrev pub clip : List Row
-clip = row 0 1500 40000 0 ∷ shifted 1 12000 38500 40000 clipShift ∷ row 2 0 30000 78500 ∷ []
+abbrev pub clipRows : List Row
+clipRows = row 0 1500 40000 0 ∷ shifted 1 12000 38500 40000 clipShift ∷ row 2 0 30000 78500 ∷ []
 
 abbrev pub clipTable : Lent
 clipTable = record {
   sources = plain 90000 ++ clocked 60000 ++ plain 45000;
-  words = wordsOf clip;
+  words = wordsOf clipRows;
   stamps = stamps 0 1600000000 (pos 0) ++ stamps 1600000000 1540000000 clipShift ++ stamps 3140000000 1200000000 (pos 0);
   log = false;
   text = [];
@@ -206,10 +206,10 @@ examples =
     ∷ judged (lasting 967632) thirty (Refused 25 0)
     ∷ judged (lasting 1034368) thirty (Refused 25 0)
     -- a day that there was, and one that there wasn't: the UTC rule, and the creation time of T's source A
-    ∷ second leap true
-    ∷ second notLeap false
-    ∷ checked (tableT (dated 100) leap) (Frames 50)
-    ∷ checked (tableT (dated 100) notLeap) (Refused 5 0)
+    ∷ second leapDay true
+    ∷ second notLeapDay false
+    ∷ checked (tableT (datedSource 100) leapDay) (Frames 50)
+    ∷ checked (tableT (datedSource 100) notLeapDay) (Refused 5 0)
     -- T: frames 29, 30 and 50, times -5 and 1,200,000
     ∷ checked (tableT (plain 100) []) (Frames 50)
     ∷ frame (tableT (plain 100) []) 29 (Index 0)
@@ -226,28 +226,28 @@ examples =
     ∷ cuts (row 0 35 5 0 ∷ row 1 5 10 5 ∷ []) 3 8 (row 0 38 2 0 ∷ row 1 5 3 2 ∷ [])
     ∷ cuts T 28 33 (row 0 38 2 0 ∷ row 1 5 3 2 ∷ [])
     -- M1, M2, and durations 5, 7, 7, 5: nominal 5
-    ∷ movie (M []) (Times 3 100 (pos 10) (pos 50)) (pos 10 ∷ pos 20 ∷ pos 40 ∷ [])
-    ∷ movie M2 (Times 3 100 (pos 10) (pos 40)) (pos 0 ∷ pos 10 ∷ pos 30 ∷ [])
-    ∷ movie (moovOf (1 ∷ 5 ∷ 2 ∷ 7 ∷ 1 ∷ 5 ∷ []) [] []) (Times 4 100 (pos 5) (pos 24)) (pos 0 ∷ pos 5 ∷ pos 12 ∷ pos 19 ∷ [])
+    ∷ movie (M []) (Presented 3 100 (pos 10) (pos 50)) (pos 10 ∷ pos 20 ∷ pos 40 ∷ [])
+    ∷ movie M2 (Presented 3 100 (pos 10) (pos 40)) (pos 0 ∷ pos 10 ∷ pos 30 ∷ [])
+    ∷ movie (moovOf (1 ∷ 5 ∷ 2 ∷ 7 ∷ 1 ∷ 5 ∷ []) [] []) (Presented 4 100 (pos 5) (pos 24)) (pos 0 ∷ pos 5 ∷ pos 12 ∷ pos 19 ∷ [])
     -- nominal isn't the median: of durations 5, 5, 7, 8, 9 it is 5
-    ∷ movie (moovOf (2 ∷ 5 ∷ 1 ∷ 7 ∷ 1 ∷ 8 ∷ 1 ∷ 9 ∷ []) [] []) (Times 5 100 (pos 5) (pos 34)) (pos 0 ∷ pos 5 ∷ pos 10 ∷ pos 17 ∷ pos 25 ∷ [])
+    ∷ movie (moovOf (2 ∷ 5 ∷ 1 ∷ 7 ∷ 1 ∷ 8 ∷ 1 ∷ 9 ∷ []) [] []) (Presented 5 100 (pos 5) (pos 34)) (pos 0 ∷ pos 5 ∷ pos 10 ∷ pos 17 ∷ pos 25 ∷ [])
     -- a recording's timestamps 1000, 1010, 1025: nominal 10, end 35
     ∷ recording (pos 1000 ∷ pos 1010 ∷ pos 1025 ∷ []) (Timed 3 1000000000 (pos 10) (pos 35)) (pos 0 ∷ pos 10 ∷ pos 25 ∷ [])
     -- the auditor's clip: accepted, its rows, cut twice and cut at once, and frame 41,200 of it: frame 28,200 of original 1, with the shift -1,800
     ∷ checked clipTable (Frames 108500)
     ∷ judged clipTable (Constant 108500 25 1) (Frames 108500)
-    ∷ map clipTable clip
-    ∷ cuts clip 5000 105000 clipCut
+    ∷ map clipTable clipRows
+    ∷ cuts clipRows 5000 105000 clipCut
     ∷ cuts clipCut 10000 90000 clipTwice
-    ∷ cuts clip 15000 95000 clipTwice
+    ∷ cuts clipRows 15000 95000 clipTwice
     ∷ origin clipTwice 41200 (From 1 28200 1 clipShift)
-    ∷ origin clip 56200 (From 1 28200 1 clipShift)
+    ∷ origin clipRows 56200 (From 1 28200 1 clipShift)
     ∷ frame clipTable 56200 (Index 1)
     -- its frames up to 50,000 and those after them, joined: four rows, which merged are the clip again
-    ∷ cuts clip 0 50000 clipHead
-    ∷ cuts clip 50000 108500 clipTail
+    ∷ cuts clipRows 0 50000 clipHead
+    ∷ cuts clipRows 50000 108500 clipTail
     ∷ joins clipHead clipTail (row 0 1500 40000 0 ∷ shifted 1 12000 10000 40000 clipShift ∷ shifted 1 22000 28500 50000 clipShift ∷ row 2 0 30000 78500 ∷ [])
-    ∷ merges (row 0 1500 40000 0 ∷ shifted 1 12000 10000 40000 clipShift ∷ shifted 1 22000 28500 50000 clipShift ∷ row 2 0 30000 78500 ∷ []) clip
+    ∷ merges (row 0 1500 40000 0 ∷ shifted 1 12000 10000 40000 clipShift ∷ shifted 1 22000 28500 50000 clipShift ∷ row 2 0 30000 78500 ∷ []) clipRows
     -- a cut merges nothing, and neighbours whose shifts differ stay apart: an absent shift isn't a shift of 0
     ∷ cuts (row 0 0 10 0 ∷ row 0 10 10 10 ∷ []) 0 20 (row 0 0 10 0 ∷ row 0 10 10 10 ∷ [])
     ∷ merges (row 0 0 10 0 ∷ row 0 10 10 10 ∷ []) (row 0 0 20 0 ∷ [])

@@ -8,7 +8,7 @@ use denote.Ref.{RefT, now}
 use Rattle.audit.specs.Promise.{Promise, Result, Anywhere, lent}
 use Rattle.records.specs.Records.{locate}
 use Rattle.records.specs.declared.TrimSegment.{TrimSegment}
-use Rattle.segment_table.specs.Told.{foundTold}
+use Rattle.segment_table.specs.Told.{lookupTold}
 use Rattle.segment_table.proofs.clock.st_is_utc_second as st-is-utc-second·
 use Rattle.segment_table.proofs.clock.st_is_utc_second.Reads as st-is-utc-second·reads
 use Rattle.segment_table.proofs.clock.st_ticks_to_us as st-ticks-to-us·
@@ -167,7 +167,7 @@ st-check-mcraw·anywhere κs a e = refl
 
 -- segment_table::listed::st_segment_of_frame_records, proved by hand: its clause, as the source has it
 abbrev pub st-segment-of-frame-records : Promise
-st-segment-of-frame-records = record { types = st-segment-of-frame-records·.ended; Asked = λ κs a. Unit {0}; Learnt = λ κs a z e. (z, now (e .1 .1 .1 .1 .1 .0), now (e .1 .1 .1 .1 .1 .1 .0)) ≡ foundTold (locate (now (a .0)) (now (a .1 .0)) (now (a .1 .1 .0)) (a .1 .1 .1 .0) (a .1 .1 .1 .1 .0)) (now (a .1 .1 .1 .1 .1 .0)) }
+st-segment-of-frame-records = record { types = st-segment-of-frame-records·.ended; Asked = λ κs a. Unit {0}; Learnt = λ κs a z e. (z, now (e .1 .1 .1 .1 .1 .0), now (e .1 .1 .1 .1 .1 .1 .0)) ≡ lookupTold (locate (now (a .0)) (now (a .1 .0)) (now (a .1 .1 .0)) (a .1 .1 .1 .0) (a .1 .1 .1 .1 .0)) (now (a .1 .1 .1 .1 .1 .0)) }
 
 -- st_segment_of_frame_records(sources, text, records, log, frame, segment, index) answers ans, and leaves segment′, index′
 abbrev pub StSegmentOfFrameRecords : List ℕ → List ℕ → List TrimSegment → Bool → ℕ → ℕ → ℕ → Result st-segment-of-frame-records ([], ([], ([], ([], ([], tt))))) → ℕ → ℕ → Type 0

@@ -7,7 +7,7 @@ use lib.ListN.{take}
 use Rattle.rows.specs.declared.Row.{Row}
 use Rattle.rows.specs.Lent.{rows}
 use Rattle.rules.specs.declared.Checked.{Checked}
-use Rattle.rules.specs.declared.Found.{Found}
+use Rattle.rules.specs.declared.Lookup.{Lookup}
 use Rattle.rules.specs.declared.Continued.{Continued}
 use Rattle.rules.specs.Records.{Table}
 use Rattle.table.specs.declared.Filled.{Filled}
@@ -37,10 +37,10 @@ on call l = call (l .sources) (l .words) (l .stamps) (l .log) (l .text)
 abbrev pub Check : Lent → Checked → Type 0
 Check l r = on calls.Check l r
 
-abbrev pub SegmentOfFrame : Lent → ℕ → Found → Type 0
+abbrev pub SegmentOfFrame : Lent → ℕ → Lookup → Type 0
 SegmentOfFrame l frame r = on calls.SegmentOfFrame l frame r
 
-abbrev pub SegmentOfTimeUs : Lent → ℤ → Found → Type 0
+abbrev pub SegmentOfTimeUs : Lent → ℤ → Lookup → Type 0
 SegmentOfTimeUs l time r = on calls.SegmentOfTimeUs l time r
 
 abbrev pub Continues : Lent → ℕ → Continued → Type 0
@@ -61,8 +61,8 @@ abbrev pub inWords : List ℕ → List ℕ → List TrimSegment → Bool → Len
 inWords sources text rs log = record { sources = sources; words = allUnsigned rs; stamps = allSigned rs; log = log; text = text }
 
 -- the map of k rows that a call wrote over ou and os
-abbrev pub written : ℕ → List ℕ → List ℤ → List Row
-written k ou os = rows (take (5 * k) ou) (take k os)
+abbrev pub mapWritten : ℕ → List ℕ → List ℤ → List Row
+mapWritten k ou os = rows (take (5 * k) ou) (take k os)
 
 -- the library's call answers something, of which this is told
 pub record Tells {A : Type 0} (Answers : A → Type 0) (Is : A → Type 0) : Type 0 where

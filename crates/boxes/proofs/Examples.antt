@@ -5,7 +5,7 @@ use mathlib.Core.List.{List, [], _∷_, _++_}
 use Prim.Native.Nat.{ℕ}
 use Rattle.boxes.specs.Bytes.{mtrm}
 use Rattle.boxes.specs.Boxes.{clean, bad, box, fittingIn, sizeOf, boxSize, headerAt, boxesFrom, boxesAt, boxesOf, isText, textual, firstSuch}
-use Rattle.boxes.specs.Places.{childPlace, findBoxPlace, allOf, tableOf, tableTextPlace}
+use Rattle.boxes.specs.Places.{childPlace, findBoxPlace, allOf, tableIn, tableTextPlace}
 use Rattle.boxes.specs.declared.Sized.the-variants.{Box, Refused as NoSize}
 use Rattle.boxes.specs.declared.Place.the-variants.{At, Refused}
 
@@ -83,13 +83,13 @@ no-text = refl
 
 -- one MTRM is answered; none and two are refused
 one-table : tableTextPlace (file table) ≡ At 32 2
-unfolding tableTextPlace tableOf allOf firstSuch textual isText boxesAt boxesFrom headerAt sizeOf fittingIn file inMoov inUdta free table
+unfolding tableTextPlace tableIn allOf firstSuch textual isText boxesAt boxesFrom headerAt sizeOf fittingIn file inMoov inUdta free table
 one-table = refl
 
 no-table : tableTextPlace (file (free 8)) ≡ Refused 40 0
-unfolding tableTextPlace tableOf allOf firstSuch textual isText boxesAt boxesFrom headerAt sizeOf fittingIn file inMoov inUdta free
+unfolding tableTextPlace tableIn allOf firstSuch textual isText boxesAt boxesFrom headerAt sizeOf fittingIn file inMoov inUdta free
 no-table = refl
 
 two-tables : tableTextPlace (file (large ++ table)) ≡ Refused 41 0
-unfolding tableTextPlace tableOf allOf firstSuch textual isText boxesAt boxesFrom headerAt sizeOf fittingIn file inMoov inUdta free table large
+unfolding tableTextPlace tableIn allOf firstSuch textual isText boxesAt boxesFrom headerAt sizeOf fittingIn file inMoov inUdta free table large
 two-tables = refl

@@ -10,7 +10,7 @@ use denote.Enum.Declared.{tagOf}
 use denote.Ref.{RefT, now}
 use lib.ListN.{length, take, drop, length-take, length-drop}
 use lib.Seq.{take-all}
-use Rattle.boxes.specs.Places.{placeOr, PartAt, moved, inPart}
+use Rattle.boxes.specs.Places.{placeOr, PartAt, movedPlace, inPart}
 use Rattle.boxes.specs.declared.Walk.{Walk}
 use Rattle.boxes.specs.declared.Walk.the-variants.{Found, End, Bad}
 use Rattle.boxes.specs.declared.Place.{Place}
@@ -50,5 +50,5 @@ module _ (s : List ℕ) (number : ℕ) (search : List ℕ → Place) {w v : Walk
       by End t = refl
       by (Bad at) t = refl
 
-  pub hit : {a n : ℕ} {q r : Place} → w ≡ Found a n → q ≡ search (take (a + n - a) (drop a s)) → r ≡ moved a q → r ≡ inPart s (placeOr number v) search
+  pub hit : {a n : ℕ} {q r : Place} → w ≡ Found a n → q ≡ search (take (a + n - a) (drop a s)) → r ≡ movedPlace a q → r ≡ inPart s (placeOr number v) search
   hit {a} {n} f q r = rw (r, q, ← e, f, add-sub-cancel-left)

@@ -7,13 +7,14 @@ use Prim.Native.Nat.{ℕ}
 use native.Mathlib.Omega.{arith}
 use borrow.Author.Tests.{eq-eqb, ne-eqb, not-true, not-false}
 use Rattle.choice.proofs.Tests.{tf}
-use Rattle.boxes.specs.Boxes.{Boxes, bad, box, headerAt, afterHeader, boxesAt, isText, textual, searched, firstSuch, firstOf, stopAt}
+use Rattle.boxes.specs.Boxes.{Boxes, bad, box, headerAt, afterHeader, boxesAt, isText, textual, searched, firstSuch, firstOf}
 use Rattle.boxes.specs.Places.{allOf, onlyOf}
 use Rattle.boxes.specs.declared.Header.{Header}
 use Rattle.boxes.specs.declared.Header.the-variants.{Whole, Short, Bad}
 use Rattle.boxes.specs.declared.Walk.the-variants.{Found, Bad as BadAt}
 use Rattle.boxes.specs.declared.Place.{Place}
 use Rattle.boxes.specs.declared.Place.the-variants.{At, Refused}
+use Rattle.boxes.specs.Steps.{stopAt}
 use Rattle.boxes.proofs.Walks.{Stops, at-header}
 
 -- a type that the search may pass, and one at which it stops; the code has `t` for whether it is text

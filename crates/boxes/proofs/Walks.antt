@@ -8,11 +8,12 @@ use types.Run.{OneOf}
 use denote.Enum.Declared.{tagOf}
 use native.Mathlib.Omega.{arith}
 use lib.ListN.{length}
-use Rattle.boxes.specs.Boxes.{Boxes, box, headerAt, reachedBy, afterHeader, boxesFrom, boxesAt, firstSuch, stopAt}
+use Rattle.boxes.specs.Boxes.{Boxes, box, headerAt, reachedBy, afterHeader, boxesFrom, boxesAt, firstSuch}
 use Rattle.boxes.specs.declared.Header.{Header}
 use Rattle.boxes.specs.declared.Header.the-variants.{Whole, Short, Bad}
 use Rattle.boxes.specs.declared.Reached.the-variants.{Refused}
 use Rattle.boxes.specs.declared.Walk.the-variants.{Found}
+use Rattle.boxes.specs.Steps.{stopAt}
 use Rattle.boxes.proofs.Header.{the-type}
 use Rattle.boxes.proofs.Sizes.{Lies, header-lies, short}
 

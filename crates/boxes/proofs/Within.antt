@@ -10,13 +10,14 @@ use borrow.Author.Tests.{ltb-false}
 use Rattle.choice.proofs.Tests.{either}
 use Rattle.boxes.specs.Bytes.{moov, udta, mtrm}
 use Rattle.boxes.specs.Boxes.{mostBytes, Boxes, clean, bad, box, headerAt, afterHeader, boxesFrom, boxesAt, boxesOf, isText, textual, searched, firstSuch, firstOf}
-use Rattle.boxes.specs.Places.{placeOr, startOf, Within, moved, inPart, firstIn, childPlace, findBoxPlace, allOf, onlyOf, tableOf, tableTextPlace}
+use Rattle.boxes.specs.Places.{placeOr, startOf, movedPlace, inPart, firstIn, childPlace, findBoxPlace, allOf, onlyOf, tableIn, tableTextPlace}
 use Rattle.boxes.specs.declared.Header.{Header}
 use Rattle.boxes.specs.declared.Header.the-variants.{Whole, Short, Bad}
 use Rattle.boxes.specs.declared.Walk.{Walk}
 use Rattle.boxes.specs.declared.Walk.the-variants.{Found}
 use Rattle.boxes.specs.declared.Place.{Place}
 use Rattle.boxes.specs.declared.Place.the-variants.{At, Refused}
+use Rattle.boxes.specs.Steps.{Within}
 use Rattle.boxes.proofs.Sizes.{Lies, header-lies}
 use Rattle.boxes.proofs.Parts.{length-part}
 
@@ -75,7 +76,7 @@ pub fits-in : (number : ℕ) {l a n : ℕ} {w : Walk} → Within l (placeOr numb
 fits-in number {l} h e = subst (λ (w : Walk). Within l (placeOr number w)) e h
 
 -- a place in a part, moved to its place in the whole
-moved-within : (a l m : ℕ) (p : Place) → Within m p → a + m ≤ l → Within l (moved a p)
+moved-within : (a l m : ℕ) (p : Place) → Within m p → a + m ≤ l → Within l (movedPlace a p)
 moved-within a l m (At start len) w h = omega arith
 moved-within a l m (Refused n i) w h = tt
 
@@ -114,8 +115,8 @@ pub only-within : (kind : ℕ) (s : List ℕ) → Within (length s) (onlyOf (all
 only-within kind s = only-inside (length s) (allOf kind (boxesOf s)) (all-inside (length s) kind (boxesOf s) (inside s))
 
 -- what each call answers lies within its bytes
-pub table-of-within : (m : List ℕ) → Within (length m) (tableOf m)
-unfolding tableOf
+pub table-of-within : (m : List ℕ) → Within (length m) (tableIn m)
+unfolding tableIn
 table-of-within m = in-part-within m (placeOr 40 (firstOf udta (boxesOf m))) (λ u. onlyOf (allOf mtrm (boxesOf u))) (search-within 40 udta false m refl) (only-within mtrm)
 
 module _ (s : List ℕ) where
@@ -137,4 +138,4 @@ module _ (s : List ℕ) where
   unfolding tableTextPlace
   table-text-within =
       either (Within (length s)) (ltb mostBytes (length s)) (λ a. tt)
-      (λ a. in-part-within s (placeOr 40 (firstOf moov (textual (boxesOf s)))) tableOf (search-within 40 moov true s refl) table-of-within)
+      (λ a. in-part-within s (placeOr 40 (firstOf moov (textual (boxesOf s)))) tableIn (search-within 40 moov true s refl) table-of-within)

@@ -105,12 +105,6 @@ abbrev pub searched : Bool → Boxes → Boxes
 searched true b = textual b
 searched false b = b
 
--- how a walk ends at a header that isn't whole
-abbrev pub stopAt : Header → ℕ → Walk
-stopAt Bad at = BadAt at
-stopAt Short at = End
-stopAt (Whole kind start len after) at = End
-
 -- the first box that passes a test on its type, its payload's start and its payload's length, or how the boxes end
 unfoldable pub firstSuch : (ℕ → ℕ → ℕ → Bool) → Boxes → Walk
 firstSuch test clean = End

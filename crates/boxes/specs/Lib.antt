@@ -2,3 +2,4 @@ pub mod Bytes
 pub mod Boxes
 pub mod Places
 pub mod Tracks
+pub mod Steps

@@ -1,5 +1,5 @@
 -- A part of the caller's own bytes, and what each search answers: a part's place, or a refusal's number.
-use Prim.Native.Nat.{ℕ, _+_, _-_, _≤_}
+use Prim.Native.Nat.{ℕ, _+_, _-_}
 use mathlib.Core.List.{List, [], _∷_}
 use mathlib.Core.Bool.{Bool, false}
 use mathlib.Core.Path.{_≡_}
@@ -30,24 +30,19 @@ abbrev pub startOf : Place → ℕ
 startOf (At start len) = start
 startOf (Refused n i) = 0
 
--- the part at a place lies within so many bytes
-abbrev pub Within : ℕ → Place → Type 0
-Within l (At start len) = start + len ≤ l
-Within l (Refused n i) = Unit {0}
-
 -- r is the part of s at a place: its bytes, and it lies in the memory of s, so far after the first byte of s
 pub record PartAt (s : RefT (List ℕ)) (p : Place) (r : RefT (List ℕ)) : Type 0 where
   pub bytes : now r ≡ partOf (now s) p
   pub place : r .ptr ≡ (s .ptr .0, s .ptr .1 + startOf p)
 
 -- a place in a part that starts at `by`, as a place in the whole
-abbrev pub moved : ℕ → Place → Place
-moved by (At start len) = At (by + start) len
-moved by (Refused n i) = Refused n i
+abbrev pub movedPlace : ℕ → Place → Place
+movedPlace by (At start len) = At (by + start) len
+movedPlace by (Refused n i) = Refused n i
 
 -- what a search in the part at a place answers, as a place in the whole
 abbrev pub inPart : List ℕ → Place → (List ℕ → Place) → Place
-inPart s (At start len) search = moved start (search (take len (drop start s)))
+inPart s (At start len) search = movedPlace start (search (take len (drop start s)))
 inPart s (Refused n i) search = Refused n i
 
 -- the first box of a type among some bytes, with text types or without; 31 where there is none
@@ -88,11 +83,11 @@ onlyOf (p ∷ []) = p
 onlyOf (p ∷ q ∷ l) = Refused 41 0
 
 -- the only MTRM of the first udta of a moov
-unfoldable pub tableOf : List ℕ → Place
-tableOf m = inPart m (placeOr 40 (firstOf udta (boxesOf m))) (λ u. onlyOf (allOf mtrm (boxesOf u)))
+unfoldable pub tableIn : List ℕ → Place
+tableIn m = inPart m (placeOr 40 (firstOf udta (boxesOf m))) (λ u. onlyOf (allOf mtrm (boxesOf u)))
 
 -- `table_text`, in the first moov of a file, with text types: 30, 40, 41
 unfoldable pub tableTextPlace : List ℕ → Place
 tableTextPlace file =
     if ltb mostBytes (length file) then Refused 30 0
-    else inPart file (placeOr 40 (firstOf moov (textual (boxesOf file)))) tableOf
+    else inPart file (placeOr 40 (firstOf moov (textual (boxesOf file)))) tableIn

@@ -5,8 +5,8 @@ use crate::search::find_child;
 ghost use mathlib.Core.Path.{_≡_};
 ghost use Prim.Native.Nat.{_+_, _<_, _^_};
 ghost use lib.ListN.{length};
-ghost use Rattle.boxes.specs.Places.{placeOr, startOf, Within, PartAt, childIn};
-ghost use Rattle.boxes.specs.Places.{moved as Places·moved};
+ghost use Rattle.boxes.specs.Places.{placeOr, startOf, PartAt, childIn, movedPlace};
+ghost use Rattle.boxes.specs.Steps.{Within};
 
 // The place of what a walk found, or a number.
 pub(crate) fn place_or(number: u64, w: Walk) -> Place
@@ -22,7 +22,7 @@ pub(crate) fn place_or(number: u64, w: Walk) -> Place
 // A place in a part, as a place in the whole; the part starts at `by`.
 pub(crate) fn moved(by: usize, p: Place) -> Place
     requires { ⌜ by + startOf p < 2 ^ 64 ⌝ }
-    ensures { λ r. ⌜ r ≡ Places·moved by p ⌝ }
+    ensures { λ r. ⌜ r ≡ movedPlace by p ⌝ }
 {
     match p {
         Place::At { start, len } => Place::At {

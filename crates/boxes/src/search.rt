@@ -3,7 +3,8 @@ use crate::Header;
 use crate::Walk;
 use crate::size::header_at;
 ghost use mathlib.Core.Path.{_≡_};
-ghost use Rattle.boxes.specs.Boxes.{boxesOf, searched, firstOf, stopAt, textByte, isText};
+ghost use Rattle.boxes.specs.Boxes.{boxesOf, searched, firstOf, textByte, isText};
+ghost use Rattle.boxes.specs.Steps.{stopAt};
 
 // How a walk ends at a header that isn't whole.
 pub(crate) fn stopped(h: Header, at: usize) -> Walk

@@ -8,7 +8,7 @@ use crate::search::find_child;
 use crate::size::header_at;
 ghost use mathlib.Core.Path.{_≡_};
 ghost use Rattle.boxes.specs.Boxes.{boxesOf};
-ghost use Rattle.boxes.specs.Places.{allOf, onlyOf, tableOf};
+ghost use Rattle.boxes.specs.Places.{allOf, onlyOf, tableIn};
 
 // The only child of a type: 40 where there is none, 41 where there are more. The walk ends at the second.
 fn only_child(s: &[u8], kind: u32) -> Place
@@ -39,7 +39,7 @@ fn only_child(s: &[u8], kind: u32) -> Place
 
 // Where the only MTRM box of a moov's first udta has its payload, in the moov.
 pub(crate) fn table_of(moov: &[u8]) -> Place
-    ensures { λ r. ⌜ r ≡ tableOf (now (moov .entry)) ⌝ }
+    ensures { λ r. ⌜ r ≡ tableIn (now (moov .entry)) ⌝ }
 {
     let Walk::Found { start, len } = find_child(moov, code(b"udta")) else {
         return Place::Refused(40, 0);

@@ -9,7 +9,7 @@ const MOST_ROWS: usize = 1024;
 const ROW: usize = 5;
 
 // The line of a case that isn't one.
-pub fn malformed() {
+pub fn unreadable() {
     text(b"malformed\n");
 }
 

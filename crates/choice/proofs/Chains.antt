@@ -6,8 +6,9 @@ use native.Mathlib.Omega.{arith}
 use borrow.Author.Tests.{ltb-false, le-ltb}
 use Rattle.choice.specs.declared.Refusal.{Refusal}
 use Rattle.choice.specs.declared.Refusal.the-variants.{Never, At}
-use Rattle.choice.specs.Choice.{when, orElse, past}
+use Rattle.choice.specs.Choice.{when, past}
 use Rattle.choice.specs.Records.{orRefused}
+use Rattle.choice.specs.Steps.{orElse}
 
 pub orElse-kept : (n rest : ℕ) → (n ≡ 0 → ⊥) → n ≡ orElse n rest
 unfolding orElse

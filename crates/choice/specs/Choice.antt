@@ -1,5 +1,5 @@
 -- A choice by a test, and chains of tests in order.
-use Prim.Native.Nat.{ℕ, zero, suc, _+_}
+use Prim.Native.Nat.{ℕ, _+_}
 use mathlib.Core.Bool.{Bool, true, false}
 use lib.Dec.{ltb}
 
@@ -13,10 +13,9 @@ unfoldable pub when : {A : Type 0} → Bool → A → A → A
 when true n rest = n
 when false n rest = rest
 
--- the first number that is no 0
-unfoldable pub orElse : ℕ → ℕ → ℕ
-orElse zero rest = rest
-orElse (suc n) rest = suc n
+-- the largest u64, 2^64 - 1
+abbrev pub maxU64 : ℕ
+maxU64 = 0xffff_ffff_ffff_ffff
 
 -- a and b together pass m
 unfoldable pub past : ℕ → ℕ → ℕ → Bool

@@ -1,2 +1,4 @@
 pub mod Choice
 pub mod Records
+pub mod Numbers
+pub mod Steps

@@ -1,6 +1,19 @@
 // The words that the definitions of every crate share: a chain of tests in order, a choice, the first record refused.
 ghost use mathlib.Core.Path.{_≡_};
-ghost use Rattle.choice.specs.Choice.{when, orElse, past};
+ghost use Rattle.choice.specs.Choice.{when, past};
+ghost use Rattle.choice.specs.Steps.{orElse};
+
+// The refusals that several calls share: over the most bytes or timestamps; no times; too little room; a number outside i64.
+pub const TOO_LONG: u64 = 30;
+
+pub const NO_TIMES: u64 = 31;
+
+pub const NO_ROOM: u64 = 32;
+
+pub const OUTSIDE: u64 = 33;
+
+// The largest u64.
+pub const MAX_U64: u64 = 0xffff_ffff_ffff_ffff;
 
 // A refusal's number and index, or none.
 pub enum Refusal {

@@ -2,19 +2,19 @@
 use boxes::Place;
 use boxes::find_box_place;
 use boxes::read::code;
+use choice::TOO_LONG;
 use frame_times::FrameTimes;
 use frame_times::video_frame_times_of_moov;
 use printing::number;
 use printing::signed;
 use printing::text;
 use reading::End;
-ghost use Rattle.frame_times.specs.Times.{Answered, room};
+ghost use Rattle.frame_times.specs.Times.{room};
+ghost use Rattle.frame_times.specs.Steps.{OutcomeAnswered};
 ghost use Rattle.frame_lines.specs.Files.{fileTimes};
 
 // How many bytes a file may have; a longer one is refused with TOO_LONG.
 const FILE_BYTES: usize = 32_768;
-
-const TOO_LONG: u64 = 30;
 
 // The frame times of a file's first moov; 31 where there is none.
 fn times_of_file(
@@ -23,7 +23,7 @@ fn times_of_file(
     work_a: &mut [i64],
     work_b: &mut [i64],
 ) -> FrameTimes
-    ensures { λ r. ⌜ Answered (fileTimes (now (file .entry)) (room (now (starts .entry)) (now («work_a» .entry)) (now («work_b» .entry)))) r (now (starts .entry)) (now (starts .exit)) ⌝ }
+    ensures { λ r. ⌜ OutcomeAnswered (fileTimes (now (file .entry)) (room (now (starts .entry)) (now («work_a» .entry)) (now («work_b» .entry)))) r (now (starts .entry)) (now (starts .exit)) ⌝ }
 {
     let p = find_box_place(file, 0, file.len(), code(b"moov"), true);
     match p {
@@ -85,7 +85,7 @@ fn print_file(file: &[u8]) {
     let mut work_b = [0i64; 1024];
     match times_of_file(file, &mut starts, &mut work_a, &mut work_b) {
         FrameTimes::Refused { number, index: _ } => print_refusal(number),
-        FrameTimes::Times {
+        FrameTimes::Presented {
             frames,
             timescale,
             nominal,

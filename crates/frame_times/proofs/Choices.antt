@@ -12,12 +12,13 @@ use borrow.Author.Tests.{ltb-true, ltb-false}
 use native.Mathlib.Omega.{arith}
 use Rattle.choice.specs.Choice.{if_then_else_}
 use Rattle.choice.proofs.Tests.{decide}
-use Rattle.signed.specs.Signed.{I64, within}
+use Rattle.signed.specs.Signed.{within}
 use Rattle.signed.proofs.Held.{the-type as held-type}
 use Rattle.signed.specs.declared.Held.{Held}
 use Rattle.signed.specs.declared.Held.the-variants.{Is, Outside}
+use Rattle.signed.specs.Steps.{I64}
 use Rattle.tracks.specs.declared.Edit.{Edit}
-use Rattle.frame_times.specs.Frames.{inEdit, capped, origin, maxZ, minZ}
+use Rattle.frame_times.specs.Frames.{inEdit, capped, timeOrigin, maxZ, minZ}
 
 module _ (e : Edit) (c : ℤ) where
   pub in-endless : leZ (e .time) c ≡ true → e .endless ≡ true → inEdit e c ≡ true
@@ -38,10 +39,10 @@ module _ (e : Edit) (c : ℤ) where
   pub cap-past : e .endless ≡ false → leZ c (e .end) ≡ false → capped e c ≡ e .end
   cap-past q p = (λ i. if q i then c else minZ c (e .end)) ∙ (λ i. if p i then c else e .end)
 
-  pub origin-edited : (b : ℤ) → e .edited ≡ true → origin e c b ≡ maxZ c b
+  pub origin-edited : (b : ℤ) → e .edited ≡ true → timeOrigin e c b ≡ maxZ c b
   origin-edited b q = λ i. if q i then maxZ c b else pos 0
 
-  pub origin-none : (b : ℤ) → e .edited ≡ false → origin e c b ≡ pos 0
+  pub origin-none : (b : ℤ) → e .edited ≡ false → timeOrigin e c b ≡ pos 0
   origin-none b q = λ i. if q i then maxZ c b else pos 0
 
 module _ (a b : ℤ) where

@@ -11,12 +11,12 @@ use lib.IntN.{ℤ, pos, _+ℤ_}
 use lib.Signed.{leZ}
 use borrow.Author.Tests.{eq-eqb, ne-eqb}
 use Rattle.choice.specs.Choice.{if_then_else_}
+use Rattle.signed.specs.Steps.{I64}
 use Rattle.choice.proofs.Tests.{decide}
-use Rattle.signed.specs.Signed.{I64}
 use Rattle.slices.proofs.Every.{all-append}
 use Rattle.tracks.specs.declared.Edit.{Edit}
 use Rattle.tracks.specs.declared.Cursor.{Cursor}
-use Rattle.tracks.specs.Tables.{offsetOf, entriesOf, total, durations, offsets}
+use Rattle.tracks.specs.Tables.{offsetOf, entriesOf, entryTotal, durations, offsets}
 use Rattle.tracks.specs.Steps.{rest, There, Next, atFirst}
 use Rattle.tracks.proofs.EntryLaws.{length-per-frame}
 use Rattle.frame_times.specs.declared.Kept.{Kept}
@@ -89,7 +89,7 @@ pub record Keeping (e : Edit) (stts ctts : List ℕ) (whole : List Frame) (times
   pub is : done ++ kept e (framesFrom t (rest stts ds) (map offsetOf (rest ctts os))) ≡ whole
   pub told : Told done k times
 
-pub keep-start : (e : Edit) (stts ctts : List ℕ) (n m : ℕ) (times : List ℤ) (k : Kept) → k .count ≡ 0 → n * 8 ≤ length stts - 8 → m * 8 ≤ length ctts - 8 → length times ≡ total (entriesOf n stts)
+pub keep-start : (e : Edit) (stts ctts : List ℕ) (n m : ℕ) (times : List ℤ) (k : Kept) → k .count ≡ 0 → n * 8 ≤ length stts - 8 → m * 8 ≤ length ctts - 8 → length times ≡ entryTotal (entriesOf n stts)
     → Keeping e stts ctts (kept e (framesFrom 0 (durations n stts) (offsets m ctts))) times times (atFirst n) (atFirst m) k 0 0
 keep-start e stts ctts n m times k z a b l =
     record {

@@ -9,7 +9,8 @@ use lib.Dec.{ltb}
 use borrow.Author.Tests.{ltb-true, ltb-false, le-leb}
 use Rattle.choice.specs.Choice.{if_then_else_}
 use Rattle.choice.proofs.Tests.{decide}
-use Rattle.signed.specs.Signed.{I64, ofBits}
+use Rattle.signed.specs.Signed.{ofBits}
+use Rattle.signed.specs.Steps.{I64}
 use Rattle.signed.proofs.Up.{up, sum, difference, up-le}
 use Rattle.tracks.specs.Tables.{offsetOf}
 use Rattle.frame_times.specs.Steps.{Near, Ended}

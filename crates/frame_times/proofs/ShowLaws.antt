@@ -12,8 +12,9 @@ use lib.Signed.{leZ, mag}
 use borrow.Author.Tests.{le-leb, lt-leb}
 use Rattle.choice.specs.Choice.{if_then_else_}
 use Rattle.choice.specs.Records.{any}
+use Rattle.signed.specs.Steps.{I64}
+use Rattle.signed.specs.Signed.{isOutside}
 use Rattle.choice.proofs.Tests.{decide}
-use Rattle.signed.specs.Signed.{I64}
 use Rattle.signed.proofs.Up.{up, up-top, le-up, gt-up, sums, Difference, difference}
 use Rattle.slices.specs.Slices.{All, laid}
 use Rattle.slices.proofs.Every.{all-at, all-of, all-weaken}
@@ -21,10 +22,10 @@ use Rattle.slices.proofs.Laid.{set-laid}
 use Rattle.order.specs.Order.{sorted}
 use Rattle.order.proofs.Sorted.{all-sorted}
 use Rattle.tracks.specs.declared.Edit.{Edit}
-use Rattle.frame_times.specs.declared.FrameTimes.the-variants.{Times}
-use Rattle.frame_times.specs.Frames.{capped, origin, moved, maxZ}
+use Rattle.frame_times.specs.declared.FrameTimes.the-variants.{Presented}
+use Rattle.frame_times.specs.Frames.{capped, timeOrigin, movedTime, maxZ}
 use Rattle.frame_times.specs.Steps.{Near, Ended, Showable, Movable}
-use Rattle.frame_times.specs.Times.{Outcome, isOutside, placed, shown, refused}
+use Rattle.frame_times.specs.Times.{Outcome, placed, shown, refused}
 use Rattle.frame_times.proofs.Choices.{cap-endless, cap-under, cap-past, origin-edited, origin-none, max-first, max-second}
 
 -- at most 2^61 from 0
@@ -43,7 +44,7 @@ mid-near z h = mid z (omega arith)
 max-mid : (a b : ℤ) → Mid a → Mid b → Mid (maxZ a b)
 max-mid a b h k = decide (leZ a b) (λ p. subst Mid (sym (max-second a b p)) k) (λ p. subst Mid (sym (max-first a b p)) h)
 
-origin-mid : (e : Edit) (least first : ℤ) → Near least → Near first → Mid (origin e least first)
+origin-mid : (e : Edit) (least first : ℤ) → Near least → Near first → Mid (timeOrigin e least first)
 origin-mid e a b h k =
     decide (e .edited)
     (λ p. subst Mid (sym (origin-edited e a b p)) (max-mid a b (mid-near a h) (mid-near b k)))
@@ -78,12 +79,12 @@ apart : (x o : ℤ) → Mid x → Mid o → Difference x o (x -ℤ o)
 apart x o h k = difference x o (h .inside) (k .inside) (omega (arith, h, k)) (omega (arith, h, k))
 
 -- what is at most an end that fits, fits
-module _ (o d cap : ℤ) (mo : Mid o) (mc : Mid cap) (fd : I64 d) (nd : 2 ^ 63 ≤ up d) (fits : I64 (moved o d cap)) where
+module _ (o d cap : ℤ) (mo : Mid o) (mc : Mid cap) (fd : I64 d) (nd : 2 ^ 63 ≤ up d) (fits : I64 (movedTime o d cap)) where
   under-fits : (x : ℤ) → Mid x → leZ x cap ≡ true → Movable o d x
   under-fits x mx h =
       let a = apart cap o mc mo in
       let b = apart x o mx mo in
-      let top = up-top (moved o d cap) fits in
+      let top = up-top (movedTime o d cap) fits in
       let e = sums (cap -ℤ o) d (a .inside) fd .at (omega arith) in
       let k = le-up x cap h in
       (b .inside, sums (x -ℤ o) d (b .inside) fd .inside (omega arith) (omega (arith, a .at, b .at)))
@@ -100,7 +101,7 @@ none-out (z ∷ l) h = (λ i. lt-leb 9223372036854775808 (mag z) (h .0) i || any
 
 module _ (scale : ℕ) (nominal end : ℤ) (starts : List ℤ) where
   abbrev told : Outcome
-  told = record { answer = Times (length starts) scale nominal end; starts = starts }
+  told = record { answer = Presented (length starts) scale nominal end; starts = starts }
 
   placed-out : 2 ^ 63 ≤ mag end → placed scale nominal end starts ≡ refused 33
   unfolding placed
@@ -125,7 +126,7 @@ all-map P f [] h = tt
 all-map P f (x ∷ l) h = (h .0, all-map P f l (h .1))
 
 abbrev pub from-0 : Edit → ℤ → List ℤ → ℤ
-from-0 e first times = origin e (getD times 0 (pos 0)) first
+from-0 e first times = timeOrigin e (getD times 0 (pos 0)) first
 
 module _ (times : List ℤ) (first last : ℤ) (e : Edit) (s : Showable times first last e) (some : 0 < length times) where
   o-mid : Mid (from-0 e first times)
@@ -137,11 +138,11 @@ module _ (times : List ℤ) (first last : ℤ) (e : Edit) (s : Showable times fi
   pub end-apart : Difference (capped e last) (from-0 e first times) (capped e last -ℤ from-0 e first times)
   end-apart = apart (capped e last) (from-0 e first times) cap-mid o-mid
 
-  pub shown-out : (scale : ℕ) (nominal : ℤ) → 2 ^ 63 ≤ mag (moved (from-0 e first times) (e .empty) (capped e last)) → shown scale nominal e first last times ≡ refused 33
+  pub shown-out : (scale : ℕ) (nominal : ℤ) → 2 ^ 63 ≤ mag (movedTime (from-0 e first times) (e .empty) (capped e last)) → shown scale nominal e first last times ≡ refused 33
   unfolding shown
-  shown-out scale nominal h = placed-out scale nominal (moved (from-0 e first times) (e .empty) (capped e last)) (map (moved (from-0 e first times) (e .empty)) times) h
+  shown-out scale nominal h = placed-out scale nominal (movedTime (from-0 e first times) (e .empty) (capped e last)) (map (movedTime (from-0 e first times) (e .empty)) times) h
 
-  module _ (fits : I64 (moved (from-0 e first times) (e .empty) (capped e last))) where
+  module _ (fits : I64 (movedTime (from-0 e first times) (e .empty) (capped e last))) where
     pub times-move : All (Movable (from-0 e first times) (e .empty)) times
     times-move =
         let up-empty : 2 ^ 63 ≤ up (e .empty) = omega (arith, le-up (pos 0) (e .empty) (s .sound .empty-above)) in
@@ -153,13 +154,13 @@ module _ (times : List ℤ) (first last : ℤ) (e : Edit) (s : Showable times fi
 
     pub shown-in : (scale : ℕ) (nominal : ℤ)
         → shown scale nominal e first last times
-        ≡ record { answer = Times (length times) scale nominal (moved (from-0 e first times) (e .empty) (capped e last)); starts = map (moved (from-0 e first times) (e .empty)) times }
+        ≡ record { answer = Presented (length times) scale nominal (movedTime (from-0 e first times) (e .empty) (capped e last)); starts = map (movedTime (from-0 e first times) (e .empty)) times }
     unfolding shown
     shown-in scale nominal =
-        let f = moved (from-0 e first times) (e .empty) in
+        let f = movedTime (from-0 e first times) (e .empty) in
         placed-in scale nominal (f (capped e last)) (map f times) fits
         (all-map I64 f times (all-weaken (Movable (from-0 e first times) (e .empty)) (λ x. I64 (f x)) times (λ x m. m .1) times-move))
-        ∙ ap (λ n. record { answer = Times n scale nominal (f (capped e last)); starts = map f times }) (length-map times f)
+        ∙ ap (λ n. record { answer = Presented n scale nominal (f (capped e last)); starts = map f times }) (length-map times f)
 
 pub movable-as : (o o′ d d′ : ℤ) (l l′ : List ℤ) → o′ ≡ o → d′ ≡ d → l′ ≡ l → All (Movable o d) l → All (Movable o′ d′) l′
 movable-as o o′ d d′ l l′ p q r m = rw (p, q, r) m

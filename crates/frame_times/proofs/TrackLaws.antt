@@ -22,19 +22,20 @@ use Rattle.tracks.specs.declared.Rows.{Rows}
 use Rattle.tracks.specs.declared.Rows.the-variants.{Whole, Torn}
 use Rattle.tracks.specs.declared.Edited.{Edited}
 use Rattle.tracks.specs.declared.Edited.the-variants.{By, Bad}
-use Rattle.tracks.specs.Tables.{optionalRows, entriesOf, total, durations}
+use Rattle.tracks.specs.Tables.{optionalRows, entriesOf, entryTotal, durations}
 use Rattle.slices.specs.Slices.{laid}
 use Rattle.frame_times.specs.declared.FrameTimes.{FrameTimes}
 use Rattle.frame_times.specs.declared.FrameTimes.the-variants.{Refused}
-use Rattle.frame_times.specs.Times.{Outcome, Answered, refused, required, ofDurations, ofOffsets}
+use Rattle.frame_times.specs.Times.{Outcome, refused, required, ofDurations, ofOffsets}
+use Rattle.frame_times.specs.Steps.{OutcomeAnswered}
 
 -- a refusal that is answered
-pub refuses : (n : ℕ) {o : Outcome} {r : FrameTimes} (l : List ℤ) → r ≡ Refused n 0 → o ≡ refused n → Answered o r l l
+pub refuses : (n : ℕ) {o : Outcome} {r : FrameTimes} (l : List ℤ) → r ≡ Refused n 0 → o ≡ refused n → OutcomeAnswered o r l l
 refuses n l a e = record { answer = a ∙ ap (λ (x : Outcome). x .answer) (sym e); starts = ap (λ (x : Outcome). laid (x .starts) l) (sym e) }
 
 -- an outcome that is another's
-pub answered-as : {o o′ : Outcome} {r : FrameTimes} {l l′ : List ℤ} → o ≡ o′ → Answered o′ r l l′ → Answered o r l l′
-answered-as {r = r} {l = l} {l′ = l′} e a = subst (λ (x : Outcome). Answered x r l l′) (sym e) a
+pub answered-as : {o o′ : Outcome} {r : FrameTimes} {l l′ : List ℤ} → o ≡ o′ → OutcomeAnswered o′ r l l′ → OutcomeAnswered o r l l′
+answered-as {r = r} {l = l} {l′ = l′} e a = subst (λ (x : Outcome). OutcomeAnswered x r l l′) (sym e) a
 
 -- a match that left only one variant
 pub torn-is : (r : Rows) → OneOf (1 ∷ []) (tagOf rows-type r) → r ≡ Torn
@@ -65,7 +66,7 @@ module _ (s : List ℕ) (next : List ℕ → Outcome) {w v : Walk} (e : w ≡ v)
 
 module _ (bytes room n movie scale : ℕ) (edts ctts stts : List ℕ) where
   abbrev count : ℕ
-  count = total (entriesOf n stts)
+  count = entryTotal (entriesOf n stts)
 
   abbrev past : Outcome
   past = ofOffsets (optionalRows ctts) ctts edts scale movie (durations n stts)

@@ -53,9 +53,9 @@ abbrev pub capped : Edit → ℤ → ℤ
 capped e z = if e .endless then z else minZ z (e .end)
 
 -- with an edit the larger of the least kept cts and the decode time of the first kept frame, without one 0
-abbrev pub origin : Edit → ℤ → ℤ → ℤ
-origin e least first = if e .edited then maxZ least first else pos 0
+abbrev pub timeOrigin : Edit → ℤ → ℤ → ℤ
+timeOrigin e least first = if e .edited then maxZ least first else pos 0
 
 -- minus origin plus empty ticks
-abbrev pub moved : ℤ → ℤ → ℤ → ℤ
-moved o empty z = (z -ℤ o) +ℤ empty
+abbrev pub movedTime : ℤ → ℤ → ℤ → ℤ
+movedTime o empty z = (z -ℤ o) +ℤ empty

@@ -8,12 +8,14 @@ use lib.IntN.{ℤ, _-ℤ_}
 use lib.Signed.{leZ, mag}
 use lib.Dec.{eqb}
 use Rattle.choice.specs.Choice.{if_then_else_}
-use Rattle.signed.specs.Signed.{I64}
-use Rattle.slices.specs.Slices.{All}
+use Rattle.signed.specs.Steps.{I64}
+use Rattle.slices.specs.Slices.{laid, All}
 use Rattle.tracks.specs.declared.Edit.{Edit}
 use Rattle.tracks.specs.Steps.{Sound}
+use Rattle.frame_times.specs.declared.FrameTimes.{FrameTimes}
 use Rattle.frame_times.specs.declared.Kept.{Kept}
-use Rattle.frame_times.specs.Frames.{Frame, ctsOf, lastOf, moved}
+use Rattle.frame_times.specs.Times.{Outcome}
+use Rattle.frame_times.specs.Frames.{Frame, ctsOf, lastOf, movedTime}
 
 -- a decode or composition time, and where a frame ends
 abbrev pub Near : ℤ → Type 0
@@ -49,7 +51,7 @@ pub record Told (fs : List Frame) (k : Kept) (times : List ℤ) : Type 0 where
 
 -- a time that can be moved
 abbrev pub Movable : ℤ → ℤ → ℤ → Type 0
-Movable o d z = I64 (z -ℤ o) × I64 (moved o d z)
+Movable o d z = I64 (z -ℤ o) × I64 (movedTime o d z)
 
 -- kept times, with the first one's decode time and the last one's end
 pub record Showable (times : List ℤ) (first last : ℤ) (e : Edit) : Type 0 where
@@ -59,3 +61,8 @@ pub record Showable (times : List ℤ) (first last : ℤ) (e : Edit) : Type 0 wh
   pub near-last : Ended last
   pub to-last : All (λ x. leZ x last ≡ true) times
   pub to-end : e .endless ≡ false → All (λ x. leZ x (e .end) ≡ true) times
+
+-- an outcome was answered: r is its answer, and its starts are laid over what was lent
+pub record OutcomeAnswered (o : Outcome) (r : FrameTimes) (before after : List ℤ) : Type 0 where
+  pub answer : r ≡ o .answer
+  pub starts : after ≡ laid (o .starts) before

@@ -1,14 +1,16 @@
 -- The frame times of a moov: what is answered, from its bytes down to its frames.
-use Prim.Native.Nat.{ℕ, _^_, min}
+use Prim.Native.Nat.{ℕ, min}
 use mathlib.Core.Path.{_≡_}
-use mathlib.Core.Bool.{Bool, _||_}
+use mathlib.Core.Bool.{_||_}
 use mathlib.Core.List.{List, [], _∷_, map}
 use lib.ListN.{length, getD}
 use lib.IntN.{ℤ, pos}
-use lib.Signed.{leZ, mag}
-use lib.Dec.{ltb, leb, eqb}
+use lib.Signed.{leZ}
+use lib.Dec.{ltb, eqb}
 use Rattle.choice.specs.Choice.{if_then_else_}
 use Rattle.choice.specs.Records.{any}
+use Rattle.choice.specs.Numbers.{tooLong, noTimes, noRoom, outside}
+use Rattle.signed.specs.Signed.{isOutside}
 use Rattle.slices.specs.Slices.{laid, zeros}
 use Rattle.order.specs.Order.{sorted, mode}
 use Rattle.boxes.specs.Bytes.{mdia}
@@ -22,24 +24,11 @@ use Rattle.tracks.specs.declared.Rows.the-variants.{Whole, Torn}
 use Rattle.tracks.specs.declared.Edit.{Edit}
 use Rattle.tracks.specs.declared.Edited.{Edited}
 use Rattle.tracks.specs.declared.Edited.the-variants.{By, Bad}
-use Rattle.tracks.specs.Tables.{scaleOf, rowsOf, optionalRows, entriesOf, total, durations, offsets}
+use Rattle.tracks.specs.Tables.{scaleOf, tableRows, optionalRows, entriesOf, entryTotal, durations, offsets}
 use Rattle.tracks.specs.Edits.{editOf}
 use Rattle.frame_times.specs.declared.FrameTimes.{FrameTimes}
-use Rattle.frame_times.specs.declared.FrameTimes.the-variants.{Times, Refused}
-use Rattle.frame_times.specs.Frames.{Frame, framesFrom, kept, ctsOf, lastOf, endOf, capped, origin, moved}
-
--- the refusals: over the most bytes; no times; too little room; a time outside i64
-abbrev pub tooLong : ℕ
-tooLong = 30
-
-abbrev pub noTimes : ℕ
-noTimes = 31
-
-abbrev pub noRoom : ℕ
-noRoom = 32
-
-abbrev pub outside : ℕ
-outside = 33
+use Rattle.frame_times.specs.declared.FrameTimes.the-variants.{Presented, Refused}
+use Rattle.frame_times.specs.Frames.{Frame, framesFrom, kept, ctsOf, lastOf, endOf, capped, timeOrigin, movedTime}
 
 -- `mvhd`, `mdhd`, `minf`, `stbl`, `stts`, `ctts` and `edts`, their four letters as a number
 abbrev pub mvhd : ℕ
@@ -71,22 +60,18 @@ pub record Outcome : Type 0 where
 abbrev pub refused : ℕ → Outcome
 refused n = record { answer = Refused n 0; starts = [] }
 
--- no i64 holds z
-abbrev pub isOutside : ℤ → Bool
-isOutside z = leb (2 ^ 63) (mag z)
-
 -- the answer of an end and starts, where an i64 holds each
 unfoldable pub placed : ℕ → ℤ → ℤ → List ℤ → Outcome
 placed scale nominal end starts =
     if any isOutside (end ∷ starts) then refused outside
-    else record { answer = Times (length starts) scale nominal end; starts = starts }
+    else record { answer = Presented (length starts) scale nominal end; starts = starts }
 
 -- the answer of kept frames: the first one's decode time, where the last one ends, and the composition times, ascending
 abbrev pub shownFrom : ℕ → ℤ → Edit → ℤ → List ℤ → ℤ → Outcome
-shownFrom scale nominal e last times o = placed scale nominal (moved o (e .empty) (capped e last)) (map (moved o (e .empty)) times)
+shownFrom scale nominal e last times o = placed scale nominal (movedTime o (e .empty) (capped e last)) (map (movedTime o (e .empty)) times)
 
 unfoldable pub shown : ℕ → ℤ → Edit → ℤ → ℤ → List ℤ → Outcome
-shown scale nominal e first last times = shownFrom scale nominal e last times (origin e (getD times 0 (pos 0)) first)
+shown scale nominal e first last times = shownFrom scale nominal e last times (timeOrigin e (getD times 0 (pos 0)) first)
 
 -- none kept is refused, and so is a nominal duration that isn't above 0
 unfoldable pub ofKept : ℕ → ℤ → Edit → List Frame → Outcome
@@ -113,8 +98,8 @@ ofOffsets (Whole n) ctts edts scale movie ds = ofEdit (editOf edts scale movie) 
 abbrev pub ofDurations : Rows → ℕ → ℕ → ℕ → ℕ → List ℕ → List ℕ → List ℕ → Outcome
 ofDurations Torn bytes room movie scale edts ctts stts = refused noTimes
 ofDurations (Whole n) bytes room movie scale edts ctts stts =
-    if ltb bytes (total (entriesOf n stts)) then refused noTimes
-    else if ltb room (total (entriesOf n stts)) then refused noRoom
+    if ltb bytes (entryTotal (entriesOf n stts)) then refused noTimes
+    else if ltb room (entryTotal (entriesOf n stts)) then refused noRoom
     else ofOffsets (optionalRows ctts) ctts edts scale movie (durations n stts)
 
 -- a box that has to be there: its payload goes on, and where the walk for it ended without it, however that was, there are no times
@@ -129,7 +114,7 @@ inChild kind s next = required (firstOf kind (boxesOf s)) s next
 
 -- of a stbl, which has the tables: the stts has to be there
 unfoldable pub ofTables : ℕ → ℕ → ℕ → ℕ → List ℕ → List ℕ → Outcome
-ofTables bytes room movie scale edts tables = inChild stts tables (λ d. ofDurations (rowsOf d) bytes room movie scale edts (childOf ctts tables) d)
+ofTables bytes room movie scale edts tables = inChild stts tables (λ d. ofDurations (tableRows d) bytes room movie scale edts (childOf ctts tables) d)
 
 -- of a mdia, which has the timescale and, two boxes below, the stbl; neither timescale may be 0
 abbrev pub ofScale : ℕ → ℕ → ℕ → ℕ → List ℕ → List ℕ → Outcome
@@ -145,8 +130,8 @@ unfoldable pub ofTrack : ℕ → ℕ → ℕ → List ℕ → Outcome
 ofTrack bytes room movie track = inChild mdia track (ofMedia bytes room movie (childOf edts track))
 
 -- of a moov: mvhd has the movie's timescale, the first video track the rest
-unfoldable pub timesOf : List ℕ → ℕ → Outcome
-timesOf moov room =
+unfoldable pub timesOfMoov : List ℕ → ℕ → Outcome
+timesOfMoov moov room =
     if ltb mostBytes (length moov) then refused tooLong
     else inChild mvhd moov (λ h. required (videoTrack moov) moov (ofTrack (length moov) room (scaleOf h)))
 
@@ -154,14 +139,9 @@ timesOf moov room =
 abbrev pub room : List ℤ → List ℤ → List ℤ → ℕ
 room x y z = min (min (length x) (length y)) (length z)
 
--- an outcome was answered: r is its answer, and its starts are laid over what was lent
-pub record Answered (o : Outcome) (r : FrameTimes) (before after : List ℤ) : Type 0 where
-  pub answer : r ≡ o .answer
-  pub starts : after ≡ laid (o .starts) before
-
 -- what `video_frame_times_of_moov` leaves, of a moov, starts and two working slices: r is the answer, the starts are laid over what was lent, and both working slices are all zero
-pub record Answers (moov : List ℕ) (lent a b : List ℤ) (r : FrameTimes) (after a′ b′ : List ℤ) : Type 0 where
-  pub answer : r ≡ timesOf moov (room lent a b) .answer
-  pub starts : after ≡ laid (timesOf moov (room lent a b) .starts) lent
+pub record MoovAnswers (moov : List ℕ) (lent a b : List ℤ) (r : FrameTimes) (after a′ b′ : List ℤ) : Type 0 where
+  pub answer : r ≡ timesOfMoov moov (room lent a b) .answer
+  pub starts : after ≡ laid (timesOfMoov moov (room lent a b) .starts) lent
   pub first-clear : a′ ≡ zeros a
   pub second-clear : b′ ≡ zeros b

@@ -7,7 +7,7 @@ use tracks::tables::offset;
 ghost use mathlib.Core.Path.{_≡_};
 ghost use Prim.Native.Nat.{_-_, _*_, _≤_};
 ghost use lib.ListN.{length};
-ghost use Rattle.tracks.specs.Tables.{entriesOf, total, durations, offsets};
+ghost use Rattle.tracks.specs.Tables.{entriesOf, entryTotal, durations, offsets};
 ghost use Rattle.frame_times.specs.Frames.{framesFrom, inEdit, kept};
 ghost use Rattle.frame_times.specs.Steps.{Told, keptWith};
 
@@ -56,7 +56,7 @@ fn with_frame(k: Kept, decode: u64, c: i64, duration: u64) -> Kept
 
 // Walks the stts beside the ctts, one frame of each a turn, and lays the composition times that are kept over times: the Rust's decoded and presented.
 pub(crate) fn keep(stts: &[u8], n: usize, ctts: &[u8], m: usize, e: Edit, times: &mut [i64]) -> Kept
-    requires { ⌜ (n * 8 ≤ length (now stts) - 8) × (m * 8 ≤ length (now ctts) - 8) × (length (now times) ≡ total (entriesOf n (now stts))) × (length (now times) ≤ 16777216) ⌝ }
+    requires { ⌜ (n * 8 ≤ length (now stts) - 8) × (m * 8 ≤ length (now ctts) - 8) × (length (now times) ≡ entryTotal (entriesOf n (now stts))) × (length (now times) ≤ 16777216) ⌝ }
     ensures { λ r. ⌜ Told (kept e (framesFrom 0 (durations n (now (stts .entry))) (offsets m (now (ctts .entry))))) r (now (times .exit)) ⌝ }
 {
     let mut ds = at_first(n);

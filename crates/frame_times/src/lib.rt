@@ -4,20 +4,11 @@ mod times;
 mod track;
 
 use track::of_moov;
-ghost use Rattle.frame_times.specs.Times.{Answers};
-
-// The refusals: over the most bytes; no times; too little room; a time outside i64.
-const TOO_LONG: u64 = 30;
-
-const NO_TIMES: u64 = 31;
-
-const NO_ROOM: u64 = 32;
-
-const OUTSIDE: u64 = 33;
+ghost use Rattle.frame_times.specs.Times.{MoovAnswers};
 
 // What is answered: how many frames are presented, in which timescale, with which most frequent duration, and where they end; or a refusal.
 pub enum FrameTimes {
-    Times {
+    Presented {
         frames: usize,
         timescale: u64,
         nominal: i64,
@@ -45,7 +36,7 @@ pub fn video_frame_times_of_moov(
     work_a: &mut [i64],
     work_b: &mut [i64],
 ) -> FrameTimes
-    ensures { λ r. ⌜ Answers (now (moov .entry)) (now (starts .entry)) (now («work_a» .entry)) (now («work_b» .entry)) r (now (starts .exit)) (now («work_a» .exit)) (now («work_b» .exit)) ⌝ }
+    ensures { λ r. ⌜ MoovAnswers (now (moov .entry)) (now (starts .entry)) (now («work_a» .entry)) (now («work_b» .entry)) r (now (starts .exit)) (now («work_a» .exit)) (now («work_b» .exit)) ⌝ }
 {
     let r = of_moov(moov, starts, work_a, work_b);
     slices::clear(work_a);

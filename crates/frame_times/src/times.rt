@@ -1,8 +1,8 @@
 // Starts and the end, from the composition times that are kept.
 use crate::FrameTimes;
-use crate::NO_TIMES;
-use crate::OUTSIDE;
 use crate::frames::keep;
+use choice::NO_TIMES;
+use choice::OUTSIDE;
 use signed::Held;
 use tracks::Edit;
 ghost use mathlib.Core.Path.{_≡_};
@@ -12,11 +12,11 @@ ghost use lib.ListN.{length};
 ghost use lib.IntN.{pos};
 ghost use Rattle.slices.specs.Slices.{All, laid};
 ghost use Rattle.order.specs.Order.{Asc, sorted, mode};
-ghost use Rattle.tracks.specs.Tables.{entriesOf, total, durations, offsets};
+ghost use Rattle.tracks.specs.Tables.{entriesOf, entryTotal, durations, offsets};
 ghost use Rattle.tracks.specs.Steps.{Sound};
-ghost use Rattle.frame_times.specs.Frames.{origin, capped, moved, maxZ};
-ghost use Rattle.frame_times.specs.Times.{Answered, shown, ofFrames};
-ghost use Rattle.frame_times.specs.Steps.{Movable, Showable};
+ghost use Rattle.frame_times.specs.Frames.{timeOrigin, capped, movedTime, maxZ};
+ghost use Rattle.frame_times.specs.Times.{shown, ofFrames};
+ghost use Rattle.frame_times.specs.Steps.{Movable, Showable, OutcomeAnswered};
 
 // A refusal.
 pub(crate) fn refused(number: u64) -> FrameTimes
@@ -34,7 +34,7 @@ fn larger(a: i64, b: i64) -> i64
 
 // Where the starts count from, with the least composition time and the first decode time that are kept.
 fn origin_of(e: Edit, least: i64, first: i64) -> i64
-    ensures { λ r. ⌜ r ≡ origin e least first ⌝ }
+    ensures { λ r. ⌜ r ≡ timeOrigin e least first ⌝ }
 {
     if e.edited {
         return larger(least, first);
@@ -59,7 +59,7 @@ fn capped_at(e: Edit, z: i64) -> i64
 fn place(times: &[i64], o: i64, d: i64, out: &mut [i64])
     requires { ⌜ length (now times) ≤ length (now out) ⌝ }
     requires { ⌜ All (λ x. Movable o d x) (now times) ⌝ }
-    ensures { λ _. ⌜ now (out .exit) ≡ laid (map (moved o d) (now (times .entry))) (now (out .entry)) ⌝ }
+    ensures { λ _. ⌜ now (out .exit) ≡ laid (map (movedTime o d) (now (times .entry))) (now (out .entry)) ⌝ }
 {
     let mut i: usize = 0;
     while i < times.len() {
@@ -80,7 +80,7 @@ fn show(
     starts: &mut [i64],
 ) -> FrameTimes
     requires { ⌜ Showable (now times) first last e × (0 < length (now times)) × (length (now times) ≤ length (now scratch)) × (length (now times) ≤ length (now starts)) ⌝ }
-    ensures { λ r. ⌜ Answered (shown scale nominal e first last (sorted (now (times .entry)))) r (now (starts .entry)) (now (starts .exit)) ⌝ }
+    ensures { λ r. ⌜ OutcomeAnswered (shown scale nominal e first last (sorted (now (times .entry)))) r (now (starts .entry)) (now (starts .exit)) ⌝ }
 {
     order::sort(times, scratch);
     let o = origin_of(e, times[0], first);
@@ -89,7 +89,7 @@ fn show(
         return refused(OUTSIDE);
     };
     place(times, o, empty, starts);
-    FrameTimes::Times {
+    FrameTimes::Presented {
         frames: times.len(),
         timescale: scale,
         nominal,
@@ -120,9 +120,9 @@ pub(crate) fn present(
     a: &mut [i64],
     b: &mut [i64],
 ) -> FrameTimes
-    requires { ⌜ (n * 8 ≤ length (now stts) - 8) × (m * 8 ≤ length (now ctts) - 8) × (length (now a) ≡ total (entriesOf n (now stts))) × (length (now a) ≤ 16777216) × (length (now a) ≤ length (now starts)) ⌝ }
+    requires { ⌜ (n * 8 ≤ length (now stts) - 8) × (m * 8 ≤ length (now ctts) - 8) × (length (now a) ≡ entryTotal (entriesOf n (now stts))) × (length (now a) ≤ 16777216) × (length (now a) ≤ length (now starts)) ⌝ }
     requires { ⌜ (now b ≡ map pos (durations n (now stts))) × Sound e ⌝ }
-    ensures { λ r. ⌜ Answered (ofFrames scale e (durations n (now (stts .entry))) (offsets m (now (ctts .entry)))) r (now (starts .entry)) (now (starts .exit)) ⌝ }
+    ensures { λ r. ⌜ OutcomeAnswered (ofFrames scale e (durations n (now (stts .entry))) (offsets m (now (ctts .entry)))) r (now (starts .entry)) (now (starts .exit)) ⌝ }
 {
     order::sort(b, a);
     let nominal = nominal_of(b);

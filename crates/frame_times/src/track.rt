@@ -1,8 +1,5 @@
 // From the moov to the tables of its first video track, in the order of the Rust.
 use crate::FrameTimes;
-use crate::NO_ROOM;
-use crate::NO_TIMES;
-use crate::TOO_LONG;
 use crate::times::present;
 use crate::times::refused;
 use boxes::MOST_BYTES;
@@ -12,6 +9,9 @@ use boxes::part::payload;
 use boxes::read::code;
 use boxes::search::find_child;
 use boxes::track::find_video_track;
+use choice::NO_ROOM;
+use choice::NO_TIMES;
+use choice::TOO_LONG;
 use tracks::Edited;
 use tracks::Rows;
 use tracks::edits::edit_of;
@@ -24,8 +24,9 @@ ghost use mathlib.Core.List.{map};
 ghost use Prim.Native.Nat.{_-_, _*_, _≤_, _<_, _^_, min};
 ghost use lib.ListN.{length};
 ghost use lib.IntN.{pos};
-ghost use Rattle.tracks.specs.Tables.{rowsOf, optionalRows, entriesOf, total, durations};
-ghost use Rattle.frame_times.specs.Times.{Answered, room, ofOffsets, ofDurations, ofTables, ofMedia, ofTrack, timesOf};
+ghost use Rattle.tracks.specs.Tables.{tableRows, optionalRows, entriesOf, entryTotal, durations};
+ghost use Rattle.frame_times.specs.Times.{room, ofOffsets, ofDurations, ofTables, ofMedia, ofTrack, timesOfMoov};
+ghost use Rattle.frame_times.specs.Steps.{OutcomeAnswered};
 
 // The smaller of two.
 fn smaller(x: usize, y: usize) -> usize
@@ -54,9 +55,9 @@ fn past_room(
     a: &mut [i64],
     b: &mut [i64],
 ) -> FrameTimes
-    requires { ⌜ (n * 8 ≤ length (now stts) - 8) × (length (now a) ≡ total (entriesOf n (now stts))) × (length (now a) ≤ 16777216) × (length (now a) ≤ length (now starts)) ⌝ }
+    requires { ⌜ (n * 8 ≤ length (now stts) - 8) × (length (now a) ≡ entryTotal (entriesOf n (now stts))) × (length (now a) ≤ 16777216) × (length (now a) ≤ length (now starts)) ⌝ }
     requires { ⌜ (now b ≡ map pos (durations n (now stts))) × (scale < 2 ^ 32) × (0 < movie) × (movie < 2 ^ 32) ⌝ }
-    ensures { λ r. ⌜ Answered (ofOffsets (optionalRows (now (ctts .entry))) (now (ctts .entry)) (now (edts .entry)) scale movie (durations n (now (stts .entry)))) r (now (starts .entry)) (now (starts .exit)) ⌝ }
+    ensures { λ r. ⌜ OutcomeAnswered (ofOffsets (optionalRows (now (ctts .entry))) (now (ctts .entry)) (now (edts .entry)) scale movie (durations n (now (stts .entry)))) r (now (starts .entry)) (now (starts .exit)) ⌝ }
 {
     let Rows::Whole(m) = optional_rows(ctts) else {
         return refused(NO_TIMES);
@@ -80,7 +81,7 @@ fn of_durations(
     b: &mut [i64],
 ) -> FrameTimes
     requires { ⌜ (bytes ≤ 16777216) × (scale < 2 ^ 32) × (0 < movie) × (movie < 2 ^ 32) ⌝ }
-    ensures { λ r. ⌜ Answered (ofDurations (rowsOf (now (stts .entry))) bytes (room (now (starts .entry)) (now (a .entry)) (now (b .entry))) movie scale (now (edts .entry)) (now (ctts .entry)) (now (stts .entry))) r (now (starts .entry)) (now (starts .exit)) ⌝ }
+    ensures { λ r. ⌜ OutcomeAnswered (ofDurations (tableRows (now (stts .entry))) bytes (room (now (starts .entry)) (now (a .entry)) (now (b .entry))) movie scale (now (edts .entry)) (now (ctts .entry)) (now (stts .entry))) r (now (starts .entry)) (now (starts .exit)) ⌝ }
 {
     let Rows::Whole(n) = count_rows(stts) else {
         return refused(NO_TIMES);
@@ -117,7 +118,7 @@ fn of_tables(
     b: &mut [i64],
 ) -> FrameTimes
     requires { ⌜ (bytes ≤ 16777216) × (scale < 2 ^ 32) × (0 < movie) × (movie < 2 ^ 32) ⌝ }
-    ensures { λ r. ⌜ Answered (ofTables bytes (room (now (starts .entry)) (now (a .entry)) (now (b .entry))) movie scale (now (edts .entry)) (now (stbl .entry))) r (now (starts .entry)) (now (starts .exit)) ⌝ }
+    ensures { λ r. ⌜ OutcomeAnswered (ofTables bytes (room (now (starts .entry)) (now (a .entry)) (now (b .entry))) movie scale (now (edts .entry)) (now (stbl .entry))) r (now (starts .entry)) (now (starts .exit)) ⌝ }
 {
     let w = find_child(stbl, code(b"stts"));
     let Walk::Found { start: _, len: _ } = w else {
@@ -148,7 +149,7 @@ fn of_media(
     b: &mut [i64],
 ) -> FrameTimes
     requires { ⌜ (bytes ≤ 16777216) × (movie < 2 ^ 32) ⌝ }
-    ensures { λ r. ⌜ Answered (ofMedia bytes (room (now (starts .entry)) (now (a .entry)) (now (b .entry))) movie (now (edts .entry)) (now (mdia .entry))) r (now (starts .entry)) (now (starts .exit)) ⌝ }
+    ensures { λ r. ⌜ OutcomeAnswered (ofMedia bytes (room (now (starts .entry)) (now (a .entry)) (now (b .entry))) movie (now (edts .entry)) (now (mdia .entry))) r (now (starts .entry)) (now (starts .exit)) ⌝ }
 {
     let h = find_child(mdia, code(b"mdhd"));
     let Walk::Found { start: _, len: _ } = h else {
@@ -180,7 +181,7 @@ fn of_track(
     b: &mut [i64],
 ) -> FrameTimes
     requires { ⌜ (bytes ≤ 16777216) × (movie < 2 ^ 32) ⌝ }
-    ensures { λ r. ⌜ Answered (ofTrack bytes (room (now (starts .entry)) (now (a .entry)) (now (b .entry))) movie (now (trak .entry))) r (now (starts .entry)) (now (starts .exit)) ⌝ }
+    ensures { λ r. ⌜ OutcomeAnswered (ofTrack bytes (room (now (starts .entry)) (now (a .entry)) (now (b .entry))) movie (now (trak .entry))) r (now (starts .entry)) (now (starts .exit)) ⌝ }
 {
     let w = find_child(trak, code(b"mdia"));
     let Walk::Found { start: _, len: _ } = w else {
@@ -192,7 +193,7 @@ fn of_track(
 
 // Answers with a moov, and leaves the working slices as they happen to be.
 pub(crate) fn of_moov(moov: &[u8], starts: &mut [i64], a: &mut [i64], b: &mut [i64]) -> FrameTimes
-    ensures { λ r. ⌜ Answered (timesOf (now (moov .entry)) (room (now (starts .entry)) (now (a .entry)) (now (b .entry)))) r (now (starts .entry)) (now (starts .exit)) ⌝ }
+    ensures { λ r. ⌜ OutcomeAnswered (timesOfMoov (now (moov .entry)) (room (now (starts .entry)) (now (a .entry)) (now (b .entry)))) r (now (starts .entry)) (now (starts .exit)) ⌝ }
 {
     let bytes = moov.len();
     if MOST_BYTES < bytes {

@@ -15,12 +15,12 @@ use Rattle.ticks.specs.Ticks.{scaleOver, endsNear}
 use Rattle.rules.specs.declared.Checked.{Checked}
 use Rattle.rules.specs.declared.Checked.the-variants.{Frames, Refused}
 use Rattle.rules.specs.declared.Source.{Source}
-use Rattle.rules.specs.Records.{Segment, Table, outEnd, outEndUs, total}
-use Rattle.rules.specs.Rules.{refusal, answered, checkOf}
-use Rattle.mcraw.specs.declared.Times.the-variants.{Timed, Refused as Untimed}
-use Rattle.mcraw.specs.Mcraw.{startsOf, timesOf}
+use Rattle.rules.specs.Records.{Segment, Table, outEnd, outEndUs, frameTotal}
+use Rattle.rules.specs.Rules.{refusal, checkedOf, checkOf}
+use Rattle.mcraw.specs.declared.RecordingTimes.the-variants.{Timed, Refused as Untimed}
+use Rattle.mcraw.specs.Mcraw.{startsOf, mcrawTimes}
 use Rattle.judge.specs.Video.{Shown, timed}
-use Rattle.judge.specs.Judge.{noVideo, otherCount, notNear, startRefusal, lastOf, videoRefusal, single, recoded, timesRefusal, recordingRefusal}
+use Rattle.judge.specs.Judge.{noVideo, otherCount, notNear, startRefusal, lastSegment, videoRefusal, single, recoded, timesRefusal, recordingRefusal}
 
 -- the refusal by a video, by the first test that holds
 module _ (segs : List Segment) (v : Shown) where
@@ -34,55 +34,55 @@ module _ (segs : List Segment) (v : Shown) where
     over-limit b = rw (a, b)
 
     module _ (b : v .over ≡ false) where
-      pub other-count : (outEnd (lastOf segs) ≡ v .frames → ⊥) → At otherCount 0 ≡ videoRefusal segs v
+      pub other-count : (outEnd (lastSegment segs) ≡ v .frames → ⊥) → At otherCount 0 ≡ videoRefusal segs v
       unfolding videoRefusal when
-      other-count c = rw (a, b, ne-eqb (outEnd (lastOf segs)) (v .frames) c)
+      other-count c = rw (a, b, ne-eqb (outEnd (lastSegment segs)) (v .frames) c)
 
-      module _ (c : outEnd (lastOf segs) ≡ v .frames) where
+      module _ (c : outEnd (lastSegment segs) ≡ v .frames) where
         -- the tests that are left
         rest : videoRefusal segs v
-            ≡ orRefused (firstRefused (startRefusal v) 0 segs) (when (not (endsNear (outEndUs (lastOf segs)) (v .end) (v .nominal) (v .scale))) (At notNear 0) Never)
+            ≡ orRefused (firstRefused (startRefusal v) 0 segs) (when (not (endsNear (outEndUs (lastSegment segs)) (v .end) (v .nominal) (v .scale))) (At notNear 0) Never)
         unfolding videoRefusal when
-        rest = rw (a, b, eq-eqb (outEnd (lastOf segs)) (v .frames) c)
+        rest = rw (a, b, eq-eqb (outEnd (lastSegment segs)) (v .frames) c)
 
         pub wrong-start : {n i : ℕ} → firstRefused (startRefusal v) 0 segs ≡ At n i → At n i ≡ videoRefusal segs v
         unfolding orRefused
         wrong-start d = sym (rest ∙ rw d)
 
         module _ (d : firstRefused (startRefusal v) 0 segs ≡ Never) where
-          pub far : endsNear (outEndUs (lastOf segs)) (v .end) (v .nominal) (v .scale) ≡ false → At notNear 0 ≡ videoRefusal segs v
+          pub far : endsNear (outEndUs (lastSegment segs)) (v .end) (v .nominal) (v .scale) ≡ false → At notNear 0 ≡ videoRefusal segs v
           unfolding orRefused when
           far e = sym (rest ∙ rw (d, e))
 
-          pub fits : endsNear (outEndUs (lastOf segs)) (v .end) (v .nominal) (v .scale) ≡ true → Never ≡ videoRefusal segs v
+          pub fits : endsNear (outEndUs (lastSegment segs)) (v .end) (v .nominal) (v .scale) ≡ true → Never ≡ videoRefusal segs v
           unfolding orRefused when
           fits e = sym (rest ∙ rw (d, e))
 
 -- what an answer says of the refusal behind it
-refused-at : (r : Refusal) (m n i : ℕ) → answered r m ≡ Refused n i → r ≡ At n i
-unfolding answered
+refused-at : (r : Refusal) (m n i : ℕ) → checkedOf r m ≡ Refused n i → r ≡ At n i
+unfolding checkedOf
 refused-at Never m n i e = let z : _≡_ {A = ℕ} 0 1 = cc in absurd (omega arith)
 refused-at (At k j) m n i e = cc
 
-pub frames-never : (r : Refusal) (m n : ℕ) → answered r m ≡ Frames n → (r ≡ Never) × (m ≡ n)
-unfolding answered
+pub frames-never : (r : Refusal) (m n : ℕ) → checkedOf r m ≡ Frames n → (r ≡ Never) × (m ≡ n)
+unfolding checkedOf
 frames-never Never m n e = (refl, cc)
 frames-never (At k j) m n e = let z : _≡_ {A = ℕ} 0 1 = cc in absurd (omega arith)
 
 -- a check that answers r, and then what answers q
 module _ (t : Table) {r : Checked} (c : r ≡ checkOf t) where
-  pub check-refuses : (rest : Refusal) {n i : ℕ} → r ≡ Refused n i → Refused n i ≡ answered (orRefused (refusal t) rest) (total (t .segments))
-  unfolding checkOf answered orRefused
-  check-refuses rest {n} {i} e = sym (rw (refused-at (refusal t) (total (t .segments)) n i (sym c ∙ e)))
+  pub check-refuses : (rest : Refusal) {n i : ℕ} → r ≡ Refused n i → Refused n i ≡ checkedOf (orRefused (refusal t) rest) (frameTotal (t .segments))
+  unfolding checkOf checkedOf orRefused
+  check-refuses rest {n} {i} e = sym (rw (refused-at (refusal t) (frameTotal (t .segments)) n i (sym c ∙ e)))
 
   module _ {N : ℕ} (e : r ≡ Frames N) {q rest : Refusal} (d : q ≡ rest) where
-    pub rest-refuses : {n i : ℕ} → q ≡ At n i → Refused n i ≡ answered (orRefused (refusal t) rest) (total (t .segments))
-    unfolding checkOf answered orRefused
-    rest-refuses h = sym (rw (frames-never (refusal t) (total (t .segments)) N (sym c ∙ e) .0, sym d ∙ h))
+    pub rest-refuses : {n i : ℕ} → q ≡ At n i → Refused n i ≡ checkedOf (orRefused (refusal t) rest) (frameTotal (t .segments))
+    unfolding checkOf checkedOf orRefused
+    rest-refuses h = sym (rw (frames-never (refusal t) (frameTotal (t .segments)) N (sym c ∙ e) .0, sym d ∙ h))
 
-    pub rest-accepts : q ≡ Never → Frames N ≡ answered (orRefused (refusal t) rest) (total (t .segments))
-    unfolding checkOf answered orRefused
-    rest-accepts h = let f = frames-never (refusal t) (total (t .segments)) N (sym c ∙ e) in sym (rw (f .0, sym d ∙ h) (ap Frames (f .1)))
+    pub rest-accepts : q ≡ Never → Frames N ≡ checkedOf (orRefused (refusal t) rest) (frameTotal (t .segments))
+    unfolding checkOf checkedOf orRefused
+    rest-accepts h = let f = frames-never (refusal t) (frameTotal (t .segments)) N (sym c ∙ e) in sym (rw (f .0, sym d ∙ h) (ap Frames (f .1)))
 
 -- a recording
 module _ (srcs : List Source) (segs : List Segment) (ts : List ℤ) (a b : ℕ) where
@@ -91,10 +91,10 @@ module _ (srcs : List Source) (segs : List Segment) (ts : List ℤ) (a b : ℕ) 
   one-timestamp h = sym (rw (eq-eqb (length ts) 1 h))
 
   module _ (h : length ts ≡ 1 → ⊥) where
-    pub not-timed : {n i : ℕ} → timesOf ts a b ≡ Untimed n i → At (recoded n) i ≡ recordingRefusal srcs segs ts a b
+    pub not-timed : {n i : ℕ} → mcrawTimes ts a b ≡ Untimed n i → At (recoded n) i ≡ recordingRefusal srcs segs ts a b
     unfolding recordingRefusal timesRefusal when
     not-timed e = sym (rw (ne-eqb (length ts) 1 h, e))
 
-    pub by-times : {n scale : ℕ} {m e : ℤ} → timesOf ts a b ≡ Timed n scale m e → videoRefusal segs (timed (startsOf ts) scale e m) ≡ recordingRefusal srcs segs ts a b
+    pub by-times : {n scale : ℕ} {m e : ℤ} → mcrawTimes ts a b ≡ Timed n scale m e → videoRefusal segs (timed (startsOf ts) scale e m) ≡ recordingRefusal srcs segs ts a b
     unfolding recordingRefusal timesRefusal when
     by-times e = sym (rw (ne-eqb (length ts) 1 h, e))

@@ -17,21 +17,21 @@ use Rattle.choice.specs.Choice.{when}
 use Rattle.choice.specs.Records.{firstRefused, orRefused}
 use Rattle.choice.proofs.Tests.{decide, tf}
 use Rattle.signed.specs.declared.Held.the-variants.{Outside}
-use Rattle.signed.specs.Signed.{within, eqZ}
+use Rattle.signed.specs.Signed.{within, eqZ, isOutside}
 use Rattle.signed.proofs.Order.{eqZ-true, eqZ-yes}
 use Rattle.ticks.specs.Ticks.{largestScale, microsOf, endsNear}
 use Rattle.rules.specs.Limits.{maxI64}
-use Rattle.rules.specs.Records.{Segment, Table, noSegment, segment, outEnd, outEndUs, total}
+use Rattle.rules.specs.Records.{Segment, Table, noSegment, segment, outEnd, outEndUs, frameTotal}
 use Rattle.rules.specs.Paper.{Test, given, each, Rightly}
 use Rattle.rules.proofs.Says.{Says, equal, less, either, unless, below, atmost}
 use Rattle.rules.proofs.Conditions.{Number, Agrees, link, front, append, first-agrees, right}
 use Rattle.rules.proofs.Exact.{agrees}
-use Rattle.mcraw.specs.Mcraw.{mostTimestamps, nanoseconds, outside, gaps, falls, fallOf, span, nominal, end, startsOf, refusalOf, timesUnless, timesOf}
+use Rattle.mcraw.specs.Mcraw.{mostTimestamps, nanoseconds, gaps, falls, fallOf, span, nominal, end, startsOf, refusalOf, timesUnless, mcrawTimes}
 use Rattle.mcraw.proofs.Gaps.{length-gaps, gap-at, less-below}
 use Rattle.judge.specs.declared.Video.{Video}
 use Rattle.judge.specs.declared.Video.the-variants.{Nothing, Constant, Times}
 use Rattle.judge.specs.Video.{Shown, mostStarts, timed, shownBy}
-use Rattle.judge.specs.Judge.{startsAt, startRefusal, lastOf, videoRefusal, validateOf, single, recoded, timesRefusal, recordingRefusal, checkMcraw}
+use Rattle.judge.specs.Judge.{startsAt, startRefusal, lastSegment, videoRefusal, validateOf, single, recoded, timesRefusal, recordingRefusal, checkMcraw}
 use Rattle.judge.specs.Paper.{Beyond, NoVideo, TooLarge, frameUs, Near, ofStart, videoTests, ofPair, timesTests, timedTests, firstSource, recordingTests, validateTests, mcrawTests}
 
 -- ---- integers
@@ -39,7 +39,7 @@ same : (a b : ℤ) → Says (eqZ a b) (a ≡ b)
 same a b = record { holds = eqZ-true a b; fails = λ e q. tf (sym (eqZ-yes q) ∙ e) }
 
 -- no i64 is z
-beyond : (z : ℤ) → Says (outside z) (Beyond z)
+beyond : (z : ℤ) → Says (isOutside z) (Beyond z)
 beyond (pos n) = record {
   holds = λ e. inr (below (pos maxI64) (pos n) .holds (lt-ltb maxI64 n (omega (arith, leb-true (2 ^ 63) n e))));
   fails = λ e. ⊎-elim (below (pos n) (negsuc maxI64) .fails refl) (below (pos maxI64) (pos n) .fails (le-ltb maxI64 n (omega (arith, leb-false (2 ^ 63) n e))));
@@ -63,7 +63,7 @@ too-large (Constant frames num den) starts = either (less largestScale num) (les
 too-large (Times scale end nominal) starts = either (less largestScale scale) (less mostStarts (length starts))
 
 -- 23, and then 24, as a chain of tests
-chain : (us out : ℤ) (s : ℕ) → startsAt (when (eqb s 0) Outside (within us)) out ≡ when (eqb s 0 || outside us) 23 (when (not (eqZ us out)) 24 0)
+chain : (us out : ℤ) (s : ℕ) → startsAt (when (eqb s 0) Outside (within us)) out ≡ when (eqb s 0 || isOutside us) 23 (when (not (eqZ us out)) 24 0)
 unfolding startsAt when
 chain us out s =
     decide (eqb s 0) (λ e. rw e)
@@ -89,7 +89,7 @@ module _ (t : Table) (v : Shown) where
       first-agrees (startRefusal v) noSegment (ofStart t v) 0 (t .segments)
       (λ k b. subst (λ (j : ℕ). Number j (startRefusal v (segment t k)) (ofStart t v j)) (sym (zero-add k)) (start-number k))
 
-  near : Says (endsNear (outEndUs (lastOf (t .segments))) (v .end) (v .nominal) (v .scale)) (Near t v)
+  near : Says (endsNear (outEndUs (lastSegment (t .segments))) (v .end) (v .nominal) (v .scale)) (Near t v)
   unfolding endsNear
   near = atmost _ _
 
@@ -100,13 +100,13 @@ video-agrees t video starts =
     let none : Agrees Never [] = tt in
     front 21 0 _ _ (not-given video starts)
     (front 20 0 _ _ (too-large video starts)
-    (front 22 0 _ _ (unless (equal (outEnd (lastOf (t .segments))) (v .frames)))
+    (front 22 0 _ _ (unless (equal (outEnd (lastSegment (t .segments))) (v .frames)))
     (append _ _ _ _ (starts-agree t v) (front 25 0 _ _ (unless (near t v)) none))))
 
 -- of every table and video
-pub validated-rightly : (t : Table) (video : Video) (starts : List ℤ) → Rightly (validateOf t (shownBy video starts)) (validateTests t video starts) (total (t .segments))
+pub validated-rightly : (t : Table) (video : Video) (starts : List ℤ) → Rightly (validateOf t (shownBy video starts)) (validateTests t video starts) (frameTotal (t .segments))
 unfolding validateOf
-validated-rightly t video starts = right _ _ (total (t .segments)) (append _ _ _ _ (agrees t) (video-agrees t video starts))
+validated-rightly t video starts = right _ _ (frameTotal (t .segments)) (append _ _ _ _ (agrees t) (video-agrees t video starts))
 
 -- ---- a recording
 -- the refusal of its times, as the judge gives it
@@ -172,8 +172,8 @@ unfolding timesRefusal timesUnless orRefused recode
 joined segs ts Never = refl
 joined segs ts (At n i) = refl
 
-timed-agrees : (t : Table) (ts : List ℤ) (a b : ℕ) → Agrees (timesRefusal (t .segments) ts (timesOf ts a b)) (timedTests t ts a b)
-unfolding timesOf shownBy
+timed-agrees : (t : Table) (ts : List ℤ) (a b : ℕ) → Agrees (timesRefusal (t .segments) ts (mcrawTimes ts a b)) (timedTests t ts a b)
+unfolding mcrawTimes shownBy
 timed-agrees t ts a b =
     subst (λ (r : Refusal). Agrees r (timedTests t ts a b)) (sym (joined (t .segments) ts (refusalOf ts a b)))
     (append _ _ _ _ (times-agree ts a b) (video-agrees t (Times nanoseconds (end ts) (nominal ts)) (startsOf ts)))
@@ -185,6 +185,6 @@ recording-agrees t (x ∷ []) a b = video-agrees t (Constant 1 (firstSource t .n
 recording-agrees t (x ∷ (y ∷ l)) a b = rw (ne-eqb (suc (suc (length l))) 1 (λ q. omega arith)) (timed-agrees t (x ∷ (y ∷ l)) a b)
 
 -- of every table and recording
-pub recorded-rightly : (t : Table) (ts : List ℤ) (a b : ℕ) → Rightly (checkMcraw t ts a b) (mcrawTests t ts a b) (total (t .segments))
+pub recorded-rightly : (t : Table) (ts : List ℤ) (a b : ℕ) → Rightly (checkMcraw t ts a b) (mcrawTests t ts a b) (frameTotal (t .segments))
 unfolding checkMcraw
-recorded-rightly t ts a b = right _ _ (total (t .segments)) (append _ _ _ _ (agrees t) (recording-agrees t ts a b))
+recorded-rightly t ts a b = right _ _ (frameTotal (t .segments)) (append _ _ _ _ (agrees t) (recording-agrees t ts a b))

@@ -10,8 +10,8 @@ use Rattle.ticks.specs.Ticks.{microsOf, endsNear}
 use Rattle.order.specs.Order.{insert, sorted}
 use Rattle.rules.specs.declared.Checked.{Checked}
 use Rattle.rules.specs.declared.Checked.the-variants.{Frames, Refused}
-use Rattle.rules.specs.Records.{Table, noSource, noSegment, total}
-use Rattle.rules.specs.Rules.{badSource, badSegment, malformed, sourceRefusal, timesOf, judged, segmentRefusal, start, endsOf, ends, segmentsFrom, frontRefusal, refusal, answered}
+use Rattle.rules.specs.Records.{Table, noSource, noSegment, frameTotal}
+use Rattle.rules.specs.Rules.{badSource, badSegment, malformed, sourceRefusal, stampTimes, judged, segmentRefusal, start, endsOf, ends, segmentsFrom, frontRefusal, refusal, checkedOf}
 use Rattle.table.specs.Layout.{sourcesOf, segmentsOf, tableOf}
 use Rattle.mcraw.specs.Mcraw.{gaps, startsOf, span, nominal, end, fallOf, refusalOf, timesUnless}
 use Rattle.mcraw.specs.Mcraw as mcraw
@@ -69,7 +69,7 @@ cases =
     ∷ []
 
 pub cases-hold : map (λ (c : Case). validateOf (c .table) (shownBy (c .video) (c .starts))) cases ≡ map (λ (c : Case). c .answer) cases
-unfolding when past run any firstRefused orRefused microsOf endsNear noSource noSegment total badSource badSegment malformed sourceRefusal timesOf judged segmentRefusal start endsOf ends segmentsFrom frontRefusal refusal answered sourcesOf segmentsOf tableOf shownBy startsAt startRefusal videoRefusal validateOf
+unfolding when past run any firstRefused orRefused microsOf endsNear noSource noSegment frameTotal badSource badSegment malformed sourceRefusal stampTimes judged segmentRefusal start endsOf ends segmentsFrom frontRefusal refusal checkedOf sourcesOf segmentsOf tableOf shownBy startsAt startRefusal videoRefusal validateOf
 cases-hold = refl
 
 -- a table, timestamps, room in both working slices, and the answer
@@ -94,5 +94,5 @@ recordings =
     ∷ []
 
 pub recordings-hold : map (λ (c : Recording). checkMcraw (c .table) (c .timestamps) (c .room) (c .room)) recordings ≡ map (λ (c : Recording). c .answer) recordings
-unfolding when past run any firstRefused orRefused microsOf endsNear noSource noSegment total badSource badSegment malformed sourceRefusal timesOf judged segmentRefusal start endsOf ends segmentsFrom frontRefusal refusal answered sourcesOf segmentsOf tableOf startsAt startRefusal videoRefusal insert sorted gaps startsOf span nominal end fallOf refusalOf timesUnless mcraw.timesOf single recoded timesRefusal recordingRefusal checkMcraw
+unfolding when past run any firstRefused orRefused microsOf endsNear noSource noSegment frameTotal badSource badSegment malformed sourceRefusal stampTimes judged segmentRefusal start endsOf ends segmentsFrom frontRefusal refusal checkedOf sourcesOf segmentsOf tableOf startsAt startRefusal videoRefusal insert sorted gaps startsOf span nominal end fallOf refusalOf timesUnless mcraw.mcrawTimes single recoded timesRefusal recordingRefusal checkMcraw
 recordings-hold = refl

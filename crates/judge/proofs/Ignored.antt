@@ -7,16 +7,16 @@ use lib.ListN.{length, getD, length-map}
 use Rattle.choice.specs.Records.{orRefused}
 use Rattle.rules.specs.declared.Source.{Source}
 use Rattle.rules.specs.Records.{Segment, Table, noSegment, sourceOf}
-use Rattle.rules.specs.Rules.{answered}
+use Rattle.rules.specs.Rules.{checkedOf}
 use Rattle.rules.specs.Absent.{cleanSource, cleanSegment, clean}
 use Rattle.rules.proofs.Ignored.{first-map, source-at, segment-at, total-clean, refusal-clean}
-use Rattle.mcraw.specs.declared.Times.{Times}
-use Rattle.mcraw.specs.declared.Times.the-variants.{Timed, Refused}
-use Rattle.mcraw.specs.Mcraw.{startsOf, timesOf}
+use Rattle.mcraw.specs.declared.RecordingTimes.{RecordingTimes}
+use Rattle.mcraw.specs.declared.RecordingTimes.the-variants.{Timed, Refused}
+use Rattle.mcraw.specs.Mcraw.{startsOf, mcrawTimes}
 use Rattle.judge.specs.Video.{Shown, constant, timed}
-use Rattle.judge.specs.Judge.{startRefusal, lastOf, videoRefusal, validateOf, single, timesRefusal, recordingRefusal, checkMcraw}
+use Rattle.judge.specs.Judge.{startRefusal, lastSegment, videoRefusal, validateOf, single, timesRefusal, recordingRefusal, checkMcraw}
 
-last-clean : (segs : List Segment) → lastOf (map cleanSegment segs) ≡ cleanSegment (lastOf segs)
+last-clean : (segs : List Segment) → lastSegment (map cleanSegment segs) ≡ cleanSegment (lastSegment segs)
 last-clean segs = ap (λ (n : ℕ). getD (map cleanSegment segs) (n - 1) noSegment) (length-map segs cleanSegment) ∙ segment-at segs (length segs - 1)
 
 start-clean : (v : Shown) (e : Segment) → startRefusal v (cleanSegment e) ≡ startRefusal v e
@@ -36,7 +36,7 @@ single-clean : (srcs : List Source) (segs : List Segment) → single (map cleanS
 unfolding single cleanSource
 single-clean srcs segs = ap (λ (s : Source). constant 1 (s .num) (s .den)) (source-clean srcs segs)
 
-times-clean : (segs : List Segment) (ts : List ℤ) (r : Times) → timesRefusal (map cleanSegment segs) ts r ≡ timesRefusal segs ts r
+times-clean : (segs : List Segment) (ts : List ℤ) (r : RecordingTimes) → timesRefusal (map cleanSegment segs) ts r ≡ timesRefusal segs ts r
 unfolding timesRefusal
 times-clean segs ts (Refused n i) = refl
 times-clean segs ts (Timed frames scale nominal end) = video-clean segs (timed (startsOf ts) scale end nominal)
@@ -44,13 +44,13 @@ times-clean segs ts (Timed frames scale nominal end) = video-clean segs (timed (
 recording-clean : (srcs : List Source) (segs : List Segment) (ts : List ℤ) (a b : ℕ)
     → recordingRefusal (map cleanSource srcs) (map cleanSegment segs) ts a b ≡ recordingRefusal srcs segs ts a b
 unfolding recordingRefusal
-recording-clean srcs segs ts a b = rw (single-clean srcs segs, video-clean segs (single srcs segs), times-clean segs ts (timesOf ts a b))
+recording-clean srcs segs ts a b = rw (single-clean srcs segs, video-clean segs (single srcs segs), times-clean segs ts (mcrawTimes ts a b))
 
 -- of every table: its answer is that of the clean one
 pub validate-clean : (v : Shown) (t : Table) → validateOf t v ≡ validateOf (clean t) v
 unfolding validateOf clean
-validate-clean v t = λ i. answered (orRefused (refusal-clean t i) (sym (video-clean (t .segments) v) i)) (sym (total-clean (t .segments)) i)
+validate-clean v t = λ i. checkedOf (orRefused (refusal-clean t i) (sym (video-clean (t .segments) v) i)) (sym (total-clean (t .segments)) i)
 
 pub mcraw-clean : (ts : List ℤ) (a b : ℕ) (t : Table) → checkMcraw t ts a b ≡ checkMcraw (clean t) ts a b
 unfolding checkMcraw clean
-mcraw-clean ts a b t = λ i. answered (orRefused (refusal-clean t i) (sym (recording-clean (t .sources) (t .segments) ts a b) i)) (sym (total-clean (t .segments)) i)
+mcraw-clean ts a b t = λ i. checkedOf (orRefused (refusal-clean t i) (sym (recording-clean (t .sources) (t .segments) ts a b) i)) (sym (total-clean (t .segments)) i)

@@ -19,7 +19,7 @@ use Rattle.table.specs.Layout.{sourceWords, segmentWords, sourceAt, segmentAt, 
 use Rattle.judge.specs.declared.Video.{Video}
 use Rattle.judge.specs.declared.Video.the-variants.{Nothing, Constant, Times}
 use Rattle.judge.specs.Video.{mostStarts, Shown, constant, timed, nothing, shownBy}
-use Rattle.judge.specs.Judge.{lastOf, single}
+use Rattle.judge.specs.Judge.{lastSegment, single}
 
 module _ {v : Video} (l : List ℤ) where
   pub shown-nothing : v ≡ Nothing → nothing ≡ shownBy v l
@@ -53,7 +53,7 @@ at-default (x ∷ l) (suc k) d e h = at-default l k d e (le-of-suc-le-suc h)
 
 module _ (u : List ℕ) (t : List ℤ) (some : 0 < length u / segmentWords) where
   -- the last segment
-  pub last-lent : lastOf (segmentsOf u t) ≡ segmentAt u t (length u / segmentWords - 1)
+  pub last-lent : lastSegment (segmentsOf u t) ≡ segmentAt u t (length u / segmentWords - 1)
   unfolding segmentsOf
   last-lent =
       let m = length u / segmentWords in

@@ -18,24 +18,25 @@ use Rattle.choice.specs.Records.{firstRefused, orRefused}
 use Rattle.choice.proofs.Tests.{decide, tf}
 use Rattle.signed.specs.declared.Held.{Held}
 use Rattle.signed.specs.declared.Held.the-variants.{Is, Outside}
-use Rattle.signed.specs.Signed.{I64, within, eqZ}
+use Rattle.signed.specs.Signed.{within, eqZ}
 use Rattle.signed.specs.Rounded.{rounded}
+use Rattle.signed.specs.Steps.{I64}
 use Rattle.signed.proofs.Order.{eqZ-refl, eqZ-true}
 use Rattle.signed.proofs.Ranges.{in-range}
 use Rattle.ticks.specs.Ticks.{microsOf, endsNear}
 use Rattle.ticks.proofs.Microseconds.{micros-none, micros-some}
 use Rattle.rules.specs.declared.Checked.the-variants.{Frames}
-use Rattle.rules.specs.Records.{Table, noSegment, segment, outEnd, outEndUs, total}
-use Rattle.rules.specs.Rules.{refusal, answered, checkOf}
+use Rattle.rules.specs.Records.{Table, noSegment, segment, outEnd, outEndUs, frameTotal}
+use Rattle.rules.specs.Rules.{refusal, checkedOf, checkOf}
 use Rattle.rules.proofs.Accepted.{Accepted, accepted}
-use Rattle.mcraw.specs.declared.Times.{Times}
-use Rattle.mcraw.specs.declared.Times.the-variants.{Timed, Refused}
-use Rattle.mcraw.specs.Mcraw.{nanoseconds, startsOf, nominal, end, refusalOf, timesUnless, timesOf}
+use Rattle.mcraw.specs.declared.RecordingTimes.{RecordingTimes}
+use Rattle.mcraw.specs.declared.RecordingTimes.the-variants.{Timed, Refused}
+use Rattle.mcraw.specs.Mcraw.{nanoseconds, startsOf, nominal, end, refusalOf, timesUnless, mcrawTimes}
 use Rattle.mcraw.proofs.Holds.{held}
 use Rattle.choice.proofs.Chains.{when-never, or-never}
 use Rattle.mcraw.proofs.Answers as answers
 use Rattle.judge.specs.Video.{Shown, timed}
-use Rattle.judge.specs.Judge.{startsAt, startRefusal, lastOf, videoRefusal, validateOf, single, timesRefusal, recordingRefusal, checkMcraw}
+use Rattle.judge.specs.Judge.{startsAt, startRefusal, lastSegment, videoRefusal, validateOf, single, timesRefusal, recordingRefusal, checkMcraw}
 use Rattle.judge.specs.Means.{Fits, Recorded}
 use Rattle.judge.proofs.Chains.{fits, frames-never, rest-accepts, one-timestamp, by-times}
 
@@ -101,10 +102,10 @@ so-near us e m s h = so (endsNear us e m s) (h .le)
     so false h = absurd h
 
 -- a check and then the rest
-accepts : (t : Table) (N : ℕ) (rest : Refusal) → answered (orRefused (refusal t) rest) (total (t .segments)) ≡ Frames N → (checkOf t ≡ Frames N) × (rest ≡ Never)
-unfolding checkOf answered
+accepts : (t : Table) (N : ℕ) (rest : Refusal) → checkedOf (orRefused (refusal t) rest) (frameTotal (t .segments)) ≡ Frames N → (checkOf t ≡ Frames N) × (rest ≡ Never)
+unfolding checkOf checkedOf
 accepts t N rest e =
-    let f = frames-never (orRefused (refusal t) rest) (total (t .segments)) N e in
+    let f = frames-never (orRefused (refusal t) rest) (frameTotal (t .segments)) N e in
     let o = or-never (refusal t) rest (f .0) in
     (rw (o .0) (ap Frames (f .1)), o .1)
 
@@ -124,7 +125,7 @@ module _ (t : Table) (v : Shown) (N : ℕ) where
       let c = when-never _ _ _ _ (b .1) in
       let d = or-never _ _ (c .1) in
       let e = when-never _ _ _ _ (d .1) in
-      let last = eqb-true (outEnd (lastOf (t .segments))) (v .frames) (not-false _ (c .0)) in
+      let last = eqb-true (outEnd (lastSegment (t .segments))) (v .frames) (not-false _ (c .0)) in
       let had : (k : ℕ) → k < length (t .segments) → microsOf (v .time (segment t k .words .out)) (v .scale) ≡ Is (segment t k .stamps .outstart)
       = λ k i. starts-right _ _ (none-refused (startRefusal v) 0 (t .segments) noSegment (d .0) k i) in
       record {
@@ -138,7 +139,7 @@ module _ (t : Table) (v : Shown) (N : ℕ) where
         frames = sym (g .last) ∙ last;
         scaled = time-had _ _ _ (had 0 (g .some-segments)) .0;
         starts = λ k i. time-had _ _ _ (had k i) .1;
-        near = near-so (outEndUs (lastOf (t .segments))) (v .end) (v .nominal) (v .scale) (not-false _ (e .0));
+        near = near-so (outEndUs (lastSegment (t .segments))) (v .end) (v .nominal) (v .scale) (not-false _ (e .0));
       }
 
   video-fits : Fits t v N → videoRefusal (t .segments) v ≡ Never
@@ -158,7 +159,7 @@ module _ (t : Table) (v : Shown) (N : ℕ) where
 
 -- a recording's times that leave nothing refused
 module _ (t : Table) (ts : List ℤ) (a b N : ℕ) where
-  times-fit : (r : Times) → timesOf ts a b ≡ r → checkOf t ≡ Frames N → timesRefusal (t .segments) ts r ≡ Never
+  times-fit : (r : RecordingTimes) → mcrawTimes ts a b ≡ r → checkOf t ≡ Frames N → timesRefusal (t .segments) ts r ≡ Never
       → (refusalOf ts a b ≡ Never) × Fits t (timed (startsOf ts) nanoseconds (end ts) (nominal ts)) N
   unfolding timesRefusal
   times-fit (Refused n i) e q h = let z : _≡_ {A = ℕ} 0 1 = cc in absurd (omega arith)
@@ -168,8 +169,8 @@ module _ (t : Table) (ts : List ℤ) (a b N : ℕ) where
       = λ i. timed (startsOf ts) (c .ticks i) (c .until i) (c .usual i) in
       (c .unrefused, subst (λ (x : Shown). Fits t x N) v (fits-video t (timed (startsOf ts) scale z m) N q h))
 
-  times-given : refusalOf ts a b ≡ Never → timesOf ts a b ≡ Timed (length ts) nanoseconds (nominal ts) (end ts)
-  unfolding timesOf timesUnless
+  times-given : refusalOf ts a b ≡ Never → mcrawTimes ts a b ≡ Timed (length ts) nanoseconds (nominal ts) (end ts)
+  unfolding mcrawTimes timesUnless
   times-given e = rw e
 
   fits-recording : checkOf t ≡ Frames N → recordingRefusal (t .sources) (t .segments) ts a b ≡ Never → Recorded t ts a b N
@@ -177,7 +178,7 @@ module _ (t : Table) (ts : List ℤ) (a b N : ℕ) where
   fits-recording q h =
       decide (eqb (length ts) 1)
       (λ y. inl (eqb-true (length ts) 1 y, fits-video t (single (t .sources) (t .segments)) N q (sym (rw y) ∙ h)))
-      (λ y. inr (let f = times-fit (timesOf ts a b) refl q (sym (rw y) ∙ h) in (eqb-false (length ts) 1 y, f .0, f .1)))
+      (λ y. inr (let f = times-fit (mcrawTimes ts a b) refl q (sym (rw y) ∙ h) in (eqb-false (length ts) 1 y, f .0, f .1)))
 
   recording-fits : Recorded t ts a b N → (checkOf t ≡ Frames N) × (recordingRefusal (t .sources) (t .segments) ts a b ≡ Never)
   recording-fits =

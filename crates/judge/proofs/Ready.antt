@@ -6,7 +6,7 @@ use Prim.Native.Nat.{ℕ, _-_, _/_, _<_}
 use native.Mathlib.Omega.{arith}
 use lib.IntN.{ℤ}
 use lib.ListN.{length, getD}
-use Rattle.signed.specs.Signed.{I64}
+use Rattle.signed.specs.Steps.{I64}
 use Rattle.rules.specs.declared.Checked.{Checked}
 use Rattle.rules.specs.declared.Checked.the-variants.{Frames}
 use Rattle.rules.specs.Records.{Table, outEndUs}
@@ -15,11 +15,11 @@ use Rattle.rules.proofs.Accepted.{Accepted, accepted}
 use Rattle.table.specs.Layout.{sourceWords, tableOf}
 use Rattle.table.proofs.Lent.{length-sources}
 use Rattle.table.proofs.Asked.{segment-lent, lengths, some}
-use Rattle.judge.specs.Judge.{lastOf}
+use Rattle.judge.specs.Judge.{lastSegment}
 use Rattle.judge.specs.Steps.{Ready}
 
 -- the end time of the last segment of an accepted table
-pub end-fits : (t : Table) (N : ℕ) → Accepted t N → I64 (outEndUs (lastOf (t .segments)))
+pub end-fits : (t : Table) (N : ℕ) → Accepted t N → I64 (outEndUs (lastSegment (t .segments)))
 end-fits t N g =
     let e = g .segments (length (t .segments) - 1) (omega (arith, g .some-segments)) .out-time in
     subst I64 (sym (e .sum)) (omega (arith, e .fits))

@@ -8,14 +8,14 @@ use lib.ListN.{length, take, drop}
 use lib.Seq.{take-at}
 use Rattle.slices.specs.Slices.{laid}
 use Rattle.slices.proofs.Laid.{length-laid}
-use Rattle.mcraw.specs.declared.Times.{Times}
-use Rattle.mcraw.specs.declared.Times.the-variants.{Timed}
-use Rattle.mcraw.specs.Mcraw.{startsOf, timesOf, Answered}
+use Rattle.mcraw.specs.declared.RecordingTimes.{RecordingTimes}
+use Rattle.mcraw.specs.declared.RecordingTimes.the-variants.{Timed}
+use Rattle.mcraw.specs.Mcraw.{startsOf, mcrawTimes, McrawAnswers}
 use Rattle.mcraw.proofs.Spans.{length-starts}
 use Rattle.mcraw.proofs.Answers.{accepted, wrote}
 
-module _ {ts starts work : List ℤ} {r : Times} {s w : List ℤ} (h : Answered ts starts work r s w) {n scale : ℕ} {m e : ℤ} (k : r ≡ Timed n scale m e) where
-  pub times-are : timesOf ts (length starts) (length work) ≡ Timed n scale m e
+module _ {ts starts work : List ℤ} {r : RecordingTimes} {s w : List ℤ} (h : McrawAnswers ts starts work r s w) {n scale : ℕ} {m e : ℤ} (k : r ≡ Timed n scale m e) where
+  pub times-are : mcrawTimes ts (length starts) (length work) ≡ Timed n scale m e
   times-are = sym (h .answer) ∙ k
 
   laid-out : s ≡ laid (startsOf ts) starts

@@ -15,7 +15,7 @@ use Rattle.rules.specs.Records.{Table, segment, outEnd, outEndUs}
 use Rattle.rules.specs.Rules.{checkOf}
 use Rattle.mcraw.specs.Mcraw.{nanoseconds, startsOf, nominal, end, refusalOf}
 use Rattle.judge.specs.Video.{Shown, timed}
-use Rattle.judge.specs.Judge.{lastOf, single}
+use Rattle.judge.specs.Judge.{lastSegment, single}
 
 pub record Fits (t : Table) (v : Shown) (N : ℕ) : Type 0 where
   -- refusals 1 to 17 don't hold, and N is the frame total; there is a video, and none of its numbers is over its limit
@@ -26,13 +26,13 @@ pub record Fits (t : Table) (v : Shown) (N : ℕ) : Type 0 where
   pub first : segment t 0 .words .out ≡ 0
   pub next : (k : ℕ) → suc k < length (t .segments) → segment t (suc k) .words .out ≡ outEnd (segment t k)
   pub some : (k : ℕ) → k < length (t .segments) → 0 < segment t k .words .count
-  pub last : outEnd (lastOf (t .segments)) ≡ v .frames
+  pub last : outEnd (lastSegment (t .segments)) ≡ v .frames
   pub frames : N ≡ v .frames
   -- each segment starts at the time of its first frame in µs, to the nearest whole number, halves away from zero
   pub scaled : 0 < v .scale
   pub starts : (k : ℕ) → k < length (t .segments) → segment t k .stamps .outstart ≡ rounded (v .time (segment t k .words .out) *ℤ pos 1000000) (v .scale)
   -- |2·end_us·scale - 2·end·1,000,000| ≤ 2·nominal·1,000,000 + scale
-  pub near : pos (natAbs (pos 2 *ℤ outEndUs (lastOf (t .segments)) *ℤ pos (v .scale) -ℤ pos 2 *ℤ v .end *ℤ pos 1000000))
+  pub near : pos (natAbs (pos 2 *ℤ outEndUs (lastSegment (t .segments)) *ℤ pos (v .scale) -ℤ pos 2 *ℤ v .end *ℤ pos 1000000))
       ≤ℤ (pos 2 *ℤ v .nominal *ℤ pos 1000000 +ℤ pos (v .scale))
 
 -- it fits the recording of timestamps, with so much room: of one, a frame at the rate of segment 0's source; else their times, which nothing refuses

@@ -17,7 +17,7 @@ use Rattle.mcraw.specs.Mcraw.{mostTimestamps, nanoseconds, startsOf, span, nomi
 use Rattle.judge.specs.declared.Video.{Video}
 use Rattle.judge.specs.declared.Video.the-variants.{Nothing, Constant, Times}
 use Rattle.judge.specs.Video.{Shown, mostStarts, shownBy}
-use Rattle.judge.specs.Judge.{lastOf}
+use Rattle.judge.specs.Judge.{lastSegment}
 
 -- outside i64
 abbrev pub Beyond : ℤ → Type 0
@@ -38,7 +38,7 @@ TooLarge (Times scale end nominal) starts = (largestScale < scale) ⊎ (mostStar
 
 -- 22: last out end isn't the video's frame count
 abbrev pub OtherCount : Table → Shown → Type 0
-OtherCount t v = outEnd (lastOf (t .segments)) ≡ v .frames → ⊥
+OtherCount t v = outEnd (lastSegment (t .segments)) ≡ v .frames → ⊥
 
 -- the time of segment k's first frame in µs: ticks × 1,000,000 / scale to the nearest whole number, halves away from zero
 abbrev pub frameUs : Table → Shown → ℕ → ℤ
@@ -55,7 +55,7 @@ OtherStart t v k = frameUs t v k ≡ segment t k .stamps .outstart → ⊥
 -- near: |2·end_us·scale - 2·end·1,000,000| <= 2·nominal·1,000,000 + scale
 abbrev pub Near : Table → Shown → Type 0
 Near t v =
-    pos (natAbs (pos 2 *ℤ outEndUs (lastOf (t .segments)) *ℤ pos (v .scale) -ℤ pos 2 *ℤ v .end *ℤ pos 1000000))
+    pos (natAbs (pos 2 *ℤ outEndUs (lastSegment (t .segments)) *ℤ pos (v .scale) -ℤ pos 2 *ℤ v .end *ℤ pos 1000000))
     ≤ℤ (pos 2 *ℤ v .nominal *ℤ pos 1000000 +ℤ pos (v .scale))
 
 -- 23 and 24 of segment k

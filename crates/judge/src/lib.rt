@@ -6,14 +6,14 @@ ghost use Prim.Native.Nat.{_+_, _*_, _/_, _≤_, _<_, _^_};
 ghost use lib.ListN.{length, getD};
 ghost use lib.IntN.{ℤ, pos, _+ℤ_};
 ghost use Rattle.choice.specs.Records.{run, firstRefused};
-ghost use Rattle.signed.specs.Signed.{I64};
+ghost use Rattle.signed.specs.Steps.{I64};
 ghost use Rattle.ticks.specs.Ticks.{microsOf, endsNear};
 ghost use Rattle.table.specs.Layout.{sourceWords, segmentWords, segmentStamps, stampsAt, segmentAt, sourcesOf, segmentsOf, tableOf};
 ghost use Rattle.judge.specs.Video.{shownBy};
 ghost use Rattle.judge.specs.Judge.{startsAt, startRefusal, videoRefusal, validateOf, single, recoded, recordingRefusal, checkMcraw, Settled};
 ghost use Rattle.judge.specs.Steps.{Ready};
 use choice::Refusal;
-use mcraw::Times;
+use mcraw::RecordingTimes;
 use rules::Checked;
 use signed::Held;
 use table::SOURCE;
@@ -267,7 +267,7 @@ fn single_frame(s: &[u64], u: &[u64]) -> Video
 fn recode(n: u64) -> u64
     ensures { λ r. ⌜ r ≡ recoded n ⌝ }
 {
-    choice::first_of(n == mcraw::NO_TIMES, NO_FRAMES, n)
+    choice::first_of(n == choice::NO_TIMES, NO_FRAMES, n)
 }
 
 // 20 to 35 of an accepted table of n frames and a recording; the working slices are left as they happen to be.
@@ -287,8 +287,8 @@ fn recording_refusal(
         return video_refusal(u, t, n, single_frame(s, u), timestamps);
     }
     match mcraw::mcraw_times(timestamps, a, b) {
-        Times::Refused(number, index) => Refusal::At(recode(number), index),
-        Times::Timed {
+        RecordingTimes::Refused(number, index) => Refusal::At(recode(number), index),
+        RecordingTimes::Timed {
             frames,
             scale,
             nominal,

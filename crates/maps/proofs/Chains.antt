@@ -8,7 +8,7 @@ use lib.IntN.{ℤ}
 use lib.Dec.{ltb, leb, eqb}
 use lib.ListN.{length}
 use borrow.Author.Tests.{lt-ltb, le-ltb, le-leb, lt-leb, eq-eqb, ltb-true, ltb-false, leb-true, leb-false, eqb-true, not-false}
-use Rattle.choice.specs.Choice.{when, past}
+use Rattle.choice.specs.Choice.{when, past, maxU64}
 use Rattle.choice.specs.Records.{orRefused}
 use Rattle.choice.specs.declared.Refusal.{Refusal}
 use Rattle.choice.specs.declared.Refusal.the-variants.{Never, At}
@@ -16,11 +16,11 @@ use Rattle.choice.proofs.Tests.{and-left, and-right}
 use Rattle.choice.proofs.Chains.{past-not, not-past, when-never, or-never}
 use Rattle.choice.proofs.Runs.{length-run}
 use Rattle.rows.specs.declared.Row.{Row}
-use Rattle.rows.specs.Rows.{largest, total, okRow, WellFrom, cut, join, merge}
+use Rattle.rows.specs.Rows.{total, okRow, WellFrom, cut, join, merge}
 use Rattle.rows.proofs.Demanded.{demanded}
 use Rattle.maps.specs.declared.Frames.the-variants as frames
 use Rattle.rows.specs.Lent.{rowAt, rows}
-use Rattle.maps.specs.Answers.{mostRows, badRange, malformed, noRoom, tooLong, pastMap, sized, firstBad, mapRefusal, fits, roomRefusal, cutRefusal, joinRefusal, mergeRefusal, originRefusal}
+use Rattle.maps.specs.Answers.{mostRows, badRange, badRows, rowsOver, framesOver, pastMap, sized, firstBad, mapRefusal, fits, roomRefusal, cutRefusal, joinRefusal, mergeRefusal, originRefusal}
 use Rattle.maps.specs.Steps.{Sound, counted}
 
 -- what a count of frames says of the refusal that it stands for
@@ -36,7 +36,7 @@ counted-refused (At m j) t n i e = cc
 first-well : (m : List Row) (p i : ℕ) → firstBad p i m ≡ Never → WellFrom p m
 unfolding firstBad
 first-well [] p i e = tt
-first-well (r ∷ m) p i e = let o = when-never (not (okRow p r)) malformed i (firstBad (p + r .count) (suc i) m) e in (not-false (okRow p r) (o .0), first-well m (p + r .count) (suc i) (o .1))
+first-well (r ∷ m) p i e = let o = when-never (not (okRow p r)) badRows i (firstBad (p + r .count) (suc i) m) e in (not-false (okRow p r) (o .0), first-well m (p + r .count) (suc i) (o .1))
 
 well-first : (m : List Row) (p i : ℕ) → WellFrom p m → firstBad p i m ≡ Never
 unfolding firstBad when
@@ -46,7 +46,7 @@ well-first (r ∷ m) p i w = rw (w .0) (well-first m (p + r .count) (suc i) (w .
 pub sound : (u : List ℕ) (s : List ℤ) → mapRefusal u s ≡ Never → Sound u s
 unfolding mapRefusal
 sound u s e =
-    let o = when-never (not (sized (length u) (length s))) malformed 0 (firstBad 0 0 (rows u s)) e in
+    let o = when-never (not (sized (length u) (length s))) badRows 0 (firstBad 0 0 (rows u s)) e in
     let z = not-false (sized (length u) (length s)) (o .0) in
     record {
       some = ltb-true 0 (length s) (and-left (ltb 0 (length s)) (eqb (length u) (5 * length s)) z);
@@ -86,9 +86,9 @@ too-many k nu ns h = rw (lt-leb k mostRows h)
 
 pub room-never : (k nu ns : ℕ) → roomRefusal k nu ns ≡ Never → Fits k nu ns
 unfolding roomRefusal
-room-never k nu ns e = fits-facts k nu ns (not-false (fits k nu ns) (when-never (not (fits k nu ns)) noRoom 0 Never e .0))
+room-never k nu ns e = fits-facts k nu ns (not-false (fits k nu ns) (when-never (not (fits k nu ns)) rowsOver 0 Never e .0))
 
-pub room-on : (k nu ns : ℕ) → fits k nu ns ≡ false → roomRefusal k nu ns ≡ At noRoom 0
+pub room-on : (k nu ns : ℕ) → fits k nu ns ≡ false → roomRefusal k nu ns ≡ At rowsOver 0
 unfolding roomRefusal when
 room-on k nu ns e = rw e
 
@@ -103,7 +103,7 @@ module _ (u : List ℕ) (s : List ℤ) (a b nu ns : ℕ) where
   cut-malformed e = rw (e)
 
   module _ (e : mapRefusal u s ≡ Never) where
-    pub cut-rows-in : mostRows < length s → cutRefusal u s a b nu ns ≡ At noRoom 0
+    pub cut-rows-in : mostRows < length s → cutRefusal u s a b nu ns ≡ At rowsOver 0
     unfolding cutRefusal orRefused when
     cut-rows-in h = rw (e, lt-ltb mostRows (length s) h)
 
@@ -132,8 +132,8 @@ pub cut-never : (u : List ℕ) (s : List ℤ) (a b nu ns : ℕ) → cutRefusal u
 unfolding cutRefusal
 cut-never u s a b nu ns e =
     let k = roomRefusal (length (cut a b (rows u s))) nu ns in
-    let e₀ = or-never (mapRefusal u s) (when (ltb mostRows (length s)) (At noRoom 0) (when (leb b a) (At badRange 0) (when (ltb (total (rows u s)) b) (At badRange 0) k))) e in
-    let e₁ = when-never (ltb mostRows (length s)) noRoom 0 (when (leb b a) (At badRange 0) (when (ltb (total (rows u s)) b) (At badRange 0) k)) (e₀ .1) in
+    let e₀ = or-never (mapRefusal u s) (when (ltb mostRows (length s)) (At rowsOver 0) (when (leb b a) (At badRange 0) (when (ltb (total (rows u s)) b) (At badRange 0) k))) e in
+    let e₁ = when-never (ltb mostRows (length s)) rowsOver 0 (when (leb b a) (At badRange 0) (when (ltb (total (rows u s)) b) (At badRange 0) k)) (e₀ .1) in
     let e₂ = when-never (leb b a) badRange 0 (when (ltb (total (rows u s)) b) (At badRange 0) k) (e₁ .1) in
     let e₃ = when-never (ltb (total (rows u s)) b) badRange 0 k (e₂ .1) in
     record {
@@ -156,7 +156,7 @@ module _ (u : List ℕ) (s : List ℤ) (nu ns : ℕ) where
   merge-malformed e = rw (e)
 
   module _ (e : mapRefusal u s ≡ Never) where
-    pub merge-rows-in : mostRows < length s → mergeRefusal u s nu ns ≡ At noRoom 0
+    pub merge-rows-in : mostRows < length s → mergeRefusal u s nu ns ≡ At rowsOver 0
     unfolding mergeRefusal orRefused when
     merge-rows-in h = rw (e, lt-ltb mostRows (length s) h)
 
@@ -182,8 +182,8 @@ pub merge-never : (u : List ℕ) (s : List ℤ) (nu ns : ℕ) → mergeRefusal u
 unfolding mergeRefusal
 merge-never u s nu ns e =
     let k = roomRefusal (length (merge (rows u s))) nu ns in
-    let e₀ = or-never (mapRefusal u s) (when (ltb mostRows (length s)) (At noRoom 0) k) e in
-    let e₁ = when-never (ltb mostRows (length s)) noRoom 0 k (e₀ .1) in
+    let e₀ = or-never (mapRefusal u s) (when (ltb mostRows (length s)) (At rowsOver 0) k) e in
+    let e₁ = when-never (ltb mostRows (length s)) rowsOver 0 k (e₀ .1) in
     record { sound = sound u s (e₀ .0); few = ltb-false mostRows (length s) (e₁ .0); room = room-never (length (merge (rows u s))) nu ns (e₁ .1) }
 
 pub merge-accepted : (u : List ℕ) (s : List ℤ) (nu ns : ℕ) → Mergeable u s nu ns → mergeRefusal u s nu ns ≡ Never
@@ -202,21 +202,21 @@ module _ (u : List ℕ) (s : List ℤ) (v : List ℕ) (t : List ℤ) (nu ns : �
     join-malformed-second f = rw (e, f)
 
     module _ (f : mapRefusal v t ≡ Never) where
-      pub join-rows-in : mostRows < length s → joinRefusal u s v t nu ns ≡ At noRoom 0
+      pub join-rows-in : mostRows < length s → joinRefusal u s v t nu ns ≡ At rowsOver 0
       unfolding joinRefusal orRefused when
       join-rows-in h = rw (e, f, lt-ltb mostRows (length s) h)
 
       module _ (few : length s ≤ mostRows) where
-        pub join-rows-in-second : mostRows < length t → joinRefusal u s v t nu ns ≡ At noRoom 0
+        pub join-rows-in-second : mostRows < length t → joinRefusal u s v t nu ns ≡ At rowsOver 0
         unfolding joinRefusal orRefused when
         join-rows-in-second h = rw (e, f, le-ltb mostRows (length s) few, lt-ltb mostRows (length t) h)
 
         module _ (few₂ : length t ≤ mostRows) where
-          pub join-long : past (total (rows u s)) (total (rows v t)) largest ≡ true → joinRefusal u s v t nu ns ≡ At tooLong 0
+          pub join-long : past (total (rows u s)) (total (rows v t)) maxU64 ≡ true → joinRefusal u s v t nu ns ≡ At framesOver 0
           unfolding joinRefusal orRefused when
           join-long h = rw (e, f, le-ltb mostRows (length s) few, le-ltb mostRows (length t) few₂, h)
 
-          pub join-room : past (total (rows u s)) (total (rows v t)) largest ≡ false → joinRefusal u s v t nu ns ≡ roomRefusal (length (join (rows u s) (rows v t))) nu ns
+          pub join-room : past (total (rows u s)) (total (rows v t)) maxU64 ≡ false → joinRefusal u s v t nu ns ≡ roomRefusal (length (join (rows u s) (rows v t))) nu ns
           unfolding joinRefusal orRefused when
           join-room h = rw (e, f, le-ltb mostRows (length s) few, le-ltb mostRows (length t) few₂, h)
 
@@ -225,34 +225,34 @@ pub record Joinable (u : List ℕ) (s : List ℤ) (v : List ℕ) (t : List ℤ) 
   pub second : Sound v t
   pub few : length s ≤ mostRows
   pub few-second : length t ≤ mostRows
-  pub short : total (rows u s) + total (rows v t) ≤ largest
+  pub short : total (rows u s) + total (rows v t) ≤ maxU64
   pub room : Fits (length (join (rows u s) (rows v t))) nu ns
 
 pub join-never : (u : List ℕ) (s : List ℤ) (v : List ℕ) (t : List ℤ) (nu ns : ℕ) → joinRefusal u s v t nu ns ≡ Never → Joinable u s v t nu ns
 unfolding joinRefusal
 join-never u s v t nu ns e =
     let k = roomRefusal (length (join (rows u s) (rows v t))) nu ns in
-    let p = past (total (rows u s)) (total (rows v t)) largest in
-    let x₄ = when p (At tooLong 0) k in
-    let x₃ = when (ltb mostRows (length t)) (At noRoom 0) x₄ in
-    let x₂ = when (ltb mostRows (length s)) (At noRoom 0) x₃ in
+    let p = past (total (rows u s)) (total (rows v t)) maxU64 in
+    let x₄ = when p (At framesOver 0) k in
+    let x₃ = when (ltb mostRows (length t)) (At rowsOver 0) x₄ in
+    let x₂ = when (ltb mostRows (length s)) (At rowsOver 0) x₃ in
     let e₀ = or-never (mapRefusal u s) (orRefused (mapRefusal v t) x₂) e in
     let e₁ = or-never (mapRefusal v t) x₂ (e₀ .1) in
-    let e₂ = when-never (ltb mostRows (length s)) noRoom 0 x₃ (e₁ .1) in
-    let e₃ = when-never (ltb mostRows (length t)) noRoom 0 x₄ (e₂ .1) in
-    let e₄ = when-never p tooLong 0 k (e₃ .1) in
+    let e₂ = when-never (ltb mostRows (length s)) rowsOver 0 x₃ (e₁ .1) in
+    let e₃ = when-never (ltb mostRows (length t)) rowsOver 0 x₄ (e₂ .1) in
+    let e₄ = when-never p framesOver 0 k (e₃ .1) in
     record {
       first = sound u s (e₀ .0);
       second = sound v t (e₁ .0);
       few = ltb-false mostRows (length s) (e₂ .0);
       few-second = ltb-false mostRows (length t) (e₃ .0);
-      short = past-not (total (rows u s)) (total (rows v t)) largest (e₄ .0);
+      short = past-not (total (rows u s)) (total (rows v t)) maxU64 (e₄ .0);
       room = room-never (length (join (rows u s) (rows v t))) nu ns (e₄ .1);
     }
 
 pub join-accepted : (u : List ℕ) (s : List ℤ) (v : List ℕ) (t : List ℤ) (nu ns : ℕ) → Joinable u s v t nu ns → joinRefusal u s v t nu ns ≡ Never
 join-accepted u s v t nu ns o =
-    join-room u s v t nu ns (sound-map u s (o .first)) (sound-map v t (o .second)) (o .few) (o .few-second) (not-past (total (rows u s)) (total (rows v t)) largest (o .short))
+    join-room u s v t nu ns (sound-map u s (o .first)) (sound-map v t (o .second)) (o .few) (o .few-second) (not-past (total (rows u s)) (total (rows v t)) maxU64 (o .short))
     ∙ room-off (length (join (rows u s) (rows v t))) nu ns (facts-fit (length (join (rows u s) (rows v t))) nu ns (o .room))
 
 -- the chain of an origin
@@ -262,7 +262,7 @@ module _ (u : List ℕ) (s : List ℤ) (k : ℕ) where
   origin-malformed e = rw (e)
 
   module _ (e : mapRefusal u s ≡ Never) where
-    pub origin-rows-in : mostRows < length s → originRefusal u s k ≡ At noRoom 0
+    pub origin-rows-in : mostRows < length s → originRefusal u s k ≡ At rowsOver 0
     unfolding originRefusal orRefused when
     origin-rows-in h = rw (e, lt-ltb mostRows (length s) h)
 

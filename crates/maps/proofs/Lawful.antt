@@ -8,18 +8,19 @@ use lib.IntN.{ℤ}
 use lib.ListN.{length, take}
 use Rattle.choice.specs.declared.Refusal.{Refusal}
 use Rattle.choice.specs.declared.Refusal.the-variants.{Never}
+use Rattle.choice.specs.Choice.{maxU64}
 use Rattle.choice.proofs.Tests.{le-or-lt}
 use Rattle.rows.specs.declared.Row.{Row}
-use Rattle.rows.specs.Rows.{largest, total, Origin, nowhere, from, origin, cut, join, merge}
+use Rattle.rows.specs.Rows.{total, Origin, nowhere, from, origin, cut, join, merge}
 use Rattle.rows.proofs.Demanded.{demanded}
 use Rattle.maps.specs.declared.Mapped.{Mapped}
 use Rattle.maps.specs.declared.Mapped.the-variants.{Rows, Refused}
 use Rattle.maps.specs.declared.Traced.{Traced}
 use Rattle.maps.specs.declared.Traced.the-variants as traced
 use Rattle.rows.specs.Lent.{rows}
-use Rattle.maps.specs.Answers.{mostRows, noRoom, pastMap, roomRefusal, cutRefusal, mergeRefusal, answered, told, tracedOf, Placed, placed-once, Cut, Join, Merge, Trace}
+use Rattle.maps.specs.Answers.{mostRows, rowsOver, pastMap, roomRefusal, cutRefusal, mergeRefusal, mappedOf, tracedAs, tracedOf, Placed, Cut, Join, Merge, Trace}
 use Rattle.maps.specs.Steps.{Sound}
-use Rattle.maps.specs.Laws.{LentMap, Wrote, Found, Laws}
+use Rattle.maps.specs.Laws.{LentMap, Wrote, TracedTo, Laws}
 use Rattle.choice.proofs.Chains.{not-past}
 use Rattle.maps.proofs.Chains.{Fits, room-on, too-many, sound-map, cut-empty, cut-room, cut-never, cut-accepted, merge-room, merge-never, merge-accepted, join-room, join-never, join-accepted, origin-beyond, origin-accepted}
 use Rattle.maps.proofs.Spans.{origin-held, row-holder}
@@ -39,7 +40,7 @@ some-frames u s l = rows-frames (rows u s) (l .well) (omega (arith, length-rows 
 -- two calls that are asked for the same rows, with the same refusal
 once : {x y : Refusal} {m l : List Row} {ou ou′ ou″ : List ℕ} {os os′ os″ : List ℤ} {r q : Mapped} → x ≡ y → m ≡ l
     → Placed x m ou os r ou′ os′ → Placed y l ou os q ou″ os″ → (r ≡ q) × (ou′ ≡ ou″) × (os′ ≡ os″)
-once {x} {y} {m} {l} {ou} {ou′} {ou″} {os} {os′} {os″} {r} e f p q = let p′ : Placed y l ou os r ou′ os′ = rw (e, f) at p in placed-once p′ q
+once {x} {y} {m} {l} {ou} {ou′} {ou″} {os} {os′} {os″} {r} e f p q = let p′ : Placed y l ou os r ou′ os′ = rw (e, f) at p in (p′ .answer ∙ sym (q .answer), p′ .words ∙ sym (q .words), p′ .shifts ∙ sym (q .shifts))
 
 -- ---- what the calls write
 cut-gives : (u : List ℕ) (s : List ℤ) (a b k : ℕ) (ou ou′ : List ℕ) (os os′ : List ℤ) → Cut u s a b ou os (Rows k) ou′ os′
@@ -50,7 +51,7 @@ cut-gives u s a b k ou ou′ os os′ p =
     (lent (o .sound) (o .few), o .some, o .inside, wrote p (frames-rows (cut a b (rows u s)) (omega (arith, o .some))) (o .room .few) (demanded .cut-well (rows u s) a b (o .sound .well)), t)
 
 join-gives : (u v : List ℕ) (s t : List ℤ) (k : ℕ) (ou ou′ : List ℕ) (os os′ : List ℤ) → Join u s v t ou os (Rows k) ou′ os′
-    → LentMap u s × LentMap v t × (total (rows u s) + total (rows v t) ≤ largest) × Wrote k ou′ os′ (join (rows u s) (rows v t)) × (k ≡ length s + length t)
+    → LentMap u s × LentMap v t × (total (rows u s) + total (rows v t) ≤ maxU64) × Wrote k ou′ os′ (join (rows u s) (rows v t)) × (k ≡ length s + length t)
     × (total (join (rows u s) (rows v t)) ≡ total (rows u s) + total (rows v t))
 join-gives u v s t k ou ou′ os os′ p =
     let o = join-never u s v t (length ou) (length os) (none p) in
@@ -77,7 +78,7 @@ cut-whole u s k ou ou′ os os′ p =
 
 -- ---- where they answer
 answer : {x : Refusal} {m : List Row} {ou ou′ : List ℕ} {os os′ : List ℤ} {r : Mapped} → Placed x m ou os r ou′ os′ → x ≡ Never → r ≡ Rows (length m)
-answer {x} {m} p e = p .answer ∙ ap (λ (y : Refusal). answered y m) e
+answer {x} {m} p e = p .answer ∙ ap (λ (y : Refusal). mappedOf y m) e
 
 cut-accepts : (u : List ℕ) (s : List ℤ) (a b : ℕ) (ou ou′ : List ℕ) (os os′ : List ℤ) (r : Mapped) → LentMap u s → a < b → b ≤ total (rows u s)
     → 5 * length (cut a b (rows u s)) ≤ length ou → length (cut a b (rows u s)) ≤ length os → Cut u s a b ou os r ou′ os′ → r ≡ Rows (length (cut a b (rows u s)))
@@ -85,7 +86,7 @@ cut-accepts u s a b ou ou′ os os′ r l h i x y p =
     let f : Fits (length (cut a b (rows u s))) (length ou) (length os) = record { few = omega (arith, demanded .cut-rows (rows u s) a b, length-rows u s, l .few); words = x; shifts = y } in
     answer p (cut-accepted u s a b (length ou) (length os) (record { sound = sound l; few = l .few; some = h; inside = i; room = f }))
 
-join-accepts : (u v : List ℕ) (s t : List ℤ) (ou ou′ : List ℕ) (os os′ : List ℤ) (r : Mapped) → LentMap u s → LentMap v t → total (rows u s) + total (rows v t) ≤ largest
+join-accepts : (u v : List ℕ) (s t : List ℤ) (ou ou′ : List ℕ) (os os′ : List ℤ) (r : Mapped) → LentMap u s → LentMap v t → total (rows u s) + total (rows v t) ≤ maxU64
     → length s + length t ≤ mostRows → 5 * (length s + length t) ≤ length ou → length s + length t ≤ length os → Join u s v t ou os r ou′ os′ → r ≡ Rows (length s + length t)
 join-accepts u v s t ou ou′ os os′ r l k h few x y p =
     let n = length-join u s v t in
@@ -100,20 +101,20 @@ merge-accepts u s ou ou′ os os′ r l x y p =
 
 -- ---- origins
 -- what `origin` answers of a lent map, for every frame
-traces : (u : List ℕ) (s : List ℤ) (f : ℕ) (r : Traced) → LentMap u s → Trace u s f r → r ≡ told (origin (rows u s) f)
+traces : (u : List ℕ) (s : List ℤ) (f : ℕ) (r : Traced) → LentMap u s → Trace u s f r → r ≡ tracedAs (origin (rows u s) f)
 traces u s f r l e =
     ⊎-elim
     (λ (h : total (rows u s) ≤ f).
     e
     ∙ ap (λ (x : Refusal). tracedOf x (origin (rows u s) f)) (origin-beyond u s f (sound-map u s (sound l)) (l .few) h)
-    ∙ ap told (sym (demanded .past-map (rows u s) f (l .well) h)))
+    ∙ ap tracedAs (sym (demanded .past-map (rows u s) f (l .well) h)))
     (λ (h : f < total (rows u s)). e ∙ ap (λ (x : Refusal). tracedOf x (origin (rows u s) f)) (origin-accepted u s f (sound-map u s (sound l)) (l .few) h))
     (le-or-lt (total (rows u s)) f)
 
 origin-past : (u : List ℕ) (s : List ℤ) (f : ℕ) (r : Traced) → LentMap u s → total (rows u s) ≤ f → Trace u s f r → r ≡ traced.Refused pastMap 0
-origin-past u s f r l h e = traces u s f r l e ∙ ap told (demanded .past-map (rows u s) f (l .well) h)
+origin-past u s f r l h e = traces u s f r l e ∙ ap tracedAs (demanded .past-map (rows u s) f (l .well) h)
 
-origin-found : (u : List ℕ) (s : List ℤ) (f : ℕ) (r : Traced) → LentMap u s → f < total (rows u s) → Trace u s f r → Found u s f r
+origin-found : (u : List ℕ) (s : List ℤ) (f : ℕ) (r : Traced) → LentMap u s → f < total (rows u s) → Trace u s f r → TracedTo u s f r
 origin-found u s f r l h e =
     let o = row-holder (sound l) f h in
     record {
@@ -122,14 +123,14 @@ origin-found u s f r l h e =
       low = o .holder .low;
       high = o .holder .high;
       only = o .only;
-      gives = traces u s f r l e ∙ ap told (origin-held (sound l) f (o .index) (o .holder));
+      gives = traces u s f r l e ∙ ap tracedAs (origin-held (sound l) f (o .index) (o .holder));
     }
 
 -- two maps give two frames the same origin, so `origin` answers the same
 same-traces : (u v : List ℕ) (s t : List ℤ) (f g : ℕ) (r q : Traced) → LentMap u s → LentMap v t → origin (rows u s) f ≡ origin (rows v t) g → Trace u s f r → Trace v t g q → r ≡ q
-same-traces u v s t f g r q l k e x y = traces u s f r l x ∙ ap told e ∙ sym (traces v t g q k y)
+same-traces u v s t f g r q l k e x y = traces u s f r l x ∙ ap tracedAs e ∙ sym (traces v t g q k y)
 
-told-once : (o p : Origin) → told o ≡ told p → o ≡ p
+told-once : (o p : Origin) → tracedAs o ≡ tracedAs p → o ≡ p
 told-once nowhere nowhere e = refl
 told-once nowhere (from s f g z) e = let x : _≡_ {A = ℕ} 0 1 = cc in absurd (omega arith)
 told-once (from s f g z) nowhere e = let x : _≡_ {A = ℕ} 0 1 = cc in absurd (omega arith)
@@ -263,19 +264,19 @@ module _ (u : List ℕ) (s : List ℤ) (a b c i j : ℕ) (pu pu′ qu qu′ : Li
   )
 
   join-cuts-answer : (ju ju′ : List ℕ) (js js′ : List ℤ) (r : Mapped) → Join (take (5 * i) pu′) (take i ps′) (take (5 * j) qu′) (take j qs′) ju js r ju′ js′
-      → 5 * (i + j) ≤ length ju → i + j ≤ length js → (i + j ≤ mostRows → r ≡ Rows (i + j)) × (mostRows < i + j → r ≡ Refused noRoom 0)
+      → 5 * (i + j) ≤ length ju → i + j ≤ length js → (i + j ≤ mostRows → r ≡ Rows (i + j)) × (mostRows < i + j → r ≡ Refused rowsOver 0)
   join-cuts-answer ju ju′ js js′ r k h l =
       let vu = take (5 * i) pu′ in
       let vs = take i ps′ in
       let wu = take (5 * j) qu′ in
       let ws = take j qs′ in
       let n : length vs + length ws ≡ i + j = omega (arith, sizes) in
-      let t : total (rows vu vs) + total (rows wu ws) ≤ largest = omega (arith, ap total (left .3 .is) ∙ left .4, ap total (right .3 .is) ∙ right .4, left .1, right .1, right .2, demanded .tiles (rows u s) (left .0 .well) .1) in (
+      let t : total (rows vu vs) + total (rows wu ws) ≤ maxU64 = omega (arith, ap total (left .3 .is) ∙ left .4, ap total (right .3 .is) ∙ right .4, left .1, right .1, right .2, demanded .tiles (rows u s) (left .0 .well) .1) in (
         λ e. join-accepts vu wu vs ws ju ju′ js js′ r (left .3 .lent) (right .3 .lent) t (omega arith) (omega arith) (omega arith) k ∙ ap Rows n,
         λ e.
-            let z = join-room vu vs wu ws (length ju) (length js) (sound-map vu vs (sound (left .3 .lent))) (sound-map wu ws (sound (right .3 .lent))) (left .3 .lent .few) (right .3 .lent .few) (not-past (total (rows vu vs)) (total (rows wu ws)) largest t) in
+            let z = join-room vu vs wu ws (length ju) (length js) (sound-map vu vs (sound (left .3 .lent))) (sound-map wu ws (sound (right .3 .lent))) (left .3 .lent .few) (right .3 .lent .few) (not-past (total (rows vu vs)) (total (rows wu ws)) maxU64 t) in
             let f = too-many (length (join (rows vu vs) (rows wu ws))) (length ju) (length js) (omega (arith, length-join vu vs wu ws)) in
-            k .answer ∙ ap (λ (y : Refusal). answered y (join (rows vu vs) (rows wu ws))) (z ∙ room-on _ _ _ f),
+            k .answer ∙ ap (λ (y : Refusal). mappedOf y (join (rows vu vs) (rows wu ws))) (z ∙ room-on _ _ _ f),
       )
 
   join-cuts-rows : (w : ℕ) (wu wu′ : List ℕ) (ws ws′ : List ℤ) → Cut u s a c wu ws (Rows w) wu′ ws′ → i + j ≤ w + 1

@@ -15,11 +15,11 @@ use Rattle.rows.proofs.Demanded.{demanded}
 use Rattle.maps.specs.declared.Mapped.{Mapped}
 use Rattle.maps.specs.declared.Mapped.the-variants.{Rows, Refused}
 use Rattle.rows.specs.Lent.{rows, words, wordsOf, shiftsOf}
-use Rattle.maps.specs.Answers.{mostRows, answered, Placed}
+use Rattle.maps.specs.Answers.{mostRows, mappedOf, Placed}
 use Rattle.maps.specs.Laws.{Wrote, AsLent}
 use Rattle.rows.proofs.Flat.{length-words, length-shifts, rows-flat}
 
-answered-rows : (x : Refusal) (m : List Row) (k : ℕ) → Rows k ≡ answered x m → (x ≡ Never) × (k ≡ length m)
+answered-rows : (x : Refusal) (m : List Row) (k : ℕ) → Rows k ≡ mappedOf x m → (x ≡ Never) × (k ≡ length m)
 answered-rows Never m k e = (refl, cc)
 answered-rows (At n i) m k e = let z : _≡_ {A = ℕ} 0 1 = cc in absurd (omega arith)
 
@@ -67,7 +67,7 @@ module _ {x : Refusal} {m : List Row} {ou : List ℕ} {os : List ℤ} {k : ℕ} 
         is = read-back;
       }
 
-as-lent-refused : (x : Refusal) (m : List Row) (n i : ℕ) {A : Type 0} (p o o′ : List A) → Refused n i ≡ answered x m → o′ ≡ after x p o → o′ ≡ o
+as-lent-refused : (x : Refusal) (m : List Row) (n i : ℕ) {A : Type 0} (p o o′ : List A) → Refused n i ≡ mappedOf x m → o′ ≡ after x p o → o′ ≡ o
 as-lent-refused Never m n i p o o′ e f = let z : _≡_ {A = ℕ} 0 1 = cc in absurd (omega arith)
 as-lent-refused (At n i) m _ _ p o o′ e f = f
 

@@ -13,15 +13,16 @@ use Rattle.choice.specs.Records.{run}
 use Rattle.choice.proofs.Runs.{length-run, getD-run}
 use Rattle.choice.proofs.Tests.{le-or-lt, Test, was, wasnt, test}
 use Rattle.rows.specs.declared.Row.{Row}
-use Rattle.rows.specs.Rows.{largest, end, total, WellFrom, WellFormed, holds, originIn, origin, overlaps, clip, cut}
+use Rattle.rows.specs.Rows.{rowEnd, total, WellFrom, WellFormed, holds, originIn, origin, overlaps, clip, cut}
 use Rattle.rows.specs.Demands.{noRow}
 use Rattle.rows.proofs.Origins.{holds-in, holds-lo, holds-hi}
 use Rattle.rows.proofs.Demanded.{demanded}
 use Rattle.rows.proofs.Well.{Ok, ok-facts}
 use Rattle.choice.specs.declared.Refusal.the-variants.{Never}
+use Rattle.choice.specs.Choice.{maxU64}
 use Rattle.maps.specs.declared.Traced.the-variants.{From}
 use Rattle.rows.specs.Lent.{rowAt, rows}
-use Rattle.maps.specs.Answers.{originRefusal, told, tracedOf}
+use Rattle.maps.specs.Answers.{originRefusal, tracedAs, tracedOf}
 use Rattle.maps.specs.Steps.{Sound, Room, Holder, Span}
 use Rattle.maps.proofs.Chains.{Cuttable}
 
@@ -63,10 +64,10 @@ module _ (f : ℕ → Row) where
   -- where a row of a well-formed map lies
   pub record Lies (k : ℕ) : Type 0 where
     pub begins : f k .out ≡ start k
-    pub ends : end (f k) ≡ start (suc k)
+    pub ends : rowEnd (f k) ≡ start (suc k)
     pub some : 0 < f k .count
-    pub last : end (f k) ≤ largest
-    pub source : f k .first + f k .count ≤ largest
+    pub last : rowEnd (f k) ≤ maxU64
+    pub source : f k .first + f k .count ≤ maxU64
 
   lies : (n k : ℕ) → WellFormed (run f 0 n) → k < n → Lies k
   lies n k w h =
@@ -120,10 +121,10 @@ module _ {u : List ℕ} {s : List ℤ} (m : Sound u s) where
   row-lies k h = lies (rowAt u s) (length s) k (m .well) h
 
   -- the row's sums fit
-  pub row-end : (k : ℕ) (r : Row) → r ≡ rowAt u s k → k < length s → end r ≤ largest
-  row-end k r e h = let l = row-lies k h in omega (arith, ap end e, l .last)
+  pub row-end : (k : ℕ) (r : Row) → r ≡ rowAt u s k → k < length s → rowEnd r ≤ maxU64
+  row-end k r e h = let l = row-lies k h in omega (arith, ap rowEnd e, l .last)
 
-  pub row-source : (k : ℕ) (r : Row) → r ≡ rowAt u s k → k < length s → r .first + r .count ≤ largest
+  pub row-source : (k : ℕ) (r : Row) → r ≡ rowAt u s k → k < length s → r .first + r .count ≤ maxU64
   row-source k r e h = let l = row-lies k h in let z : r .first + r .count ≡ (rowAt u s k) .first + (rowAt u s k) .count = ap (λ (x : Row). x .first + x .count) e in omega (arith, l .source)
 
   pub between-start : (k : ℕ) → Between u s k 0 (length s)
@@ -164,8 +165,8 @@ module _ {u : List ℕ} {s : List ℤ} (m : Sound u s) where
     before-none k l t =
         let p = row-lies i (x .within) in
         let q = row-lies k (omega (arith, x .within)) in
-        let z : end (rowAt u s k) ≤ a = omega (arith, p .begins, q .ends, start-rises (rowAt u s) (suc k) i (omega arith), x .low) in
-        le-ltb (max a ((rowAt u s k) .out)) (min b (end (rowAt u s k))) (omega arith)
+        let z : rowEnd (rowAt u s k) ≤ a = omega (arith, p .begins, q .ends, start-rises (rowAt u s) (suc k) i (omega arith), x .low) in
+        le-ltb (max a ((rowAt u s k) .out)) (min b (rowEnd (rowAt u s k))) (omega arith)
 
     after-none : (k : ℕ) → i + (j - i + 1) ≤ k → k < i + (j - i + 1) + (length s - (i + (j - i + 1))) → overlaps a b (rowAt u s k) ≡ false
     after-none k l t =
@@ -173,7 +174,7 @@ module _ {u : List ℕ} {s : List ℤ} (m : Sound u s) where
         let p = row-lies j (y .within) in
         let q = row-lies k (omega (arith, y .within)) in
         let z : b ≤ (rowAt u s k) .out = omega (arith, p .ends, q .begins, start-rises (rowAt u s) (suc j) k (omega arith), y .high) in
-        le-ltb (max a ((rowAt u s k) .out)) (min b (end (rowAt u s k))) (omega arith)
+        le-ltb (max a ((rowAt u s k) .out)) (min b (rowEnd (rowAt u s k))) (omega arith)
 
     inside : (k : ℕ) → k < j - i + 1 → overlaps a b (rowAt u s (i + k)) ≡ true
     inside k l =
@@ -182,9 +183,9 @@ module _ {u : List ℕ} {s : List ℤ} (m : Sound u s) where
         let p = row-lies (i + k) w in
         let pi = row-lies i (x .within) in
         let pj = row-lies j (y .within) in
-        let z₁ : a < end (rowAt u s (i + k)) = omega (arith, p .ends, pi .ends, start-rises (rowAt u s) (suc i) (suc (i + k)) (omega arith), x .high) in
+        let z₁ : a < rowEnd (rowAt u s (i + k)) = omega (arith, p .ends, pi .ends, start-rises (rowAt u s) (suc i) (suc (i + k)) (omega arith), x .high) in
         let z₂ : (rowAt u s (i + k)) .out < b = omega (arith, p .begins, pj .begins, start-rises (rowAt u s) (i + k) j (omega arith), y .low) in
-        lt-ltb (max a ((rowAt u s (i + k)) .out)) (min b (end (rowAt u s (i + k)))) (omega (arith, p .some))
+        lt-ltb (max a ((rowAt u s (i + k)) .out)) (min b (rowEnd (rowAt u s (i + k)))) (omega (arith, p .some))
 
     pub spans : Span u s a b i (j - i + 1)
     spans =
@@ -212,10 +213,10 @@ span-length {u} {s} {a} {b} {i} {k} x = ap length (x .is) ∙ length-run (λ j. 
 
 -- what a cut asks of each row that it takes
 pub span-clips : {u : List ℕ} {s : List ℤ} {a b i k : ℕ} → Sound u s → Span u s a b i k → (w : ℕ) → w < k → (r : Row) → r ≡ rowAt u s (i + w)
-    → (max a (r .out) < min b (end r)) × (end r ≤ largest) × (r .first + r .count ≤ largest)
+    → (max a (r .out) < min b (rowEnd r)) × (rowEnd r ≤ maxU64) × (r .first + r .count ≤ maxU64)
 span-clips {u} {s} {a} {b} {i} m x w h r e =
     let l : i + w < length s = omega (arith, x .within) in
-    (ltb-true (max a (r .out)) (min b (end r)) (ap (overlaps a b) e ∙ x .over w h), row-end m (i + w) r e l, row-source m (i + w) r e l)
+    (ltb-true (max a (r .out)) (min b (rowEnd r)) (ap (overlaps a b) e ∙ x .over w h), row-end m (i + w) r e l, row-source m (i + w) r e l)
 
 pub span-room : {u : List ℕ} {s : List ℤ} {a b i k : ℕ} {ou : List ℕ} {os : List ℤ} → Span u s a b i k → Room k ou os → Room (length (cut a b (rows u s))) ou os
 span-room x r = let e = span-length x in record { words = omega (arith, r .words); shifts = omega (arith, r .shifts) }
@@ -224,7 +225,7 @@ span-room x r = let e = span-length x in record { words = omega (arith, r .words
 pub record OneHolder (u : List ℕ) (s : List ℤ) (k : ℕ) : Type 0 where
   pub index : ℕ
   pub holder : Holder u s k index
-  pub only : (j : ℕ) → j < length s → (rowAt u s j) .out ≤ k → k < end (rowAt u s j) → j ≡ index
+  pub only : (j : ℕ) → j < length s → (rowAt u s j) .out ≤ k → k < rowEnd (rowAt u s j) → j ≡ index
 
 module _ {u : List ℕ} {s : List ℤ} (m : Sound u s) where
   -- a row begins before the map ends
@@ -234,7 +235,7 @@ module _ {u : List ℕ} {s : List ℤ} (m : Sound u s) where
   row-is : (j : ℕ) → j < length s → getD (rows u s) j noRow ≡ rowAt u s j
   row-is j h = let z : 0 + j ≡ j = omega arith in getD-run (rowAt u s) 0 (length s) j noRow h ∙ ap (rowAt u s) z
 
-  holds-row : (k j : ℕ) → j < length s → (rowAt u s j) .out ≤ k → k < end (rowAt u s j) → holds (getD (rows u s) j noRow) k ≡ true
+  holds-row : (k j : ℕ) → j < length s → (rowAt u s j) .out ≤ k → k < rowEnd (rowAt u s j) → holds (getD (rows u s) j noRow) k ≡ true
   holds-row k j h l t = ap (λ (r : Row). holds r k) (row-is j h) ∙ holds-in (rowAt u s j) k l t
 
   -- the row that was found gives the frame's origin
@@ -264,11 +265,11 @@ module _ {u : List ℕ} {s : List ℤ} (m : Sound u s) {k i : ℕ} (x : Holder u
   pub held-low : r .out ≤ k
   held-low = rw e (x .low)
 
-  pub held-fits : r .first + (k - r .out) ≤ largest
-  held-fits = let h : k < end r = rw e (x .high) in omega (arith, held-low, row-source m i r e (x .within))
+  pub held-fits : r .first + (k - r .out) ≤ maxU64
+  held-fits = let h : k < rowEnd r = rw e (x .high) in omega (arith, held-low, row-source m i r e (x .within))
 
   pub held-traced : {z : ℤ} → originRefusal u s k ≡ Never → z ≡ r .shift → From (r .source) (r .first + (k - r .out)) (r .flag) z ≡ tracedOf (originRefusal u s k) (origin (rows u s) k)
-  held-traced a f = ap (From (r .source) (r .first + (k - r .out)) (r .flag)) f ∙ ap (λ (y : Row). told (originIn y k)) e ∙ sym (ap₂ tracedOf a (origin-held m k i x))
+  held-traced a f = ap (From (r .source) (r .first + (k - r .out)) (r .flag)) f ∙ ap (λ (y : Row). tracedAs (originIn y k)) e ∙ sym (ap₂ tracedOf a (origin-held m k i x))
 
 pub taken-room : {u : List ℕ} {s : List ℤ} {a b i k : ℕ} {ou : List ℕ} {os : List ℤ} → Cuttable u s a b (length ou) (length os) → Span u s a b i k → Room k ou os
 taken-room o x = let e = span-length x in record { words = omega (arith, o .room .words); shifts = omega (arith, o .room .shifts) }

@@ -8,7 +8,7 @@ use mathlib.Core.Path.{_≡_, refl, sym, _∙_, ap}
 use lib.IntN.{ℤ}
 use lib.ListN.{length, set, length-append}
 use lib.Seq.{sets}
-use Rattle.choice.specs.Choice.{when}
+use Rattle.choice.specs.Choice.{when, maxU64}
 use Rattle.choice.specs.Records.{run}
 use Rattle.choice.specs.declared.Refusal.{Refusal}
 use Rattle.choice.specs.declared.Refusal.the-variants.{Never, At}
@@ -16,13 +16,13 @@ use Rattle.choice.proofs.Runs.{run-cons, run-nil, length-run}
 use Rattle.slices.specs.Slices.{laid}
 use Rattle.slices.proofs.Laid.{length-laid, set-laid, sets-laid}
 use Rattle.rows.specs.declared.Row.{Row}
-use Rattle.rows.specs.Rows.{largest, total, okRow, runsOn, glue, mergeInto, merge}
+use Rattle.rows.specs.Rows.{total, okRow, runsOn, glue, mergeInto, merge}
 use Rattle.rows.proofs.Merging.{runs-on}
 use Rattle.maps.specs.declared.Mapped.the-variants.{Rows, Refused}
 use Rattle.maps.specs.declared.Frames.the-variants as frames
 use Rattle.rows.specs.Lent.{rowAt, rows, words, wordsOf, shiftsOf}
 use Rattle.rows.proofs.Flat.{words-append, shifts-append, length-words, length-shifts}
-use Rattle.maps.specs.Answers.{malformed, firstBad, Placed}
+use Rattle.maps.specs.Answers.{badRows, firstBad, Placed}
 use Rattle.maps.specs.Steps.{Room, counted}
 
 -- row i as it was read, and the rows after it
@@ -32,7 +32,7 @@ read f i n r e h = run-cons f i n h ∙ ap (λ (x : Row). x ∷ run f (i + 1) (n
 -- judging
 module _ (f : ℕ → Row) (p i n : ℕ) where
   module _ (r : Row) (e : r ≡ f i) (h : i < n) where
-    pub judge-bad : (t : ℕ) → okRow p r ≡ false → counted (firstBad p i (run f i (n - i))) t ≡ frames.Refused malformed i
+    pub judge-bad : (t : ℕ) → okRow p r ≡ false → counted (firstBad p i (run f i (n - i))) t ≡ frames.Refused badRows i
     unfolding firstBad when
     judge-bad t b = rw (read f i n r e h, b)
 
@@ -135,7 +135,7 @@ module _ (f : ℕ → Row) (i n : ℕ) (c : Row) where
   merge-end h = rw (run-nil f i n h)
 
 -- row c with row r after it still fits
-pub glue-fits : (c r : Row) → runsOn c r ≡ true → r .first + r .count ≤ largest → (c .count + r .count ≤ largest) × (c .first + (c .count + r .count) ≤ largest)
+pub glue-fits : (c r : Row) → runsOn c r ≡ true → r .first + r .count ≤ maxU64 → (c .count + r .count ≤ maxU64) × (c .first + (c .count + r .count) ≤ maxU64)
 glue-fits c r b h = let o = runs-on c r b in omega (arith, o .first)
 
 -- all of a run

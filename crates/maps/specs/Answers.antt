@@ -2,17 +2,17 @@
 use Prim.Native.Nat.{ℕ, suc, _+_, _*_}
 use mathlib.Core.Bool.{Bool, not, _&&_}
 use mathlib.Core.List.{List, [], _∷_}
-use mathlib.Core.Path.{_≡_, sym, _∙_}
+use mathlib.Core.Path.{_≡_}
 use lib.IntN.{ℤ}
 use lib.Dec.{ltb, leb, eqb}
 use lib.ListN.{length}
-use Rattle.choice.specs.Choice.{when, past}
+use Rattle.choice.specs.Choice.{when, past, maxU64}
 use Rattle.choice.specs.Records.{orRefused}
 use Rattle.choice.specs.declared.Refusal.{Refusal}
 use Rattle.choice.specs.declared.Refusal.the-variants.{Never, At}
 use Rattle.slices.specs.Slices.{after}
 use Rattle.rows.specs.declared.Row.{Row}
-use Rattle.rows.specs.Rows.{largest, total, okRow, Origin, nowhere, from, origin, cut, join, merge}
+use Rattle.rows.specs.Rows.{total, okRow, Origin, nowhere, from, origin, cut, join, merge}
 use Rattle.maps.specs.declared.Mapped.{Mapped}
 use Rattle.maps.specs.declared.Mapped.the-variants.{Rows, Refused}
 use Rattle.maps.specs.declared.Traced.{Traced}
@@ -29,16 +29,16 @@ abbrev pub badRange : ℕ
 badRange = 50
 
 -- rows malformed, lengths that disagree, or no rows
-abbrev pub malformed : ℕ
-malformed = 51
+abbrev pub badRows : ℕ
+badRows = 51
 
 -- too many rows, or lent room too small
-abbrev pub noRoom : ℕ
-noRoom = 52
+abbrev pub rowsOver : ℕ
+rowsOver = 52
 
 -- joined frames pass 2^64 - 1
-abbrev pub tooLong : ℕ
-tooLong = 53
+abbrev pub framesOver : ℕ
+framesOver = 53
 
 -- a frame past the map
 abbrev pub pastMap : ℕ
@@ -52,11 +52,11 @@ sized nu ns = ltb 0 ns && eqb nu (5 * ns)
 -- 51 at the first row that isn't well formed, from row i on, where frame p is next
 unfoldable pub firstBad : ℕ → ℕ → List Row → Refusal
 firstBad p i [] = Never
-firstBad p i (r ∷ m) = when (not (okRow p r)) (At malformed i) (firstBad (p + r .count) (suc i) m)
+firstBad p i (r ∷ m) = when (not (okRow p r)) (At badRows i) (firstBad (p + r .count) (suc i) m)
 
 -- 51 of a lent map
 unfoldable pub mapRefusal : List ℕ → List ℤ → Refusal
-mapRefusal u s = when (not (sized (length u) (length s))) (At malformed 0) (firstBad 0 0 (rows u s))
+mapRefusal u s = when (not (sized (length u) (length s))) (At badRows 0) (firstBad 0 0 (rows u s))
 
 -- k rows go into nu words and ns shifts
 abbrev pub fits : ℕ → ℕ → ℕ → Bool
@@ -64,13 +64,13 @@ fits k nu ns = leb k mostRows && leb (5 * k) nu && leb k ns
 
 -- 52 of k rows out
 unfoldable pub roomRefusal : ℕ → ℕ → ℕ → Refusal
-roomRefusal k nu ns = when (not (fits k nu ns)) (At noRoom 0) Never
+roomRefusal k nu ns = when (not (fits k nu ns)) (At rowsOver 0) Never
 
 -- ---- the refusals of each call, where nu words and ns shifts are lent for its rows
 unfoldable pub cutRefusal : List ℕ → List ℤ → ℕ → ℕ → ℕ → ℕ → Refusal
 cutRefusal u s a b nu ns =
     orRefused (mapRefusal u s)
-    (when (ltb mostRows (length s)) (At noRoom 0)
+    (when (ltb mostRows (length s)) (At rowsOver 0)
     (when (leb b a) (At badRange 0)
     (when (ltb (total (rows u s)) b) (At badRange 0)
     (roomRefusal (length (cut a b (rows u s))) nu ns))))
@@ -79,47 +79,42 @@ unfoldable pub joinRefusal : List ℕ → List ℤ → List ℕ → List ℤ →
 joinRefusal u s v t nu ns =
     orRefused (mapRefusal u s)
     (orRefused (mapRefusal v t)
-    (when (ltb mostRows (length s)) (At noRoom 0)
-    (when (ltb mostRows (length t)) (At noRoom 0)
-    (when (past (total (rows u s)) (total (rows v t)) largest) (At tooLong 0)
+    (when (ltb mostRows (length s)) (At rowsOver 0)
+    (when (ltb mostRows (length t)) (At rowsOver 0)
+    (when (past (total (rows u s)) (total (rows v t)) maxU64) (At framesOver 0)
     (roomRefusal (length (join (rows u s) (rows v t))) nu ns)))))
 
 unfoldable pub mergeRefusal : List ℕ → List ℤ → ℕ → ℕ → Refusal
 mergeRefusal u s nu ns =
     orRefused (mapRefusal u s)
-    (when (ltb mostRows (length s)) (At noRoom 0)
+    (when (ltb mostRows (length s)) (At rowsOver 0)
     (roomRefusal (length (merge (rows u s))) nu ns))
 
 unfoldable pub originRefusal : List ℕ → List ℤ → ℕ → Refusal
 originRefusal u s k =
     orRefused (mapRefusal u s)
-    (when (ltb mostRows (length s)) (At noRoom 0)
+    (when (ltb mostRows (length s)) (At rowsOver 0)
     (when (leb (total (rows u s)) k) (At pastMap 0) Never))
 
 -- ---- answers
 -- the rows m, or the refusal
-abbrev pub answered : Refusal → List Row → Mapped
-answered Never m = Rows (length m)
-answered (At n i) m = Refused n i
+abbrev pub mappedOf : Refusal → List Row → Mapped
+mappedOf Never m = Rows (length m)
+mappedOf (At n i) m = Refused n i
 
 -- rows m were asked for: the answer r, and the words and shifts that were lent for them, before and afterwards
 pub record Placed (refusal : Refusal) (m : List Row) (ou : List ℕ) (os : List ℤ) (r : Mapped) (ou′ : List ℕ) (os′ : List ℤ) : Type 0 where
-  pub answer : r ≡ answered refusal m
+  pub answer : r ≡ mappedOf refusal m
   pub words : ou′ ≡ after refusal (wordsOf m) ou
   pub shifts : os′ ≡ after refusal (shiftsOf m) os
 
--- nothing else meets it
-pub placed-once : {x : Refusal} {m : List Row} {ou : List ℕ} {os : List ℤ} {r r′ : Mapped} {ou′ ou″ : List ℕ} {os′ os″ : List ℤ}
-    → Placed x m ou os r ou′ os′ → Placed x m ou os r′ ou″ os″ → (r ≡ r′) × (ou′ ≡ ou″) × (os′ ≡ os″)
-placed-once p q = (p .answer ∙ sym (q .answer), p .words ∙ sym (q .words), p .shifts ∙ sym (q .shifts))
-
 -- an origin as it is answered; a frame that has none lies past the map
-abbrev pub told : Origin → Traced
-told nowhere = traced.Refused pastMap 0
-told (from s f g z) = traced.From s f g z
+abbrev pub tracedAs : Origin → Traced
+tracedAs nowhere = traced.Refused pastMap 0
+tracedAs (from s f g z) = traced.From s f g z
 
 abbrev pub tracedOf : Refusal → Origin → Traced
-tracedOf Never o = told o
+tracedOf Never o = tracedAs o
 tracedOf (At n i) o = traced.Refused n i
 
 -- ---- the promises, in plain lists

@@ -8,7 +8,7 @@ use lib.ListN.{length}
 use Rattle.choice.specs.Records.{run}
 use Rattle.choice.specs.declared.Refusal.{Refusal}
 use Rattle.choice.specs.declared.Refusal.the-variants.{Never, At}
-use Rattle.rows.specs.Rows.{WellFormed, end, overlaps, clip, cut}
+use Rattle.rows.specs.Rows.{WellFormed, rowEnd, overlaps, clip, cut}
 use Rattle.maps.specs.declared.Frames.{Frames}
 use Rattle.maps.specs.declared.Frames.the-variants as frames
 use Rattle.maps.specs.declared.Part.{Part}
@@ -31,7 +31,7 @@ pub record Room (k : ℕ) (ou : List ℕ) (os : List ℤ) : Type 0 where
 pub record Holder (u : List ℕ) (s : List ℤ) (k i : ℕ) : Type 0 where
   pub within : i < length s
   pub low : (rowAt u s i) .out ≤ k
-  pub high : k < end (rowAt u s i)
+  pub high : k < rowEnd (rowAt u s i)
 
 -- t frames, or the refusal
 abbrev pub counted : Refusal → ℕ → Frames

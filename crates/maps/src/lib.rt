@@ -1,4 +1,5 @@
 // The calls on lent frame maps: cut, join, merge, and the origin of a frame.
+use choice::MAX_U64;
 use choice::Refusal;
 use rows::Row;
 ghost use mathlib.Core.Path.{_≡_};
@@ -6,8 +7,9 @@ ghost use Prim.Native.Nat.{_+_, _-_, _*_, _≤_, _<_, min, max};
 ghost use lib.ListN.{length, set};
 ghost use lib.Seq.{sets};
 ghost use Rattle.choice.specs.Records.{run};
+ghost use Rattle.choice.specs.Choice.{maxU64};
 ghost use Rattle.slices.specs.Slices.{laid};
-ghost use Rattle.rows.specs.Rows.{largest, end, total, okRow, clip, cut, moved, join, runsOn, glue, merge};
+ghost use Rattle.rows.specs.Rows.{rowEnd, total, okRow, clip, cut, moved, join, runsOn, glue, merge};
 ghost use Rattle.rows.specs.Lent.{rowAt, rows, words, wordsOf, shiftsOf};
 ghost use Rattle.maps.specs.Answers.{sized, fits, firstBad, mapRefusal, joinRefusal, mergeRefusal, Cut, Join, Merge, Trace};
 ghost use Rattle.maps.specs.Steps.{Sound, Room, Holder, counted, Span, Planned};
@@ -18,16 +20,13 @@ pub const MOST_ROWS: usize = 1024;
 // The refusals' numbers: a cut's range, rows malformed, too many rows or too little room, joined frames past 2^64 - 1, a frame past the map.
 const BAD_RANGE: u64 = 50;
 
-const MALFORMED: u64 = 51;
+const BAD_ROWS: u64 = 51;
 
-const NO_ROOM: u64 = 52;
+const ROWS_OVER: u64 = 52;
 
-const TOO_LONG: u64 = 53;
+const FRAMES_OVER: u64 = 53;
 
 const PAST_MAP: u64 = 54;
-
-// 2^64 - 1.
-const LARGEST: u64 = 0xffff_ffff_ffff_ffff;
 
 // The answer of a call that writes rows: how many, or a refusal's number and index.
 pub enum Mapped {
@@ -88,8 +87,8 @@ fn put_row(u: &mut [u64], s: &mut [i64], w: usize, r: Row)
 fn ok_row(p: u64, r: Row) -> bool
     ensures { λ t. ⌜ t ≡ okRow p r ⌝ }
 {
-    let wraps = choice::is_past(r.first, r.count, LARGEST);
-    let leaves = choice::is_past(r.out, r.count, LARGEST);
+    let wraps = choice::is_past(r.first, r.count, MAX_U64);
+    let leaves = choice::is_past(r.out, r.count, MAX_U64);
     let absent = signed::same(r.shift, 0);
     (0 < r.count) & !wraps & !leaves & (r.out == p) & ((r.flag == 1) | ((r.flag == 0) & absent))
 }
@@ -111,7 +110,7 @@ fn judge(u: &[u64], s: &[i64]) -> Frames
     while i < s.len() {
         let r = row_at(u, s, i);
         if !ok_row(p, r) {
-            return Frames::Refused(MALFORMED, i);
+            return Frames::Refused(BAD_ROWS, i);
         }
         p += r.count;
         i += 1;
@@ -124,7 +123,7 @@ fn frames_of(u: &[u64], s: &[i64]) -> Frames
     ensures { λ r. ⌜ r ≡ counted (mapRefusal (now (u .entry)) (now (s .entry))) (total (rows (now (u .entry)) (now (s .entry)))) ⌝ }
 {
     if !is_sized(u, s) {
-        return Frames::Refused(MALFORMED, 0);
+        return Frames::Refused(BAD_ROWS, 0);
     }
     judge(u, s)
 }
@@ -180,7 +179,7 @@ fn less(x: u64, y: u64) -> u64
 
 // A row's overlap with a..b, counted from a.
 fn clipped(r: Row, a: u64, b: u64) -> Row
-    requires { ⌜ (max a (r .out) < min b (end r)) × (end r ≤ largest) × (r .first + r .count ≤ largest) ⌝ }
+    requires { ⌜ (max a (r .out) < min b (rowEnd r)) × (rowEnd r ≤ maxU64) × (r .first + r .count ≤ maxU64) ⌝ }
     ensures { λ t. ⌜ t ≡ clip a b r ⌝ }
 {
     Row {
@@ -201,7 +200,7 @@ fn plan_cut(u: &[u64], s: &[i64], a: u64, b: u64, nu: usize, ns: usize) -> Part
         Frames::Refused(n, i) => Part::Refused(n, i),
         Frames::Are(t) => {
             if MOST_ROWS < s.len() {
-                return Part::Refused(NO_ROOM, 0);
+                return Part::Refused(ROWS_OVER, 0);
             }
             if b <= a {
                 return Part::Refused(BAD_RANGE, 0);
@@ -212,7 +211,7 @@ fn plan_cut(u: &[u64], s: &[i64], a: u64, b: u64, nu: usize, ns: usize) -> Part
             let i = row_of(u, s, a);
             let k = row_of(u, s, b - 1) - i + 1;
             if !has_room(k, nu, ns) {
-                return Part::Refused(NO_ROOM, 0);
+                return Part::Refused(ROWS_OVER, 0);
             }
             Part::Rows(i, k)
         }
@@ -257,7 +256,7 @@ pub fn cut(u: &[u64], s: &[i64], a: u64, b: u64, ou: &mut [u64], os: &mut [i64])
 
 // Whether row r continues row c.
 fn runs_on(c: Row, r: Row) -> bool
-    requires { ⌜ c .first + c .count ≤ largest ⌝ }
+    requires { ⌜ c .first + c .count ≤ maxU64 ⌝ }
     ensures { λ t. ⌜ t ≡ runsOn c r ⌝ }
 {
     let same = signed::same(c.shift, r.shift);
@@ -266,7 +265,7 @@ fn runs_on(c: Row, r: Row) -> bool
 
 // Row c with the frames of row r after its own.
 fn glued(c: Row, r: Row) -> Row
-    requires { ⌜ c .count + r .count ≤ largest ⌝ }
+    requires { ⌜ c .count + r .count ≤ maxU64 ⌝ }
     ensures { λ t. ⌜ t ≡ glue c r ⌝ }
 {
     Row {
@@ -308,7 +307,7 @@ fn refuse_merge(u: &[u64], s: &[i64], nu: usize, ns: usize) -> Refusal
         Frames::Refused(n, i) => Refusal::At(n, i),
         Frames::Are(_) => {
             if MOST_ROWS < s.len() {
-                return Refusal::At(NO_ROOM, 0);
+                return Refusal::At(ROWS_OVER, 0);
             }
             if has_room(s.len(), nu, ns) {
                 return Refusal::Never;
@@ -316,7 +315,7 @@ fn refuse_merge(u: &[u64], s: &[i64], nu: usize, ns: usize) -> Refusal
             if has_room(count_merge(u, s), nu, ns) {
                 return Refusal::Never;
             }
-            Refusal::At(NO_ROOM, 0)
+            Refusal::At(ROWS_OVER, 0)
         }
     }
 }
@@ -359,7 +358,7 @@ pub fn merge(u: &[u64], s: &[i64], ou: &mut [u64], os: &mut [i64]) -> Mapped
 
 // Row r, d output frames later.
 fn later(r: Row, d: u64) -> Row
-    requires { ⌜ d + r .out ≤ largest ⌝ }
+    requires { ⌜ d + r .out ≤ maxU64 ⌝ }
     ensures { λ t. ⌜ t ≡ moved d r ⌝ }
 {
     Row {
@@ -374,7 +373,7 @@ fn later(r: Row, d: u64) -> Row
 
 // The rows of a map, d output frames later, written over the first rows of what is lent.
 fn write_moved(u: &[u64], s: &[i64], d: u64, ou: &mut [u64], os: &mut [i64])
-    requires { ⌜ Sound (now u) (now s) × (d + total (rows (now u) (now s)) ≤ largest) × Room (length (now s)) (now ou) (now os) ⌝ }
+    requires { ⌜ Sound (now u) (now s) × (d + total (rows (now u) (now s)) ≤ maxU64) × Room (length (now s)) (now ou) (now os) ⌝ }
     ensures { λ _. ⌜ (now (ou .exit) ≡ laid (wordsOf (run (λ j. moved d (rowAt (now (u .entry)) (now (s .entry)) j)) 0 (length (now (s .entry))))) (now (ou .entry))) × (now (os .exit) ≡ laid (shiftsOf (run (λ j. moved d (rowAt (now (u .entry)) (now (s .entry)) j)) 0 (length (now (s .entry))))) (now (os .entry))) ⌝ }
 {
     let mut i: usize = 0;
@@ -395,16 +394,16 @@ fn plan_join(u: &[u64], s: &[i64], v: &[u64], t: &[i64], nu: usize, ns: usize) -
             Frames::Refused(n, i) => Frames::Refused(n, i),
             Frames::Are(e) => {
                 if MOST_ROWS < s.len() {
-                    return Frames::Refused(NO_ROOM, 0);
+                    return Frames::Refused(ROWS_OVER, 0);
                 }
                 if MOST_ROWS < t.len() {
-                    return Frames::Refused(NO_ROOM, 0);
+                    return Frames::Refused(ROWS_OVER, 0);
                 }
-                if choice::is_past(d, e, LARGEST) {
-                    return Frames::Refused(TOO_LONG, 0);
+                if choice::is_past(d, e, MAX_U64) {
+                    return Frames::Refused(FRAMES_OVER, 0);
                 }
                 if !has_room(s.len() + t.len(), nu, ns) {
-                    return Frames::Refused(NO_ROOM, 0);
+                    return Frames::Refused(ROWS_OVER, 0);
                 }
                 Frames::Are(d)
             }
@@ -414,7 +413,7 @@ fn plan_join(u: &[u64], s: &[i64], v: &[u64], t: &[i64], nu: usize, ns: usize) -
 
 // Two maps, the first of d frames, written over the first rows of what is lent.
 fn write_join(u: &[u64], s: &[i64], d: u64, v: &[u64], t: &[i64], ou: &mut [u64], os: &mut [i64])
-    requires { ⌜ Sound (now u) (now s) × Sound (now v) (now t) × (d ≡ total (rows (now u) (now s))) × (d + total (rows (now v) (now t)) ≤ largest) × Room (length (now s) + length (now t)) (now ou) (now os) ⌝ }
+    requires { ⌜ Sound (now u) (now s) × Sound (now v) (now t) × (d ≡ total (rows (now u) (now s))) × (d + total (rows (now v) (now t)) ≤ maxU64) × Room (length (now s) + length (now t)) (now ou) (now os) ⌝ }
     ensures { λ _. ⌜ (now (ou .exit) ≡ laid (wordsOf (join (rows (now (u .entry)) (now (s .entry))) (rows (now (v .entry)) (now (t .entry))))) (now (ou .entry))) × (now (os .exit) ≡ laid (shiftsOf (join (rows (now (u .entry)) (now (s .entry))) (rows (now (v .entry)) (now (t .entry))))) (now (os .entry))) ⌝ }
 {
     write_moved(u, s, 0, ou, os);
@@ -444,7 +443,7 @@ pub fn origin(u: &[u64], s: &[i64], frame: u64) -> Traced
         Frames::Refused(n, i) => Traced::Refused(n, i),
         Frames::Are(t) => {
             if MOST_ROWS < s.len() {
-                return Traced::Refused(NO_ROOM, 0);
+                return Traced::Refused(ROWS_OVER, 0);
             }
             if t <= frame {
                 return Traced::Refused(PAST_MAP, 0);

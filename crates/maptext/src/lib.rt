@@ -1,9 +1,7 @@
 // Frame maps, origins and refusals as text on standard output, for programs.
+use choice::MAX_U64;
 use maps::MOST_ROWS;
 use maps::Traced;
-
-// 2^64 - 1.
-const LARGEST: u64 = 0xffff_ffff_ffff_ffff;
 
 // A refusal, by its number and index.
 pub fn refuse(number: u64, index: usize) {
@@ -44,7 +42,7 @@ pub fn shifts(s: &[i64], n: usize) -> &[i64] {
 
 // The frame after n frames from a on. It never wraps in a well-formed map.
 fn after(a: u64, n: u64) -> u64 {
-    if n <= LARGEST - a { a + n } else { LARGEST }
+    if n <= MAX_U64 - a { a + n } else { MAX_U64 }
 }
 
 // Frames from a first one on, as first..end.

@@ -14,12 +14,14 @@ use Rattle.choice.specs.declared.Refusal.{Refusal}
 use Rattle.choice.specs.declared.Refusal.the-variants.{Never, At}
 use Rattle.choice.specs.Choice.{when}
 use Rattle.choice.specs.Records.{orRefused}
+use Rattle.choice.specs.Numbers.{tooLong, noTimes, noRoom, outside}
 use Rattle.choice.proofs.Tests.{or-false}
-use Rattle.signed.specs.Signed.{I64, eqZ}
+use Rattle.signed.specs.Signed.{eqZ, isOutside}
+use Rattle.signed.specs.Steps.{I64}
 use Rattle.slices.specs.Slices.{laid}
-use Rattle.mcraw.specs.declared.Times.{Times}
-use Rattle.mcraw.specs.declared.Times.the-variants.{Timed, Refused}
-use Rattle.mcraw.specs.Mcraw.{mostTimestamps, nanoseconds, tooMany, noTimes, noRoom, outOfRange, outside, span, nominal, end, fallOf, refusalOf, timesUnless, timesOf, startsOf, written}
+use Rattle.mcraw.specs.declared.RecordingTimes.{RecordingTimes}
+use Rattle.mcraw.specs.declared.RecordingTimes.the-variants.{Timed, Refused}
+use Rattle.mcraw.specs.Mcraw.{mostTimestamps, nanoseconds, span, nominal, end, fallOf, refusalOf, timesUnless, mcrawTimes, startsOf, startsWritten}
 use Rattle.mcraw.proofs.Holds.{inside}
 
 -- the tests before the intervals are taken, none of which held
@@ -33,32 +35,32 @@ pub record Passed (ts : List ℤ) (starts work : ℕ) : Type 0 where
 
 -- the answer, by the first test that held
 module _ (ts : List ℤ) (s w : ℕ) where
-  pub many : mostTimestamps < length ts → Refused tooMany 0 ≡ timesOf ts s w
-  unfolding timesOf refusalOf timesUnless when
+  pub many : mostTimestamps < length ts → Refused tooLong 0 ≡ mcrawTimes ts s w
+  unfolding mcrawTimes refusalOf timesUnless when
   many a = rw (lt-ltb mostTimestamps (length ts) a)
 
   module _ (a : length ts ≤ mostTimestamps) where
-    pub none : length ts < 2 → Refused noTimes 0 ≡ timesOf ts s w
-    unfolding timesOf refusalOf timesUnless when
+    pub none : length ts < 2 → Refused noTimes 0 ≡ mcrawTimes ts s w
+    unfolding mcrawTimes refusalOf timesUnless when
     none b = rw (le-ltb mostTimestamps (length ts) a, lt-ltb (length ts) 2 b)
 
     module _ (b : 2 ≤ length ts) where
-      pub fell : (n i : ℕ) → fallOf ts ≡ At n i → Refused n i ≡ timesOf ts s w
-      unfolding timesOf refusalOf timesUnless when orRefused
+      pub fell : (n i : ℕ) → fallOf ts ≡ At n i → Refused n i ≡ mcrawTimes ts s w
+      unfolding mcrawTimes refusalOf timesUnless when orRefused
       fell n i d = rw (le-ltb mostTimestamps (length ts) a, le-ltb (length ts) 2 b, d)
 
       module _ (d : fallOf ts ≡ Never) where
-        pub far : outside (span ts) ≡ true → Refused outOfRange 0 ≡ timesOf ts s w
-        unfolding timesOf refusalOf timesUnless when orRefused
+        pub far : isOutside (span ts) ≡ true → Refused outside 0 ≡ mcrawTimes ts s w
+        unfolding mcrawTimes refusalOf timesUnless when orRefused
         far e = rw (le-ltb mostTimestamps (length ts) a, le-ltb (length ts) 2 b, d, e)
 
-        pub tight : outside (span ts) ≡ false → ltb s (length ts) || ltb w (length ts) ≡ true → Refused noRoom 0 ≡ timesOf ts s w
-        unfolding timesOf refusalOf timesUnless when orRefused
+        pub tight : isOutside (span ts) ≡ false → ltb s (length ts) || ltb w (length ts) ≡ true → Refused noRoom 0 ≡ mcrawTimes ts s w
+        unfolding mcrawTimes refusalOf timesUnless when orRefused
         tight e f = rw (le-ltb mostTimestamps (length ts) a, le-ltb (length ts) 2 b, d, e, f)
 
   module _ (p : Passed ts s w) where
     -- the tests that are left
-    rest : refusalOf ts s w ≡ when (eqZ (nominal ts) (pos 0)) (At noTimes 0) (when (outside (end ts)) (At outOfRange 0) Never)
+    rest : refusalOf ts s w ≡ when (eqZ (nominal ts) (pos 0)) (At noTimes 0) (when (isOutside (end ts)) (At outside 0) Never)
     unfolding refusalOf when orRefused
     rest = rw (
       le-ltb mostTimestamps (length ts) (p .few),
@@ -69,19 +71,19 @@ module _ (ts : List ℤ) (s w : ℕ) where
       le-ltb w (length ts) (p .work-room),
     )
 
-    answer : timesOf ts s w ≡ timesUnless (when (eqZ (nominal ts) (pos 0)) (At noTimes 0) (when (outside (end ts)) (At outOfRange 0) Never)) ts
-    unfolding timesOf
+    answer : mcrawTimes ts s w ≡ timesUnless (when (eqZ (nominal ts) (pos 0)) (At noTimes 0) (when (isOutside (end ts)) (At outside 0) Never)) ts
+    unfolding mcrawTimes
     answer = ap (λ (r : Refusal). timesUnless r ts) rest
 
-    pub still : eqZ (nominal ts) (pos 0) ≡ true → Refused noTimes 0 ≡ timesOf ts s w
+    pub still : eqZ (nominal ts) (pos 0) ≡ true → Refused noTimes 0 ≡ mcrawTimes ts s w
     unfolding timesUnless when
     still e = sym (answer ∙ rw e)
 
-    pub late : eqZ (nominal ts) (pos 0) ≡ false → outside (end ts) ≡ true → Refused outOfRange 0 ≡ timesOf ts s w
+    pub late : eqZ (nominal ts) (pos 0) ≡ false → isOutside (end ts) ≡ true → Refused outside 0 ≡ mcrawTimes ts s w
     unfolding timesUnless when
     late e f = sym (answer ∙ rw (e, f))
 
-    pub timed : eqZ (nominal ts) (pos 0) ≡ false → outside (end ts) ≡ false → Timed (length ts) nanoseconds (nominal ts) (end ts) ≡ timesOf ts s w
+    pub timed : eqZ (nominal ts) (pos 0) ≡ false → isOutside (end ts) ≡ false → Timed (length ts) nanoseconds (nominal ts) (end ts) ≡ mcrawTimes ts s w
     unfolding timesUnless when
     timed e f = sym (answer ∙ rw (e, f))
 
@@ -91,7 +93,7 @@ pub record Accepted (ts : List ℤ) (starts work n scale : ℕ) (m e : ℤ) : Ty
   pub unrefused : refusalOf ts starts work ≡ Never
   pub passed : Passed ts starts work
   pub moves : eqZ (nominal ts) (pos 0) ≡ false
-  pub ends : outside (end ts) ≡ false
+  pub ends : isOutside (end ts) ≡ false
   pub frames : n ≡ length ts
   pub ticks : scale ≡ nanoseconds
   pub usual : m ≡ nominal ts
@@ -103,7 +105,7 @@ unfolding timesUnless
 timed-never ts Never n scale m e h = (refl, h)
 timed-never ts (At k i) n scale m e h = let z : _≡_ {A = ℕ} 0 1 = cc in absurd (omega arith)
 
-never-passed : (ts : List ℤ) (s w : ℕ) → refusalOf ts s w ≡ Never → Passed ts s w × (eqZ (nominal ts) (pos 0) ≡ false) × (outside (end ts) ≡ false)
+never-passed : (ts : List ℤ) (s w : ℕ) → refusalOf ts s w ≡ Never → Passed ts s w × (eqZ (nominal ts) (pos 0) ≡ false) × (isOutside (end ts) ≡ false)
 unfolding refusalOf
 never-passed ts s w h =
     let a = when-never _ _ _ _ h in
@@ -126,8 +128,8 @@ never-passed ts s w h =
       k .0,
     )
 
-pub accepted : (ts : List ℤ) (s w n scale : ℕ) (m e : ℤ) → timesOf ts s w ≡ Timed n scale m e → Accepted ts s w n scale m e
-unfolding timesOf
+pub accepted : (ts : List ℤ) (s w n scale : ℕ) (m e : ℤ) → mcrawTimes ts s w ≡ Timed n scale m e → Accepted ts s w n scale m e
+unfolding mcrawTimes
 accepted ts s w n scale m e h =
     let r = timed-never ts (refusalOf ts s w) n scale m e h in
     let t : Timed (length ts) nanoseconds (nominal ts) (end ts) ≡ Timed n scale m e = r .1 in
@@ -135,10 +137,10 @@ accepted ts s w n scale m e h =
     record { unrefused = r .0; passed = p .0; moves = p .1; ends = p .2; frames = cc; ticks = cc; usual = cc; until = cc }
 
 -- what is written with each answer
-pub wrote : (ts : List ℤ) (n scale : ℕ) (m e : ℤ) (r : Times) → r ≡ Timed n scale m e → startsOf ts ≡ written r ts
-unfolding written
-wrote ts n scale m e r h = sym (ap (λ (t : Times). written t ts) h)
+pub wrote : (ts : List ℤ) (n scale : ℕ) (m e : ℤ) (r : RecordingTimes) → r ≡ Timed n scale m e → startsOf ts ≡ startsWritten r ts
+unfolding startsWritten
+wrote ts n scale m e r h = sym (ap (λ (t : RecordingTimes). startsWritten t ts) h)
 
-pub wrote-none : (ts o : List ℤ) (n i : ℕ) (r : Times) → r ≡ Refused n i → o ≡ laid (written r ts) o
-unfolding written
-wrote-none ts o n i r h = sym (ap (λ (t : Times). laid (written t ts) o) h)
+pub wrote-none : (ts o : List ℤ) (n i : ℕ) (r : RecordingTimes) → r ≡ Refused n i → o ≡ laid (startsWritten r ts) o
+unfolding startsWritten
+wrote-none ts o n i r h = sym (ap (λ (t : RecordingTimes). laid (startsWritten t ts) o) h)

@@ -6,15 +6,15 @@ use lib.IntN.{ℤ, pos, negsuc}
 use Rattle.choice.specs.Choice.{when}
 use Rattle.choice.specs.Records.{firstRefused, orRefused}
 use Rattle.order.specs.Order.{insert, sorted}
-use Rattle.mcraw.specs.declared.Times.{Times}
-use Rattle.mcraw.specs.declared.Times.the-variants.{Timed, Refused}
-use Rattle.mcraw.specs.Mcraw.{gaps, startsOf, span, nominal, end, fallOf, refusalOf, timesUnless, timesOf, written}
+use Rattle.mcraw.specs.declared.RecordingTimes.{RecordingTimes}
+use Rattle.mcraw.specs.declared.RecordingTimes.the-variants.{Timed, Refused}
+use Rattle.mcraw.specs.Mcraw.{gaps, startsOf, span, nominal, end, fallOf, refusalOf, timesUnless, mcrawTimes, startsWritten}
 
 -- timestamps, with room for so many in both slices; the answer, and the starts
 pub record Case : Type 0 where
   pub timestamps : List ℤ
   pub room : ℕ
-  pub answer : Times
+  pub answer : RecordingTimes
   pub starts : List ℤ
 
 abbrev pub cases : List Case
@@ -38,10 +38,10 @@ cases =
     ∷ record { timestamps = negsuc 9223372036854775807 ∷ negsuc 0 ∷ []; room = 2; answer = Refused 33 0; starts = [] }
     ∷ []
 
-pub answers-hold : map (λ (c : Case). timesOf (c .timestamps) (c .room) (c .room)) cases ≡ map (λ (c : Case). c .answer) cases
-unfolding timesOf refusalOf timesUnless when orRefused firstRefused fallOf gaps span nominal end sorted insert
+pub answers-hold : map (λ (c : Case). mcrawTimes (c .timestamps) (c .room) (c .room)) cases ≡ map (λ (c : Case). c .answer) cases
+unfolding mcrawTimes refusalOf timesUnless when orRefused firstRefused fallOf gaps span nominal end sorted insert
 answers-hold = refl
 
-pub starts-hold : map (λ (c : Case). written (c .answer) (c .timestamps)) cases ≡ map (λ (c : Case). c .starts) cases
-unfolding written startsOf
+pub starts-hold : map (λ (c : Case). startsWritten (c .answer) (c .timestamps)) cases ≡ map (λ (c : Case). c .starts) cases
+unfolding startsWritten startsOf
 starts-hold = refl

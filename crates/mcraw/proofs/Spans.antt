@@ -8,8 +8,8 @@ use native.Mathlib.Omega.{arith}
 use lib.IntN.{ℤ, pos, negsuc, negℤ, natAbs, _+ℤ_, _-ℤ_, +ℤ-assoc, -ℤ-+ℤ-cancel}
 use lib.ListN.{length, getD, length-map}
 use lib.Signed.{leZ, ltZ}
+use Rattle.signed.specs.Steps.{I64}
 use Rattle.choice.proofs.Tests.{decide, tf}
-use Rattle.signed.specs.Signed.{I64}
 use Rattle.signed.proofs.Order.{lt-not-le}
 use Rattle.slices.specs.Slices.{All}
 use Rattle.slices.proofs.Every.{all-at, all-of}

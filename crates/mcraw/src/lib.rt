@@ -2,10 +2,14 @@
 ghost use mathlib.Core.Path.{_≡_};
 ghost use Prim.Native.Nat.{_-_, _≤_};
 ghost use lib.ListN.{length};
-ghost use Rattle.signed.specs.Signed.{I64};
+ghost use Rattle.signed.specs.Steps.{I64};
 ghost use Rattle.slices.specs.Slices.{laid, All};
-ghost use Rattle.mcraw.specs.Mcraw.{gaps, startsOf, nominal, fallOf, timesOf, written, Answered};
+ghost use Rattle.mcraw.specs.Mcraw.{gaps, startsOf, nominal, fallOf, mcrawTimes, startsWritten, McrawAnswers};
+use choice::NO_ROOM;
+use choice::NO_TIMES;
+use choice::OUTSIDE;
 use choice::Refusal;
+use choice::TOO_LONG;
 use signed::Held;
 
 // The most timestamps, and the timescale of a recording.
@@ -13,19 +17,11 @@ pub const MOST_TIMESTAMPS: usize = 16_777_216;
 
 pub const NANOSECONDS: u64 = 1_000_000_000;
 
-// The refusals: too many timestamps, no times to be had, too little room, a number outside i64, timestamps that fall.
-pub const TOO_MANY: u64 = 30;
-
-pub const NO_TIMES: u64 = 31;
-
-pub const NO_ROOM: u64 = 32;
-
-pub const OUT_OF_RANGE: u64 = 33;
-
+// The refusal of timestamps that fall; the others are those of `choice`.
 pub const FALLING: u64 = 34;
 
 // The times of a recording's frames, or a refusal's number and index.
-pub enum Times {
+pub enum RecordingTimes {
     Timed {
         frames: usize,
         scale: u64,
@@ -86,33 +82,33 @@ fn write_starts(ts: &[i64], starts: &mut [i64])
 }
 
 // Answers with so much room in starts. What work holds afterwards isn't said.
-fn times_of(ts: &[i64], room: usize, work: &mut [i64]) -> Times
-    ensures { λ r. ⌜ r ≡ timesOf (now (ts .entry)) room (length (now (work .entry))) ⌝ }
+fn times_of(ts: &[i64], room: usize, work: &mut [i64]) -> RecordingTimes
+    ensures { λ r. ⌜ r ≡ mcrawTimes (now (ts .entry)) room (length (now (work .entry))) ⌝ }
 {
     let n = ts.len();
     if MOST_TIMESTAMPS < n {
-        return Times::Refused(TOO_MANY, 0);
+        return RecordingTimes::Refused(TOO_LONG, 0);
     }
     if n < 2 {
-        return Times::Refused(NO_TIMES, 0);
+        return RecordingTimes::Refused(NO_TIMES, 0);
     }
     if let Refusal::At(number, index) = first_fall(ts) {
-        return Times::Refused(number, index);
+        return RecordingTimes::Refused(number, index);
     }
     let Held::Is(span) = signed::difference(ts[n - 1], ts[0]) else {
-        return Times::Refused(OUT_OF_RANGE, 0);
+        return RecordingTimes::Refused(OUTSIDE, 0);
     };
     if (room < n) | (work.len() < n) {
-        return Times::Refused(NO_ROOM, 0);
+        return RecordingTimes::Refused(NO_ROOM, 0);
     }
     let nominal = middle_interval(ts, &mut work[..n - 1]);
     if signed::same(nominal, 0) {
-        return Times::Refused(NO_TIMES, 0);
+        return RecordingTimes::Refused(NO_TIMES, 0);
     }
     let Held::Is(end) = signed::sum(span, nominal) else {
-        return Times::Refused(OUT_OF_RANGE, 0);
+        return RecordingTimes::Refused(OUTSIDE, 0);
     };
-    Times::Timed {
+    RecordingTimes::Timed {
         frames: n,
         scale: NANOSECONDS,
         nominal,
@@ -121,11 +117,11 @@ fn times_of(ts: &[i64], room: usize, work: &mut [i64]) -> Times
 }
 
 // The same, with the starts written where nothing is refused.
-fn write_times(ts: &[i64], starts: &mut [i64], work: &mut [i64]) -> Times
-    ensures { λ r. ⌜ (r ≡ timesOf (now (ts .entry)) (length (now (starts .entry))) (length (now (work .entry)))) × (now (starts .exit) ≡ laid (written r (now (ts .entry))) (now (starts .entry))) ⌝ }
+fn write_times(ts: &[i64], starts: &mut [i64], work: &mut [i64]) -> RecordingTimes
+    ensures { λ r. ⌜ (r ≡ mcrawTimes (now (ts .entry)) (length (now (starts .entry))) (length (now (work .entry)))) × (now (starts .exit) ≡ laid (startsWritten r (now (ts .entry))) (now (starts .entry))) ⌝ }
 {
     let r = times_of(ts, starts.len(), work);
-    if let Times::Timed {
+    if let RecordingTimes::Timed {
         frames: _,
         scale: _,
         nominal: _,
@@ -138,8 +134,8 @@ fn write_times(ts: &[i64], starts: &mut [i64], work: &mut [i64]) -> Times
 
 // The times of a recording's frames, from `mcraw_times` of the Rust: over starts where each frame starts, counted from
 // the first. The working slice is all zero afterwards.
-pub fn mcraw_times(timestamps: &[i64], starts: &mut [i64], work: &mut [i64]) -> Times
-    ensures { λ r. ⌜ Answered (now (timestamps .entry)) (now (starts .entry)) (now (work .entry)) r (now (starts .exit)) (now (work .exit)) ⌝ }
+pub fn mcraw_times(timestamps: &[i64], starts: &mut [i64], work: &mut [i64]) -> RecordingTimes
+    ensures { λ r. ⌜ McrawAnswers (now (timestamps .entry)) (now (starts .entry)) (now (work .entry)) r (now (starts .exit)) (now (work .exit)) ⌝ }
 {
     let r = write_times(timestamps, starts, work);
     slices::clear(work);

@@ -2,11 +2,11 @@
 use mathlib.Core.Path.{_≡_, refl}
 use mathlib.Core.List.{[], _∷_}
 use lib.IntN.{pos, negsuc}
-use Rattle.order.specs.Order.{insert, sorted, countBy, firstOf, mode}
+use Rattle.order.specs.Order.{insert, sorted, countBy, takenFirst, mode}
 
 -- document 01: durations 5, 7, 7, 5 have the nominal 5
 nominal : mode (pos 5 ∷ pos 7 ∷ pos 7 ∷ pos 5 ∷ []) ≡ pos 5
-unfolding mode firstOf countBy
+unfolding mode takenFirst countBy
 nominal = refl
 
 -- composition times of I P B B, and a number below 0

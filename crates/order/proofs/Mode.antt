@@ -16,13 +16,13 @@ use Rattle.choice.proofs.Tests.{decide, either}
 use Rattle.signed.specs.Signed.{eqZ}
 use Rattle.signed.proofs.Order.{le-refl, le-trans, le-antisym, lt-le, not-lt-le, eqZ-refl, eqZ-true}
 use Rattle.slices.specs.Slices.{All}
-use Rattle.order.specs.Order.{countBy, count, MostFrequent, before, firstOf, mode, sorted}
+use Rattle.order.specs.Order.{countBy, countOf, MostFrequent, before, takenFirst, mode, sorted}
 use Rattle.order.proofs.Sorted.{length-sorted}
 use Rattle.order.proofs.Counts.{count-sorted, count-most}
 
 -- v is at least as good as w
 abbrev Beats : List ℤ → ℤ → ℤ → Type 0
-Beats l v w = (count w l < count v l) ⊎ ((count w l ≡ count v l) × (leZ v w ≡ true))
+Beats l v w = (countOf w l < countOf v l) ⊎ ((countOf w l ≡ countOf v l) × (leZ v w ≡ true))
 
 beats-trans : (l : List ℤ) (u v w : ℤ) → Beats l u v → Beats l v w → Beats l u w
 beats-trans l u v w (inl h) (inl k) = inl (omega arith)
@@ -41,22 +41,22 @@ unique l v w h k = both (h .most w) (k .most v)
 
 before-true : (l : List ℤ) (w v : ℤ) → before l w v ≡ true → Beats l w v
 before-true l w v e =
-    decide (eqb (count w l) (count v l))
+    decide (eqb (countOf w l) (countOf v l))
     (λ q. inr (sym (eqb-true _ _ q), lt-le w v (rw q at e)))
     (λ q. inl (ltb-true _ _ (rw q at e)))
 
 before-false : (l : List ℤ) (w v : ℤ) → before l w v ≡ false → Beats l v w
 before-false l w v e =
-    decide (eqb (count w l) (count v l))
+    decide (eqb (countOf w l) (countOf v l))
     (λ q. inr (eqb-true _ _ q, not-lt-le w v (rw q at e)))
     (λ q.
-    let ne = eqb-false (count w l) (count v l) q in
-    let le = ltb-false (count v l) (count w l) (rw q at e) in
+    let ne = eqb-false (countOf w l) (countOf v l) q in
+    let le = ltb-false (countOf v l) (countOf w l) (rw q at e) in
     inl (omega arith))
 
 -- the one that is taken is at least as good as v and as each of m
-taken : (l m : List ℤ) (v : ℤ) → Beats l (firstOf l v m) v × All (λ w. Beats l (firstOf l v m) w) m
-unfolding firstOf
+taken : (l m : List ℤ) (v : ℤ) → Beats l (takenFirst l v m) v × All (λ w. Beats l (takenFirst l v m) w) m
+unfolding takenFirst
 taken l [] v = (inr (refl, le-refl v), tt)
 taken l (w ∷ m) v =
     let u : ℤ = if before l w v then w else v in
@@ -65,10 +65,10 @@ taken l (w ∷ m) v =
     either (λ z. Beats l z v × Beats l z w) (before l w v)
     (λ e. (before-true l w v e, inr (refl, le-refl w)))
     (λ e. (inr (refl, le-refl v), before-false l w v e)) in
-    (beats-trans l (firstOf l u m) u v (t .0) (two .0), (beats-trans l (firstOf l u m) u w (t .0) (two .1), t .1))
+    (beats-trans l (takenFirst l u m) u v (t .0) (two .0), (beats-trans l (takenFirst l u m) u w (t .0) (two .1), t .1))
 
 -- what holds of every element holds of what stands there
-at-count : (P : ℤ → Type 0) (l : List ℤ) (w : ℤ) → All P l → 0 < count w l → P w
+at-count : (P : ℤ → Type 0) (l : List ℤ) (w : ℤ) → All P l → 0 < countOf w l → P w
 unfolding countBy
 at-count P [] w h b = absurd (not-suc-le-zero b)
 at-count P (x ∷ l) w h b = decide (eqZ x w) (λ e. rw (← eqZ-true x w e) (h .0)) (λ e. at-count P l w (h .1) (rw e at b))
@@ -79,28 +79,28 @@ unfolding mode countBy
 mode-is [] b = absurd (not-suc-le-zero b)
 mode-is (x ∷ l) b =
     let t = taken (x ∷ l) l x in
-    let r = firstOf (x ∷ l) x l in
-    let some : 0 < count x (x ∷ l) = rw (eqZ-refl x) (omega arith) in
-    let there : 0 < count r (x ∷ l) = ⊎-elim (λ k. omega arith) (λ k. omega arith) (t .0) in
+    let r = takenFirst (x ∷ l) x l in
+    let some : 0 < countOf x (x ∷ l) = rw (eqZ-refl x) (omega arith) in
+    let there : 0 < countOf r (x ∷ l) = ⊎-elim (λ k. omega arith) (λ k. omega arith) (t .0) in
     record {
       there = there;
       most = λ w. ⊎-elim
           (λ z. inl (omega arith))
           (λ p. at-count (λ u. Beats (x ∷ l) r u) (x ∷ l) w (t .0, t .1) p)
-          (eq-zero-or-pos (count w (x ∷ l)));
+          (eq-zero-or-pos (countOf w (x ∷ l)));
     }
 
 -- and no other value is
 pub only-mode : (l : List ℤ) (v : ℤ) → MostFrequent l v → v ≡ mode l
 only-mode l v h = unique l v (mode l) h (mode-is l (some l (h .there)))
   where
-    some : (m : List ℤ) → 0 < count v m → 0 < length m
+    some : (m : List ℤ) → 0 < countOf v m → 0 < length m
     some m b = omega (arith, count-most (λ x. eqZ x v) m)
 
 -- sorting does not change it
 most-sorted : (l : List ℤ) (v : ℤ) → MostFrequent (sorted l) v → MostFrequent l v
 most-sorted l v h =
-    let c : (w : ℤ) → count w (sorted l) ≡ count w l = λ w. count-sorted (λ x. eqZ x w) l in
+    let c : (w : ℤ) → countOf w (sorted l) ≡ countOf w l = λ w. count-sorted (λ x. eqZ x w) l in
     record {
       there = omega (arith, h .there, c v);
       most = λ w. ⊎-elim (λ k. inl (omega (arith, c v, c w))) (λ k. inr (omega (arith, c v, c w), k .1)) (h .most w);

@@ -27,8 +27,8 @@ use denote.Triple.Statement.{Contract, Triple}
 use denote.Triple.Call.{calls-at}
 use denote.Triple.Clauses.{ensured, lasts}
 use denote.Triple.Spec.{tripleOf}
-use Rattle.rules.specs.declared.Found.{Found}
-use Rattle.rules.proofs.Found as S
+use Rattle.rules.specs.declared.Lookup.{Lookup}
+use Rattle.rules.proofs.Lookup as S
 use Rattle.records.specs.Records.{locate}
 use Rattle.records.specs.declared.TrimSegment.{TrimSegment}
 use Rattle.records.proofs.Lent.{lentVal, Src, Txt, Rec, Ans}
@@ -37,8 +37,8 @@ use Rattle.records.proofs.segment_of_frame_records.Symbol.{name as #loo
 
 module _ {M : Type 1} (𝓤 : URA M) (H : Heap 𝓤) (A : Atoms 𝓤) (mem : Memory → SProp 𝓤) (run : Routine → Fun 𝓤) where
   -- the contract that a caller's proof cites
-  abbrev pub Lookup : Contract 𝓤
-  Lookup = tripleOf 𝓤 H A lookup.signature (lookup.spec 𝓤 H A mem run)
+  abbrev pub Look : Contract 𝓤
+  Look = tripleOf 𝓤 H A lookup.signature (lookup.spec 𝓤 H A mem run)
 
 -- the tokens of the three lifetimes, which come back
 abbrev pub Toks : {M : Type 1} {𝓤 : URA M} (κ₀ κ₁ κ₂ : Lft) (q₀ q₁ q₂ : Share) → Item 𝓤
@@ -46,32 +46,32 @@ Toks κ₀ κ₁ κ₂ q₀ q₁ q₂ = ‵ (flft κ₀ q₀) ⊛ ‵ (flft κ�
 
 module _ {M : Type 1} (𝓤 : URA M) (H : Heap 𝓤) (A : Atoms 𝓤) (W : Given 𝓤 H A) (mem : Memory → SProp 𝓤) (run : Routine → Fun 𝓤) (κ₀ κ₁ κ₂ : Lft) (q₀ q₁ q₂ : Share) (src txt : RefT (List ℕ)) (rec : RefT (List TrimSegment)) (v : Val) (lg : Bool) (fr : ℕ) where
   -- what is passed, and what is handed over for it
-  abbrev pub to-lookup : Lookup 𝓤 H A mem run .Ghost
+  abbrev pub to-lookup : Look 𝓤 H A mem run .Ghost
   to-lookup = (((κ₀, (κ₁, (κ₂, tt))), (q₀, (q₁, (q₂, tt))), tt, (src, (txt, (rec, (lg, (fr, tt))))), (lentVal src ∷ [], (lentVal txt ∷ [], (v ∷ [], (vbool lg ∷ [], (vint w64 fr ∷ [], tt)))))), tt)
 
   abbrev pub Handed : List (Item 𝓤)
   Handed = ‵ (flft κ₀ q₀) ∷ ‵ (flft κ₁ q₁) ∷ ‵ (flft κ₂ q₂) ∷ Src κ₀ src ∷ Txt κ₁ txt ∷ Rec κ₂ rec v ∷ []
 
   -- what is handed over gives what the lookup asks
-  goes-lookup : fr < 2 ^ 64 → ent 𝓤 (⋆ 𝓤 H A Handed) (Lookup 𝓤 H A mem run .pre to-lookup)
+  goes-lookup : fr < 2 ^ 64 → ent 𝓤 (⋆ 𝓤 H A Handed) (Look 𝓤 H A mem run .pre to-lookup)
   goes-lookup gf =
       qed W Handed ∵ nothing ! $ owned ! u64 (Is u64) (uint-makes 𝓤 H A W w64) fr _ (refl, gf) $ fjoin ! $ owned ! bool (Is bool) (bool-makes 𝓤 H A W) lg _ refl $ fjoin ! $ move ! (6 ∷ 0 ∷ []) $ fjoin ! $ move ! (5 ∷ 0 ∷ []) $ fjoin ! $ move ! (4 ∷ 0 ∷ []) $ fjoin ! $
       nothing ! $ move ! (4 ∷ 0 ∷ []) $ join ! $ move ! (3 ∷ 0 ∷ []) $ join ! $ move ! (2 ∷ 0 ∷ []) $ join ! $ join ! $ frame ! $ done !
 
   -- of its `ensured`, the clause alone: it has no `&mut`, so what is said of last values is dropped
-  abbrev Ensured : Found → SProp 𝓤
+  abbrev Ensured : Lookup → SProp 𝓤
   Ensured = ensured 𝓤 H A lookup.ended (lookup.clauses 𝓤 H A mem run) (κ₀, (κ₁, (κ₂, tt))) (src, (txt, (rec, (lg, (fr, tt))))) tt
 
-  said : (r : Found) → ent 𝓤 (Ensured r) (fact 𝓤 (r ≡ locate (now src) (now txt) (now rec) lg fr))
+  said : (r : Lookup) → ent 𝓤 (Ensured r) (fact 𝓤 (r ≡ locate (now src) (now txt) (now rec) lg fr))
   said r = exE 𝓤 _ (λ ws. snd∗ 𝓤 (sem 𝓤 H A (lasts lookup.ended (κ₀, (κ₁, (κ₂, tt))) (src, (txt, (rec, (lg, (fr, tt))))) ws)) (fact 𝓤 (r ≡ locate (now src) (now txt) (now rec) lg fr)))
 
   module _ {K : Type 0} {Γ : List (Item 𝓤)} {E : Env 𝓤 H} {C : Calls 𝓤 H} {Λ : Loops 𝓤 H} {q : Post 𝓤 H} {d : Place} {xs : List Operand} {rest : Body} where
-    pub calls-lookup : K → FmC 𝓤 H (W .laws) C → Triple 𝓤 (C #lookup) (Lookup 𝓤 H A mem run) → fr < 2 ^ 64 → Opds K W (raw (Lookup 𝓤 H A mem run .pre to-lookup) ∷ Γ) E xs (lentVal src ∷ lentVal txt ∷ v ∷ vbool lg ∷ vint w64 fr ∷ [])
-        → ((u : Val) (r : Found) → r ≡ locate (now src) (now txt) (now rec) lg fr → Is S.the-row r (u ∷ []) → Seq K W (Ans r u ∷ Toks κ₀ κ₁ κ₂ q₀ q₁ q₂ ∷ Γ) (lands C Λ E d u rest q))
+    pub calls-lookup : K → FmC 𝓤 H (W .laws) C → Triple 𝓤 (C #lookup) (Look 𝓤 H A mem run) → fr < 2 ^ 64 → Opds K W (raw (Look 𝓤 H A mem run .pre to-lookup) ∷ Γ) E xs (lentVal src ∷ lentVal txt ∷ v ∷ vbool lg ∷ vint w64 fr ∷ [])
+        → ((u : Val) (r : Lookup) → r ≡ locate (now src) (now txt) (now rec) lg fr → Is S.the-row r (u ∷ []) → Seq K W (Ans r u ∷ Toks κ₀ κ₁ κ₂ q₀ q₁ q₂ ∷ Γ) (lands C Λ E d u rest q))
         → Seq K W (Handed ++ Γ) (runs C Λ E (seq (call #lookup xs d) rest) q)
     calls-lookup t fm known gf os k =
-        cut Handed (raw (Lookup 𝓤 H A mem run .pre to-lookup) ∷ []) Γ (goes-lookup gf) $
-        calls-at t fm (Lookup 𝓤 H A mem run) known to-lookup os (λ u.
-        use1 W (later (some (λ (r : Found). (Toks κ₀ κ₁ κ₂ q₀ q₁ q₂ ⊛ Ans r u) ⊛ raw (Ensured r)))) (id⊢ 𝓤 _) $ await t tt $ pick t (λ r.
+        cut Handed (raw (Look 𝓤 H A mem run .pre to-lookup) ∷ []) Γ (goes-lookup gf) $
+        calls-at t fm (Look 𝓤 H A mem run) known to-lookup os (λ u.
+        use1 W (later (some (λ (r : Lookup). (Toks κ₀ κ₁ κ₂ q₀ q₁ q₂ ⊛ Ans r u) ⊛ raw (Ensured r)))) (id⊢ 𝓤 _) $ await t tt $ pick t (λ r.
         split t $ move t (1 ∷ []) $ use1 W (raw (fact 𝓤 (r ≡ locate (now src) (now txt) (now rec) lg fr))) (said r) $ heard t (r ≡ locate (now src) (now txt) (now rec) lg fr) (λ e. split t $ move t (1 ∷ []) $
         peeks t S.the-row (Is S.the-row) (shows 𝓤 H A S.the-row) r (u ∷ []) (λ is. k u r e is))))

@@ -21,14 +21,14 @@ use Rattle.choice.proofs.Runs.{run-cons, run-nil, length-run}
 use Rattle.rules.specs.declared.Source.{Source}
 use Rattle.rules.specs.declared.Turn.{Turn}
 use Rattle.rules.specs.declared.Turn.the-variants.{Stop, Go}
-use Rattle.rules.specs.declared.Found.{Found}
-use Rattle.rules.specs.declared.Found.the-variants.{Index, NoIndex}
+use Rattle.rules.specs.declared.Lookup.{Lookup}
+use Rattle.rules.specs.declared.Lookup.the-variants.{Index, NoIndex}
 use Rattle.rules.specs.declared.Checked.{Checked}
 use Rattle.rules.specs.declared.Checked.the-variants.{Refused}
 use Rattle.rules.specs.Limits.{maxSegments}
 use Rattle.rules.specs.Records.{Segment, Table, outEnd}
 use Rattle.rules.specs.Rules.{ends, endsOf, frontRefusal, malformed, checkOf}
-use Rattle.rules.specs.Lookups.{count, overBy, ended, found, segmentOfFrame}
+use Rattle.rules.specs.Lookups.{countSuch, overBy, ended, lookedUp, segmentOfFrame}
 use Rattle.rules.specs.Steps.{turnOf, walked}
 use Rattle.rules.proofs.Walks.{Walk, walk-start, walk-go, walk-stop, walk-end, turn-go, check-stops, check-goes}
 use Rattle.table.specs.Layout.{sourcesOf}
@@ -61,7 +61,7 @@ module _ (srcs : List Source) (frame : ℕ) (rs : List TrimSegment) where
     count-is : s .n ≡ k
     ended-fits : s .ended ≤ s .n
     going : s .stopped ≡ false → Walk srcs f m k (s .prev)
-    ended-is : s .stopped ≡ false → s .ended + count (overBy frame) (run f k (m - k)) ≡ count (overBy frame) (run f 0 m)
+    ended-is : s .stopped ≡ false → s .ended + countSuch (overBy frame) (run f k (m - k)) ≡ countSuch (overBy frame) (run f 0 m)
     refused : s .stopped ≡ true → Refused (s .number) (s .at) ≡ walked srcs (run f 0 m)
 
   known-start : Known 0 (begun frame)
@@ -81,7 +81,7 @@ module _ (srcs : List Source) (frame : ℕ) (rs : List TrimSegment) where
   end-is s k e = ap (λ x. x .frame) (sym (turn-go _ _ _ e .1))
 
   known-turn : (k : ℕ) (s : SoFar) (t : Turn) → k < m → Known k s → s .stopped ≡ false → turnOf srcs (s .prev) (f k) ≡ t → Known (k + 1) (turnedOf s t)
-  unfolding turnedOf count
+  unfolding turnedOf countSuch
   known-turn k s (Stop number) h g o e = record {
     frame-is = g .frame-is;
     count-is = omega (arith, g .count-is);
@@ -91,8 +91,8 @@ module _ (srcs : List Source) (frame : ℕ) (rs : List TrimSegment) where
     refused = λ _. rw (g .count-is) (walk-stop srcs f m (g .going o) h e);
   }
   known-turn k s (Go to) h g o e =
-      let c = count (overBy frame) (run f (k + 1) (m - (k + 1))) in
-      let more : count (overBy frame) (run f k (m - k)) ≡ when (overBy frame (f k)) (suc c) c = ap (count (overBy frame)) (run-cons f k m h) in
+      let c = countSuch (overBy frame) (run f (k + 1) (m - (k + 1))) in
+      let more : countSuch (overBy frame) (run f k (m - k)) ≡ when (overBy frame (f k)) (suc c) c = ap (countSuch (overBy frame)) (run-cons f k m h) in
       let same : leb (to .frame) (s .frame) ≡ overBy frame (f k) = rw (end-is s k e, g .frame-is) in
       record {
         frame-is = g .frame-is;
@@ -172,34 +172,34 @@ module _ (sources text : List ℕ) (rs : List TrimSegment) (log : Bool) (frame :
   index = ended (overBy frame) (t .segments)
 
   -- what is answered of a check of the table
-  told : Checked → Found
-  told c = found c index
+  told : Checked → Lookup
+  told c = lookedUp c index
 
   front-is : frontRefusal log text (sourcesOf sources) (malformed t) (length (t .segments)) ≡ frontRefusal log text (sourcesOf sources) (badSources sources text) (length rs)
   front-is = rw (malformed-is sources text rs log, length-run (segment rs) 0 (length rs))
 
   -- 1 to 8 refuse the table
   by-front : (n i : ℕ) → frontRefusal log text (sourcesOf sources) (badSources sources text) (length rs) ≡ At n i → NoIndex n i ≡ told (checkOf t)
-  unfolding told found
+  unfolding told lookedUp
   by-front n i e = ap told (check-stops t (front-is ∙ e))
 
-  count-none : count (overBy frame) (run (segment rs) (length rs) (length rs - length rs)) ≡ 0
-  unfolding count
-  count-none = ap (count (overBy frame)) (run-nil (segment rs) (length rs) (length rs) (omega arith))
+  count-none : countSuch (overBy frame) (run (segment rs) (length rs) (length rs - length rs)) ≡ 0
+  unfolding countSuch
+  count-none = ap (countSuch (overBy frame)) (run-nil (segment rs) (length rs) (length rs) (omega arith))
 
   -- what is answered, by what 1 to 8 give
-  abbrev by : Refusal → Found
+  abbrev by : Refusal → Lookup
   by x = decided x (s .stopped) (s .number) (s .at) (s .ended) (s .n)
 
   -- they don't: the records decide
   by-walk : length rs ≤ maxSegments → frontRefusal log text (sourcesOf sources) (badSources sources text) (length rs) ≡ Never → (b : Bool) → s .stopped ≡ b
       → decided Never b (s .number) (s .at) (s .ended) (s .n) ≡ told (checkOf t)
-  unfolding told found ended decided
+  unfolding told lookedUp ended decided
   by-walk l e true z = ap told (known-after (sourcesOf sources) frame rs (length rs) (omega arith) l .refused z ∙ check-goes t (front-is ∙ e))
   by-walk l e false z =
       let g = known-after (sourcesOf sources) frame rs (length rs) (omega arith) l in
       let c = count-none in
-      let k : s .ended ≡ count (overBy frame) (t .segments) = omega (arith, g .ended-is z) in
+      let k : s .ended ≡ countSuch (overBy frame) (t .segments) = omega (arith, g .ended-is z) in
       let w : min (s .ended) (s .n - 1) ≡ index = rw (k, g .count-is, length-run (segment rs) 0 (length rs)) in
       ap Index w
       ∙ ap told (walk-end (sourcesOf sources) (segment rs) (length rs) (g .going z) (omega arith) ∙ check-goes t (front-is ∙ e))

@@ -17,8 +17,8 @@ use Rattle.rules.specs.Records.{Segment, Table}
 use Rattle.rules.specs.Rules.{badSegment, malformed}
 use Rattle.table.specs.Layout.{segmentAt, sourcesOf, segmentsOf, badLengths, tableOf}
 use Rattle.records.specs.declared.TrimSegment.{TrimSegment}
-use Rattle.records.specs.Records.{segmentOf, unsigned, signed, allUnsigned, allSigned}
-use Rattle.records.specs.Steps.{recordAt, badSources}
+use Rattle.records.specs.Records.{unsigned, signed, allUnsigned, allSigned}
+use Rattle.records.specs.Steps.{recordAt, badSources, segmentOf}
 
 -- segment k of a list of records
 abbrev pub segment : List TrimSegment → ℕ → Segment

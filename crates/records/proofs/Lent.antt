@@ -20,8 +20,8 @@ use denote.Exit.{Kept}
 use denote.Signature.{Slot}
 use denote.Slice.{sliceTy, sliceVal, ShrSlice, shr-slice-copy}
 use denote.Triple.Walked.{Stay}
-use Rattle.rules.specs.declared.Found.{Found}
-use Rattle.rules.proofs.Found as S
+use Rattle.rules.specs.declared.Lookup.{Lookup}
+use Rattle.rules.proofs.Lookup as S
 use Rattle.records.specs.declared.TrimSegment.{TrimSegment}
 use Rattle.records.proofs.TrimSegment as T
 
@@ -56,7 +56,7 @@ module _ {M : Type 1} {𝓤 : URA M} where
   Rec κ rec v = ‵ (ShrSlice (named 2) κ T.the-row .own rec (v ∷ []))
 
   -- what the lookup's answer owns
-  abbrev pub Ans : Found → Val → Item 𝓤
+  abbrev pub Ans : Lookup → Val → Item 𝓤
   Ans r u = ‵ (S.the-row .own r (u ∷ []))
 
   module _ {H : Heap 𝓤} {A : Atoms 𝓤} {K : Type 0} {W : Given 𝓤 H A} {Γ : List (Item 𝓤)} {G : Goal 𝓤 H} where

@@ -3,36 +3,10 @@ use Prim.Native.Nat.{ℕ}
 use mathlib.Core.Bool.{Bool, cond}
 use mathlib.Core.List.{List, [], _∷_, _++_}
 use lib.IntN.{ℤ}
-use Rattle.rules.specs.declared.Words.{Words}
-use Rattle.rules.specs.declared.Found.{Found}
-use Rattle.rules.specs.Records.{Stamps, Segment}
+use Rattle.rules.specs.declared.Lookup.{Lookup}
 use Rattle.rules.specs.Lookups.{segmentOfFrame}
 use Rattle.table.specs.Layout.{tableOf}
 use Rattle.records.specs.declared.TrimSegment.{TrimSegment}
-
--- the segment that a record is
-abbrev pub wordsOf : TrimSegment → Words
-wordsOf r = record {
-  source = r .source;
-  first = r .«src_first_frame»;
-  count = r .«frame_count»;
-  out = r .«out_first_frame»;
-  flag = cond (r .«shift_present») 1 0;
-}
-
-abbrev pub stampsOf : TrimSegment → Stamps
-stampsOf r = record {
-  srcstart = r .«src_start_us»;
-  outstart = r .«out_start_us»;
-  duration = r .«duration_us»;
-  srccap = r .«src_capture_start_us»;
-  outcap = r .«out_capture_start_us»;
-  capdur = r .«capture_duration_us»;
-  shift = r .«clock_shift»;
-}
-
-abbrev pub segmentOf : TrimSegment → Segment
-segmentOf r = record { words = wordsOf r; stamps = stampsOf r }
 
 -- its five unsigned and seven signed words, as a table is lent
 abbrev pub unsigned : TrimSegment → List ℕ
@@ -51,5 +25,5 @@ allSigned [] = []
 allSigned (r ∷ rs) = signed r ++ allSigned rs
 
 -- the lookup over words, of the words of the records
-unfoldable pub locate : List ℕ → List ℕ → List TrimSegment → Bool → ℕ → Found
+unfoldable pub locate : List ℕ → List ℕ → List TrimSegment → Bool → ℕ → Lookup
 locate sources text rs log frame = segmentOfFrame (tableOf sources (allUnsigned rs) (allSigned rs) log text) frame

@@ -10,17 +10,42 @@ use Rattle.choice.specs.declared.Refusal.the-variants.{Never, At}
 use Rattle.choice.specs.Choice.{if_then_else_}
 use Rattle.choice.specs.Records.{any}
 use Rattle.rules.specs.declared.Source.{Source}
-use Rattle.rules.specs.declared.Found.{Found}
-use Rattle.rules.specs.declared.Found.the-variants.{Index, NoIndex}
+use Rattle.rules.specs.declared.Words.{Words}
+use Rattle.rules.specs.declared.Lookup.{Lookup}
+use Rattle.rules.specs.declared.Lookup.the-variants.{Index, NoIndex}
 use Rattle.rules.specs.declared.Turn.{Turn}
 use Rattle.rules.specs.declared.Turn.the-variants.{Stop, Go}
 use Rattle.rules.specs.Limits.{maxSegments}
+use Rattle.rules.specs.Records.{Stamps, Segment}
 use Rattle.rules.specs.Rules.{start, badSource, frontRefusal}
 use Rattle.rules.specs.Steps.{turnOf}
 use Rattle.table.specs.Layout.{sourceWords, sourcesOf}
 use Rattle.records.specs.declared.TrimSegment.{TrimSegment}
 use Rattle.records.specs.declared.SoFar.{SoFar}
-use Rattle.records.specs.Records.{segmentOf}
+
+-- the segment that a record is
+abbrev pub wordsOf : TrimSegment → Words
+wordsOf r = record {
+  source = r .source;
+  first = r .«src_first_frame»;
+  count = r .«frame_count»;
+  out = r .«out_first_frame»;
+  flag = cond (r .«shift_present») 1 0;
+}
+
+abbrev pub stampsOf : TrimSegment → Stamps
+stampsOf r = record {
+  srcstart = r .«src_start_us»;
+  outstart = r .«out_start_us»;
+  duration = r .«duration_us»;
+  srccap = r .«src_capture_start_us»;
+  outcap = r .«out_capture_start_us»;
+  capdur = r .«capture_duration_us»;
+  shift = r .«clock_shift»;
+}
+
+abbrev pub segmentOf : TrimSegment → Segment
+segmentOf r = record { words = wordsOf r; stamps = stampsOf r }
 
 -- what stands past the end of a list of records, which no answer rests on
 unfoldable pub noRecord : TrimSegment
@@ -70,11 +95,11 @@ abbrev pub badSources : List ℕ → List ℕ → Bool
 badSources sources text = not (eqb (length sources % sourceWords) 0) || any (badSource (length text)) (sourcesOf sources)
 
 -- 1 to 8 first, then the first record refused, then the segment
-unfoldable pub decided : Refusal → Bool → ℕ → ℕ → ℕ → ℕ → Found
+unfoldable pub decided : Refusal → Bool → ℕ → ℕ → ℕ → ℕ → Lookup
 decided (At first i) stopped number at ended n = NoIndex first i
 decided Never true number at ended n = NoIndex number at
 decided Never false number at ended n = Index (min ended (n - 1))
 
-unfoldable pub answerOf : List ℕ → List ℕ → SoFar → Bool → Found
+unfoldable pub answerOf : List ℕ → List ℕ → SoFar → Bool → Lookup
 answerOf sources text s log =
     decided (frontRefusal log text (sourcesOf sources) (badSources sources text) (s .n)) (s .stopped) (s .number) (s .at) (s .ended) (s .n)

@@ -2,7 +2,7 @@
 // nothing is copied but that, and the answer is the lookup's over words.
 use choice::Refusal;
 use rules::Ends;
-use rules::Found;
+use rules::Lookup;
 use rules::MAX_SEGMENTS;
 use rules::Times;
 use rules::Turn;
@@ -12,11 +12,11 @@ ghost use mathlib.Core.Path.{_≡_};
 ghost use Prim.Native.Nat.{_+_, _-_, _≤_, min};
 ghost use Rattle.rules.specs.Limits.{maxSegments};
 ghost use mathlib.Core.Bool.{cond};
-ghost use Rattle.rules.specs.Rules.{timesOf};
+ghost use Rattle.rules.specs.Rules.{stampTimes};
 ghost use Rattle.rules.specs.Steps.{turnOf};
 ghost use Rattle.table.specs.Layout.{sourcesOf};
-ghost use Rattle.records.specs.Records.{wordsOf, stampsOf, segmentOf, locate};
-ghost use Rattle.records.specs.Steps.{begun, turnedOf, countedOf, nextOf, decided, answerOf};
+ghost use Rattle.records.specs.Records.{locate};
+ghost use Rattle.records.specs.Steps.{begun, turnedOf, countedOf, nextOf, decided, answerOf, wordsOf, stampsOf, segmentOf};
 
 // A segment as one record, with its times in microseconds: the Rust's TrimSegment.
 #[repr(C)]
@@ -85,7 +85,7 @@ fn words_of(r: TrimSegment) -> Words
 
 // What the signed words of a record say.
 fn times_of(r: TrimSegment) -> Times
-    ensures { λ t. ⌜ t ≡ timesOf (stampsOf r) ⌝ }
+    ensures { λ t. ⌜ t ≡ stampTimes (stampsOf r) ⌝ }
 {
     let a = signed::negative(r.src_start_us) | signed::negative(r.out_start_us);
     let b = signed::negative(r.duration_us) | signed::negative(r.src_capture_start_us);
@@ -223,22 +223,22 @@ fn at_most_last(a: usize, n: usize) -> usize
 }
 
 // What the lookup answers, where 1 to 8 give `front`: then the first record refused, then the segment.
-fn decide(front: Refusal, stopped: bool, number: u64, at: usize, ended: usize, n: usize) -> Found
+fn decide(front: Refusal, stopped: bool, number: u64, at: usize, ended: usize, n: usize) -> Lookup
     ensures { λ r. ⌜ r ≡ decided front stopped number at ended n ⌝ }
 {
     match front {
-        Refusal::At(first, i) => Found::NoIndex(first, i),
+        Refusal::At(first, i) => Lookup::NoIndex(first, i),
         Refusal::Never => {
             if stopped {
-                return Found::NoIndex(number, at);
+                return Lookup::NoIndex(number, at);
             }
-            Found::Index(at_most_last(ended, n))
+            Lookup::Index(at_most_last(ended, n))
         }
     }
 }
 
 // What the lookup answers after all records.
-pub fn answer(sources: &[u64], text: &[u8], s: SoFar, log: bool) -> Found
+pub fn answer(sources: &[u64], text: &[u8], s: SoFar, log: bool) -> Lookup
     ensures { λ r. ⌜ r ≡ answerOf (now (sources .entry)) (now (text .entry)) s log ⌝ }
 {
     let bad = (sources.len() % SOURCE != 0) | table::bad_sources(sources, text.len() as u64);
@@ -253,7 +253,7 @@ pub fn segment_of_frame_records(
     records: &[TrimSegment],
     log: bool,
     frame: u64,
-) -> Found
+) -> Lookup
     ensures { λ r. ⌜ r ≡ locate (now (sources .entry)) (now (text .entry)) (now (records .entry)) log frame ⌝ }
 {
     let mut so_far = begin(frame);

@@ -6,9 +6,7 @@ use cases::lines;
 use cases::read;
 use cases::read::Cursor;
 use cases::say;
-
-// 2^64 - 1.
-const LARGEST: u64 = 0xffff_ffff_ffff_ffff;
+use choice::MAX_U64;
 
 // Whether a part is the one that a place says: those of the bytes, none on a refusal.
 fn is_at(part: &[u8], bytes: &[u8], place: Place) -> bool {
@@ -43,7 +41,7 @@ fn say_place(place: Place, kept: bool) {
 fn box_size(line: &[u8], c: Cursor, bytes: &[u8]) {
     let remaining = read::number(line, c);
     if !read::ended(line, remaining) {
-        say::malformed();
+        say::unreadable();
         return;
     }
     match boxes::box_size(bytes, remaining.number) {
@@ -61,7 +59,7 @@ fn box_size(line: &[u8], c: Cursor, bytes: &[u8]) {
 fn children(line: &[u8], c: Cursor, bytes: &[u8]) {
     let at = read::number(line, c);
     if !read::ended(line, at) {
-        say::malformed();
+        say::unreadable();
         return;
     }
     match boxes::children(bytes, at.number as usize) {
@@ -86,7 +84,7 @@ fn children(line: &[u8], c: Cursor, bytes: &[u8]) {
 fn child(line: &[u8], c: Cursor, bytes: &[u8]) {
     let kind = read::kind(line, c);
     if !read::ended(line, kind) {
-        say::malformed();
+        say::unreadable();
         return;
     }
     let code = kind.number as u32;
@@ -102,7 +100,7 @@ fn find_box(line: &[u8], c: Cursor, bytes: &[u8]) {
     let kind = read::kind(line, to);
     let text = read::flag(line, kind);
     if !read::ended(line, text) {
-        say::malformed();
+        say::unreadable();
         return;
     }
     let start = from.number as usize;
@@ -117,7 +115,7 @@ fn find_box(line: &[u8], c: Cursor, bytes: &[u8]) {
 // table_text BYTES
 fn table_text(line: &[u8], c: Cursor, bytes: &[u8]) {
     if !read::ended(line, c) {
-        say::malformed();
+        say::unreadable();
         return;
     }
     let place = boxes::table_text_place(bytes);
@@ -142,7 +140,7 @@ fn answer(line: &[u8]) {
     } else if read::is(line, b"table_text") {
         table_text(line, c, bytes);
     } else {
-        say::malformed();
+        say::unreadable();
     }
 }
 
@@ -150,7 +148,7 @@ fn answer(line: &[u8]) {
 fn main() {
     let mut text = io::large_buffer();
     let mut l = lines::none();
-    let mut turns: u64 = LARGEST;
+    let mut turns: u64 = MAX_U64;
     while 0 < turns {
         l = lines::next(&mut text, l);
         if l.done {

@@ -5,11 +5,9 @@ use cases::read;
 use cases::read::Cursor;
 use cases::say;
 use cases::tables;
+use choice::MAX_U64;
 use judge::Video;
 use rules::Checked;
-
-// 2^64 - 1.
-const LARGEST: u64 = 0xffff_ffff_ffff_ffff;
 
 // The most elements of lent room.
 const ROOM: usize = 64;
@@ -39,7 +37,7 @@ fn validate(
     starts: &[i64],
 ) {
     if !read::ended(line, c) {
-        say::malformed();
+        say::unreadable();
         return;
     }
     let answer = judge::validate(sources, u, t, log, text, video, starts);
@@ -120,7 +118,7 @@ fn recording_room(
     let x = read::room(line, c, ROOM);
     let y = read::room(line, x, ROOM);
     if !read::ended(line, y) {
-        say::malformed();
+        say::unreadable();
         return;
     }
     let mut work_a = [0i64; 64];
@@ -174,7 +172,7 @@ fn answer_to(
     } else if read::is(line, b"check_mcraw") {
         check_mcraw(line, c, sources, u, t, log, text);
     } else {
-        say::malformed();
+        say::unreadable();
     }
 }
 
@@ -206,7 +204,7 @@ fn answer(line: &[u8]) {
 fn main() {
     let mut text = io::large_buffer();
     let mut l = lines::none();
-    let mut turns: u64 = LARGEST;
+    let mut turns: u64 = MAX_U64;
     while 0 < turns {
         l = lines::next(&mut text, l);
         if l.done {

@@ -4,11 +4,9 @@ use cases::lines;
 use cases::read;
 use cases::read::Cursor;
 use cases::say;
+use choice::MAX_U64;
 use maps::Mapped;
 use maps::Traced;
-
-// 2^64 - 1.
-const LARGEST: u64 = 0xffff_ffff_ffff_ffff;
 
 // The most elements of a list or of lent room.
 const ROOM: usize = 64;
@@ -71,7 +69,7 @@ fn lend(line: &[u8], c: Cursor, w: Written, u: &[u64], s: &[i64], v: &[u64], t: 
     let x = read::room(line, c, ROOM);
     let y = read::room(line, x, ROOM);
     if !read::ended(line, y) {
-        say::malformed();
+        say::unreadable();
         return;
     }
     let mut ou = [0u64; 64];
@@ -103,7 +101,7 @@ fn join(line: &[u8], c: Cursor, u: &[u64], s: &[i64]) {
 fn origin(line: &[u8], c: Cursor, u: &[u64], s: &[i64]) {
     let frame = read::number(line, c);
     if !read::ended(line, frame) {
-        say::malformed();
+        say::unreadable();
         return;
     }
     match maps::origin(u, s, frame.number) {
@@ -130,7 +128,7 @@ fn answer_to(line: &[u8], c: Cursor, u: &[u64], s: &[i64]) {
     } else if read::is(line, b"origin") {
         origin(line, c, u, s);
     } else {
-        say::malformed();
+        say::unreadable();
     }
 }
 
@@ -149,7 +147,7 @@ fn answer(line: &[u8]) {
 fn main() {
     let mut text = io::large_buffer();
     let mut l = lines::none();
-    let mut turns: u64 = LARGEST;
+    let mut turns: u64 = MAX_U64;
     while 0 < turns {
         l = lines::next(&mut text, l);
         if l.done {

@@ -3,10 +3,8 @@ use cases::lines;
 use cases::read;
 use cases::read::Cursor;
 use cases::say;
+use choice::MAX_U64;
 use ticks::Us;
-
-// 2^64 - 1.
-const LARGEST: u64 = 0xffff_ffff_ffff_ffff;
 
 // is_utc_second BYTES
 fn is_utc_second(line: &[u8], c: Cursor) {
@@ -14,7 +12,7 @@ fn is_utc_second(line: &[u8], c: Cursor) {
     let b = read::bytes(line, c, &mut bytes);
     let n = b.count;
     if !read::ended(line, b) {
-        say::malformed();
+        say::unreadable();
         return;
     }
     say::flag(utc::is_utc_second(&bytes[..n]));
@@ -25,7 +23,7 @@ fn ticks_to_us(line: &[u8], c: Cursor) {
     let t = read::signed(line, c);
     let s = read::number(line, t);
     if !read::ended(line, s) {
-        say::malformed();
+        say::unreadable();
         return;
     }
     match ticks::ticks_to_us(t.signed, s.number) {
@@ -46,7 +44,7 @@ fn answer(line: &[u8]) {
     } else if read::is(line, b"ticks_to_us") {
         ticks_to_us(line, c);
     } else {
-        say::malformed();
+        say::unreadable();
     }
 }
 
@@ -54,7 +52,7 @@ fn answer(line: &[u8]) {
 fn main() {
     let mut text = io::large_buffer();
     let mut l = lines::none();
-    let mut turns: u64 = LARGEST;
+    let mut turns: u64 = MAX_U64;
     while 0 < turns {
         l = lines::next(&mut text, l);
         if l.done {

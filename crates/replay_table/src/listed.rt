@@ -4,14 +4,15 @@ use cases::read;
 use cases::read::Cursor;
 use cases::say;
 use records::TrimSegment;
-use rules::Found;
+use rules::Lookup;
 use table::STAMPS;
 use table::WORDS;
 ghost use mathlib.Core.Path.{_≡_};
 ghost use Prim.Native.Nat.{_+_, _*_, _≤_};
 ghost use lib.ListN.{length, take};
 ghost use Rattle.table.specs.Layout.{segmentWords, segmentStamps, wordsAt, stampsAt};
-ghost use Rattle.records.specs.Records.{stampsOf, locate};
+ghost use Rattle.records.specs.Records.{locate};
+ghost use Rattle.records.specs.Steps.{stampsOf};
 ghost use Rattle.replay_table.specs.Listed.{HasWords};
 
 // The most records of a case: 64 signed words, which is all that there is room for, are nine of seven.
@@ -113,7 +114,7 @@ fn located(
     n: usize,
     log: bool,
     frame: u64,
-) -> Found
+) -> Lookup
     requires { ⌜ n ≤ 9 ⌝ }
     ensures { λ r. ⌜ r ≡ locate (now (sources .entry)) (now (text .entry)) (take n list) log frame ⌝ }
 {
@@ -132,12 +133,12 @@ pub fn segment_of_frame_records(
 ) {
     let frame = read::number(line, c);
     if !read::ended(line, frame) {
-        say::malformed();
+        say::unreadable();
         return;
     }
     let n = count(u, t);
     if !whole(u, t, n) {
-        say::malformed();
+        say::unreadable();
         return;
     }
     let list = listed(u, t, n);

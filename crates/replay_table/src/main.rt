@@ -8,13 +8,11 @@ use cases::read;
 use cases::read::Cursor;
 use cases::say;
 use cases::tables;
+use choice::MAX_U64;
 use found::say_found;
 use rules::Checked;
 use rules::Continued;
 use table::Filled;
-
-// 2^64 - 1.
-const LARGEST: u64 = 0xffff_ffff_ffff_ffff;
 
 // The most elements of lent room.
 const ROOM: usize = 64;
@@ -22,7 +20,7 @@ const ROOM: usize = 64;
 // check TABLE
 fn check(line: &[u8], c: Cursor, sources: &[u64], u: &[u64], t: &[i64], log: bool, text: &[u8]) {
     if !read::ended(line, c) {
-        say::malformed();
+        say::unreadable();
         return;
     }
     match table::check(sources, u, t, log, text) {
@@ -47,7 +45,7 @@ fn segment_of_frame(
 ) {
     let frame = read::number(line, c);
     if !read::ended(line, frame) {
-        say::malformed();
+        say::unreadable();
         return;
     }
     say_found(table::segment_of_frame(sources, u, t, log, text, frame.number));
@@ -65,7 +63,7 @@ fn segment_of_time_us(
 ) {
     let time = read::signed(line, c);
     if !read::ended(line, time) {
-        say::malformed();
+        say::unreadable();
         return;
     }
     say_found(table::segment_of_time_us(sources, u, t, log, text, time.signed));
@@ -83,7 +81,7 @@ fn continues(
 ) {
     let segment = read::number(line, c);
     if !read::ended(line, segment) {
-        say::malformed();
+        say::unreadable();
         return;
     }
     match table::continues(sources, u, t, log, text, segment.number as usize) {
@@ -138,7 +136,7 @@ fn rows_of_table(
     let x = read::room(line, c, ROOM);
     let y = read::room(line, x, ROOM);
     if !read::ended(line, y) {
-        say::malformed();
+        say::unreadable();
         return;
     }
     let mut ou = [0u64; 64];
@@ -171,7 +169,7 @@ fn answer_to(
     } else if read::is(line, b"rows_of_table") {
         rows_of_table(line, c, sources, u, t, log, text);
     } else {
-        say::malformed();
+        say::unreadable();
     }
 }
 
@@ -203,7 +201,7 @@ fn answer(line: &[u8]) {
 fn main() {
     let mut text = io::large_buffer();
     let mut l = lines::none();
-    let mut turns: u64 = LARGEST;
+    let mut turns: u64 = MAX_U64;
     while 0 < turns {
         l = lines::next(&mut text, l);
         if l.done {

@@ -4,11 +4,9 @@ use cases::lines;
 use cases::read;
 use cases::read::Cursor;
 use cases::say;
+use choice::MAX_U64;
 use frame_times::FrameTimes;
-use mcraw::Times;
-
-// 2^64 - 1.
-const LARGEST: u64 = 0xffff_ffff_ffff_ffff;
+use mcraw::RecordingTimes;
 
 // The most elements of lent room.
 const ROOM: usize = 64;
@@ -34,7 +32,7 @@ fn say_refusal(number: u64, index: usize, starts: &[i64]) -> bool {
 fn say_moov(answer: FrameTimes, starts: &[i64]) -> bool {
     match answer {
         FrameTimes::Refused { number, index } => say_refusal(number, index as usize, starts),
-        FrameTimes::Times {
+        FrameTimes::Presented {
             frames,
             timescale,
             nominal,
@@ -56,7 +54,7 @@ fn moov_room(line: &[u8], c: Cursor, moov: &[u8]) {
     let y = read::room(line, x, ROOM);
     let z = read::room(line, y, ROOM);
     if !read::ended(line, z) {
-        say::malformed();
+        say::unreadable();
         return;
     }
     let mut starts = [0i64; 64];
@@ -77,10 +75,10 @@ fn moov(line: &[u8], c: Cursor) {
 }
 
 // The answer to a recording.
-fn say_recording(answer: Times, starts: &[i64]) -> bool {
+fn say_recording(answer: RecordingTimes, starts: &[i64]) -> bool {
     match answer {
-        Times::Refused(number, index) => say_refusal(number, index, starts),
-        Times::Timed {
+        RecordingTimes::Refused(number, index) => say_refusal(number, index, starts),
+        RecordingTimes::Timed {
             frames,
             scale,
             nominal,
@@ -101,7 +99,7 @@ fn recording_room(line: &[u8], c: Cursor, timestamps: &[i64]) {
     let x = read::room(line, c, ROOM);
     let y = read::room(line, x, ROOM);
     if !read::ended(line, y) {
-        say::malformed();
+        say::unreadable();
         return;
     }
     let mut starts = [0i64; 64];
@@ -127,7 +125,7 @@ fn answer(line: &[u8]) {
     } else if read::is(line, b"mcraw_times") {
         recording(line, c);
     } else {
-        say::malformed();
+        say::unreadable();
     }
 }
 
@@ -135,7 +133,7 @@ fn answer(line: &[u8]) {
 fn main() {
     let mut text = io::large_buffer();
     let mut l = lines::none();
-    let mut turns: u64 = LARGEST;
+    let mut turns: u64 = MAX_U64;
     while 0 < turns {
         l = lines::next(&mut text, l);
         if l.done {

@@ -8,11 +8,11 @@ use mathlib.Core.Path.{_≡_, sym, _∙_, ap}
 use mathlib.Core.Logic.{_⊎_, inl, inr}
 use lib.Dec.{ltb, eqb}
 use borrow.Author.Tests.{lt-ltb, le-ltb, eq-eqb, ltb-true, ltb-false, eqb-true, not-true}
-use Rattle.choice.specs.Choice.{past}
+use Rattle.choice.specs.Choice.{past, maxU64}
 use Rattle.choice.proofs.Chains.{past-not}
 use Rattle.choice.proofs.Tests.{Test, was, wasnt, test, le-or-lt, and-left, and-right}
 use Rattle.rows.specs.declared.Row.{Row}
-use Rattle.rows.specs.Rows.{largest, end, total, okShift, okRow, WellFrom, WellFormed, overlaps, clip, cut, moved, join, runsOn, glue, mergeInto, merge}
+use Rattle.rows.specs.Rows.{rowEnd, total, okShift, okRow, WellFrom, WellFormed, overlaps, clip, cut, moved, join, runsOn, glue, mergeInto, merge}
 use Rattle.rows.specs.Demands.{Tiles}
 use Rattle.rows.proofs.Cuts.{Over, over, cut-none}
 use Rattle.rows.proofs.Merging.{RunsOn, runs-on}
@@ -20,8 +20,8 @@ use Rattle.rows.proofs.Merging.{RunsOn, runs-on}
 -- a well-formed row but for its flag and shift, in numbers
 pub record Ok (p : ℕ) (r : Row) : Type 0 where
   pub some : 0 < r .count
-  pub source : r .first + r .count ≤ largest
-  pub last : end r ≤ largest
+  pub source : r .first + r .count ≤ maxU64
+  pub last : rowEnd r ≤ maxU64
   pub out : r .out ≡ p
 
 not-past : (a b m : ℕ) → a + b ≤ m → not (past a b m) ≡ true
@@ -32,24 +32,24 @@ pub ok-shift : (p : ℕ) (r : Row) → Ok p r → okRow p r ≡ okShift r
 ok-shift p r o =
     simp (
       lt-ltb 0 (r .count) (o .some),
-      not-past (r .first) (r .count) largest (o .source),
-      not-past (r .out) (r .count) largest (o .last),
+      not-past (r .first) (r .count) maxU64 (o .source),
+      not-past (r .out) (r .count) maxU64 (o .last),
       eq-eqb (r .out) p (o .out),
     )
 
 pub ok-facts : (p : ℕ) (r : Row) → okRow p r ≡ true → Ok p r
 ok-facts p r e =
     let a = ltb 0 (r .count) in
-    let b = not (past (r .first) (r .count) largest) in
-    let c = not (past (r .out) (r .count) largest) in
+    let b = not (past (r .first) (r .count) maxU64) in
+    let c = not (past (r .out) (r .count) maxU64) in
     let d = eqb (r .out) p in
     let e₁ = and-left (a && b && c && d) (okShift r) e in
     let e₂ = and-left (a && b && c) d e₁ in
     let e₃ = and-left (a && b) c e₂ in
     record {
       some = ltb-true 0 (r .count) (and-left a b e₃);
-      source = past-not (r .first) (r .count) largest (not-true _ (and-right a b e₃));
-      last = past-not (r .out) (r .count) largest (not-true _ (and-right (a && b) c e₂));
+      source = past-not (r .first) (r .count) maxU64 (not-true _ (and-right a b e₃));
+      last = past-not (r .out) (r .count) maxU64 (not-true _ (and-right (a && b) c e₂));
       out = eqb-true (r .out) p (and-right (a && b && c) d e₁);
     }
 
@@ -61,12 +61,12 @@ well-tiles [] p w = tt
 well-tiles (r ∷ m) p w = let o = ok-facts p r (w .0) in (o .out, o .some, well-tiles m (p + r .count) (w .1))
 
 -- a map's frames are no more than the largest number
-pub well-total : (m : List Row) (p : ℕ) → WellFrom p m → p ≤ largest → p + total m ≤ largest
+pub well-total : (m : List Row) (p : ℕ) → WellFrom p m → p ≤ maxU64 → p + total m ≤ maxU64
 well-total [] p w h = omega arith
 well-total (r ∷ m) p w h = let o = ok-facts p r (w .0) in let i = well-total m (p + r .count) (w .1) (omega (arith, o .last, o .out)) in omega arith
 
 -- a cut of a well-formed map is well formed
-clip-ok : (p a b : ℕ) (r : Row) → okRow p r ≡ true → Over a b (r .out) (end r) → okRow (p - a) (clip a b r) ≡ true
+clip-ok : (p a b : ℕ) (r : Row) → okRow p r ≡ true → Over a b (r .out) (rowEnd r) → okRow (p - a) (clip a b r) ≡ true
 clip-ok p a b r e v =
     let o = ok-facts p r e in
     let k : Ok (p - a) (clip a b r) = record {
@@ -79,24 +79,24 @@ clip-ok p a b r e v =
 
 pub cut-well : (m : List Row) (p a b : ℕ) → WellFrom p m → WellFrom (p - a) (cut a b m)
 cut-well [] p a b w = tt
-cut-well (r ∷ m) p a b w = go (test (overlaps a b r)) (le-or-lt (end r) b) (cut-well m (p + r .count) a b (w .1))
+cut-well (r ∷ m) p a b w = go (test (overlaps a b r)) (le-or-lt (rowEnd r) b) (cut-well m (p + r .count) a b (w .1))
   where
     o : Ok p r
     o = ok-facts p r (w .0)
 
-    none : b ≤ end r → cut a b m ≡ []
+    none : b ≤ rowEnd r → cut a b m ≡ []
     none h = cut-none m (p + r .count) a b (well-tiles m (p + r .count) (w .1)) (omega (arith, o .out))
 
-    go : Test (overlaps a b r) → (end r ≤ b) ⊎ (b < end r) → WellFrom (p + r .count - a) (cut a b m) → WellFrom (p - a) (cut a b (r ∷ m))
+    go : Test (overlaps a b r) → (rowEnd r ≤ b) ⊎ (b < rowEnd r) → WellFrom (p + r .count - a) (cut a b m) → WellFrom (p - a) (cut a b (r ∷ m))
     go (was e) (inl h) ih =
-        let v = over a b (r .out) (end r) (ltb-true _ _ e) in
-        let q : p + r .count - a ≡ p - a + (min b (end r) - max a (r .out)) = omega (arith, o .out, v .ae, v .oe) in
+        let v = over a b (r .out) (rowEnd r) (ltb-true _ _ e) in
+        let q : p + r .count - a ≡ p - a + (min b (rowEnd r) - max a (r .out)) = omega (arith, o .out, v .ae, v .oe) in
         rw e (clip-ok p a b r (w .0) v, rw q at ih)
     go (was e) (inr h) ih =
-        let v = over a b (r .out) (end r) (ltb-true _ _ e) in
+        let v = over a b (r .out) (rowEnd r) (ltb-true _ _ e) in
         rw e (clip-ok p a b r (w .0) v, rw (none (omega arith)) tt)
     go (wasnt e) (inl h) ih =
-        let q : p + r .count - a ≡ p - a = omega (arith, o .out, o .some, ltb-false (max a (r .out)) (min b (end r)) e) in
+        let q : p + r .count - a ≡ p - a = omega (arith, o .out, o .some, ltb-false (max a (r .out)) (min b (rowEnd r)) e) in
         rw e (rw q at ih)
     go (wasnt e) (inr h) ih = rw (e, none (omega arith)) tt
 
@@ -122,13 +122,13 @@ merge-well [] w = w
 merge-well (c ∷ m) w = mergeInto-well m c 0 w
 
 -- a join of two well-formed maps is well formed where its frames stay below 2^64
-moved-ok : (d p : ℕ) (r : Row) → okRow p r ≡ true → d + end r ≤ largest → okRow (d + p) (moved d r) ≡ true
+moved-ok : (d p : ℕ) (r : Row) → okRow p r ≡ true → d + rowEnd r ≤ maxU64 → okRow (d + p) (moved d r) ≡ true
 moved-ok d p r e h =
     let o = ok-facts p r e in
     let k : Ok (d + p) (moved d r) = record { out = ap (λ (x : ℕ). d + x) (o .out); some = o .some; source = o .source; last = omega arith } in
     ok-shift (d + p) (moved d r) k ∙ ok-shifted p r e
 
-moved-well : (y : List Row) (d q : ℕ) → WellFrom q y → d + (q + total y) ≤ largest → WellFrom (d + q) (map (moved d) y)
+moved-well : (y : List Row) (d q : ℕ) → WellFrom q y → d + (q + total y) ≤ maxU64 → WellFrom (d + q) (map (moved d) y)
 moved-well [] d q w h = tt
 moved-well (r ∷ y) d q w h =
     let o = ok-facts q r (w .0) in
@@ -138,7 +138,7 @@ append-well : (x y : List Row) (p : ℕ) → WellFrom p x → WellFrom (p + tota
 append-well [] y p w v = rw (add-zero p) at v
 append-well (r ∷ x) y p w v = (w .0, append-well x y (p + r .count) (w .1) (rw (add-assoc p (r .count) (total x)) v))
 
-pub join-well : (x y : List Row) → WellFormed x → WellFormed y → total x + total y ≤ largest → WellFormed (join x y)
+pub join-well : (x y : List Row) → WellFormed x → WellFormed y → total x + total y ≤ maxU64 → WellFormed (join x y)
 join-well x y w v h =
     let m : WellFrom (total x + 0) (map (moved (total x)) y) = moved-well y (total x) 0 v (omega arith) in
     let z : total x + 0 ≡ 0 + total x = omega arith in

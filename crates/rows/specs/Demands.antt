@@ -6,8 +6,9 @@ use mathlib.Core.Logic.{_↔_}
 use mathlib.Core.Path.{_≡_}
 use lib.IntN.{pos}
 use lib.ListN.{length, getD}
+use Rattle.choice.specs.Choice.{maxU64}
 use Rattle.rows.specs.declared.Row.{Row}
-use Rattle.rows.specs.Rows.{largest, total, WellFormed, nowhere, holds, originIn, origin, cut, join, runsOn, merge}
+use Rattle.rows.specs.Rows.{total, WellFormed, nowhere, holds, originIn, origin, cut, join, runsOn, merge}
 
 -- what stands past the end of a map, which no row is
 abbrev pub noRow : Row
@@ -32,7 +33,7 @@ SameOrigins m l = (k : ℕ) → k < total m → origin m k ≡ origin l k
 
 pub record Demands : Type 0 where
   -- A well-formed map's rows tile 0..total, and it has at most 2^64 - 1 frames.
-  pub tiles : (m : List Row) → WellFormed m → Tiles 0 m × (total m ≤ largest)
+  pub tiles : (m : List Row) → WellFormed m → Tiles 0 m × (total m ≤ maxU64)
   -- Each of its frames lies in exactly one row, which gives its one origin; a frame past the map has none.
   pub one-row : (m : List Row) (k : ℕ) → WellFormed m → k < total m → OneRow m k
   pub past-map : (m : List Row) (k : ℕ) → WellFormed m → total m ≤ k → origin m k ≡ nowhere
@@ -45,7 +46,7 @@ pub record Demands : Type 0 where
   -- A cut of a cut is, row for row, the one cut of the combined range.
   pub cut-cut : (m : List Row) (a b c d : ℕ) → d ≤ b - a → cut c d (cut a b m) ≡ cut (a + c) (a + d) m
   -- A join is well formed with the sum of frames, where that is no more than 2^64 - 1; its origins are those of the first map, then of the second.
-  pub join-well : (x y : List Row) → WellFormed x → WellFormed y → total x + total y ≤ largest → WellFormed (join x y)
+  pub join-well : (x y : List Row) → WellFormed x → WellFormed y → total x + total y ≤ maxU64 → WellFormed (join x y)
   pub join-total : (x y : List Row) → total (join x y) ≡ total x + total y
   pub join-first : (x y : List Row) (k : ℕ) → WellFormed x → k < total x → origin (join x y) k ≡ origin x k
   pub join-second : (x y : List Row) (k : ℕ) → WellFormed x → origin (join x y) (total x + k) ≡ origin y k

@@ -5,17 +5,13 @@ use mathlib.Core.List.{List, [], _∷_, _++_, map}
 use mathlib.Core.Path.{_≡_}
 use lib.IntN.{ℤ, pos}
 use lib.Dec.{leb, ltb, eqb}
-use Rattle.choice.specs.Choice.{if_then_else_, past}
+use Rattle.choice.specs.Choice.{if_then_else_, past, maxU64}
 use Rattle.signed.specs.Signed.{eqZ}
 use Rattle.rows.specs.declared.Row.{Row}
 
--- the largest u64, 2^64 - 1
-abbrev pub largest : ℕ
-largest = 18446744073709551615
-
 -- the output frame after a row's last
-abbrev pub end : Row → ℕ
-end r = r .out + r .count
+abbrev pub rowEnd : Row → ℕ
+rowEnd r = r .out + r .count
 
 -- how many frames a map has
 abbrev pub total : List Row → ℕ
@@ -28,7 +24,7 @@ okShift r = eqb (r .flag) 1 || (eqb (r .flag) 0 && eqZ (r .shift) (pos 0))
 
 -- a row is well formed where output frame p is next: a count, no sum that wraps, the out first chained, the flag and shift right
 abbrev pub okRow : ℕ → Row → Bool
-okRow p r = ltb 0 (r .count) && not (past (r .first) (r .count) largest) && not (past (r .out) (r .count) largest) && eqb (r .out) p && okShift r
+okRow p r = ltb 0 (r .count) && not (past (r .first) (r .count) maxU64) && not (past (r .out) (r .count) maxU64) && eqb (r .out) p && okShift r
 
 -- every row is, from frame p on
 abbrev pub WellFrom : ℕ → List Row → Type 0
@@ -45,7 +41,7 @@ pub data Origin : Type 0 where
 
 -- output frame k lies in a row
 abbrev pub holds : Row → ℕ → Bool
-holds r k = leb (r .out) k && ltb k (end r)
+holds r k = leb (r .out) k && ltb k (rowEnd r)
 
 -- the origin that a row gives to output frame k
 abbrev pub originIn : Row → ℕ → Origin
@@ -84,11 +80,11 @@ merge (r ∷ m) = mergeInto r m
 
 -- a row has frames of a..b
 abbrev pub overlaps : ℕ → ℕ → Row → Bool
-overlaps a b r = ltb (max a (r .out)) (min b (end r))
+overlaps a b r = ltb (max a (r .out)) (min b (rowEnd r))
 
 -- a row's overlap with a..b, a subtracted from its out first
 abbrev pub clip : ℕ → ℕ → Row → Row
-clip a b r = record { source = r .source; first = r .first + (a - r .out); count = min b (end r) - max a (r .out); out = r .out - a; flag = r .flag; shift = r .shift }
+clip a b r = record { source = r .source; first = r .first + (a - r .out); count = min b (rowEnd r) - max a (r .out); out = r .out - a; flag = r .flag; shift = r .shift }
 
 -- cut a..b: each row's overlap, empty ones dropped
 abbrev pub cut : ℕ → ℕ → List Row → List Row

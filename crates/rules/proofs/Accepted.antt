@@ -11,14 +11,15 @@ use lib.Dec.{ltb, leb}
 use lib.IntN.{ℤ, pos, negsuc, natAbs, _+ℤ_}
 use lib.Signed.{_<ℤ_, _≤ℤ_}
 use borrow.Author.Tests.{ltb-false, leb-false}
+use Rattle.choice.specs.Choice.{maxU64}
 use Rattle.choice.proofs.Tests.{decide, tf}
 use Rattle.signed.specs.Signed.{eqZ}
 use Rattle.signed.proofs.Order.{eqZ-true, eqZ-yes}
 use Rattle.utc.specs.Utc.{utcSecond}
 use Rattle.rules.specs.declared.Source.{Source}
 use Rattle.rules.specs.declared.Checked.the-variants.{Frames}
-use Rattle.rules.specs.Limits.{maxSources, maxSegments, maxU64, maxI64}
-use Rattle.rules.specs.Records.{Segment, Table, noSegment, source, segment, sourceOf, outEnd, outEndUs, captureEndUs, total}
+use Rattle.rules.specs.Limits.{maxSources, maxSegments, maxI64}
+use Rattle.rules.specs.Records.{Segment, Table, noSegment, source, segment, sourceOf, outEnd, outEndUs, captureEndUs, frameTotal}
 use Rattle.rules.specs.Rules.{checkOf}
 use Rattle.rules.specs.Paper.{Test, ofSource, ofSegment, each, None}
 use Rattle.rules.proofs.Says.{Says, equal, below, atmost}
@@ -76,7 +77,7 @@ pub record Accepted (t : Table) (N : ℕ) : Type 0 where
   pub flags : (k : ℕ) → k < length (t .segments) → segment t k .words .flag ≤ 1
   pub first : segment t 0 .words .out ≡ 0
   pub follows : (k : ℕ) → suc k < length (t .segments) → Follows (segment t k) (segment t (suc k))
-  pub sum : total (t .segments) ≡ N
+  pub sum : frameTotal (t .segments) ≡ N
   pub last : outEnd (segment t (length (t .segments) - 1)) ≡ N
 
 -- ---- from conditions that don't hold
@@ -176,8 +177,8 @@ sound-segment t k flag x =
 -- a list's frames, where each segment follows the one before: its last segment ends past them
 ends-at : (p : ℕ) (l : List Segment) → 0 < length l → getD l 0 noSegment .words .out ≡ p
     → ((k : ℕ) → suc k < length l → getD l (suc k) noSegment .words .out ≡ outEnd (getD l k noSegment))
-    → outEnd (getD l (length l - 1) noSegment) ≡ p + total l
-unfolding total
+    → outEnd (getD l (length l - 1) noSegment) ≡ p + frameTotal l
+unfolding frameTotal
 ends-at p [] h z f = absurd (not-suc-le-zero h)
 ends-at p (e ∷ []) h z f = omega arith
 ends-at p (e ∷ d ∷ l) h z f =
@@ -218,5 +219,5 @@ accepted t N e =
       first = begin;
       follows = next;
       sum = sym (r .1);
-      last = ends-at 0 (t .segments) some begin (λ k b. next k b .frame) ∙ zero-add (total (t .segments)) ∙ sym (r .1);
+      last = ends-at 0 (t .segments) some begin (λ k b. next k b .frame) ∙ zero-add (frameTotal (t .segments)) ∙ sym (r .1);
     }

@@ -4,13 +4,13 @@ use native.Mathlib.Omega.{arith}
 use mathlib.Core.Path.{_≡_, refl, sym, ap, subst, _∙_}
 use mathlib.Core.Bool.{Bool, true, false, _||_, not}
 use lib.Dec.{eqb}
-use Rattle.choice.specs.Choice.{when, orElse, past}
+use Rattle.choice.specs.Choice.{when, past, maxU64}
+use Rattle.choice.specs.Steps.{orElse}
 use Rattle.choice.proofs.Chains.{orElse-kept}
 use Rattle.rules.specs.declared.Source.{Source}
 use Rattle.rules.specs.declared.Words.{Words}
 use Rattle.rules.specs.declared.Ends.{Ends}
 use Rattle.rules.specs.declared.Times.{Times}
-use Rattle.rules.specs.Limits.{maxU64}
 use Rattle.rules.specs.Rules.{tooLate, apart, badShift, judged}
 use Rattle.rules.specs.Steps.{framesOr, timesOr}
 

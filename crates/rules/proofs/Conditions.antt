@@ -14,7 +14,7 @@ use Rattle.choice.specs.declared.Refusal.the-variants.{Never, At}
 use Rattle.choice.specs.Choice.{when}
 use Rattle.choice.specs.Records.{firstRefused, orRefused}
 use Rattle.rules.specs.declared.Checked.the-variants.{Frames, Refused}
-use Rattle.rules.specs.Rules.{answered}
+use Rattle.rules.specs.Rules.{checkedOf}
 use Rattle.rules.specs.Paper.{Test, given, each, First, None, Rightly}
 use Rattle.rules.proofs.Says.{Says}
 
@@ -96,17 +96,17 @@ none-first [] n i x y = y
 none-first (c ∷ l) n i x (inl y) = x .0 (y .0)
 none-first (c ∷ l) n i x (inr y) = none-first l n i (x .1) (y .1)
 
-refuses : (r : Refusal) (l : List Test) (T : ℕ) → Agrees r l → (n i : ℕ) → (answered r T ≡ Refused n i) ↔ First l n i
-unfolding answered Agrees
+refuses : (r : Refusal) (l : List Test) (T : ℕ) → Agrees r l → (n i : ℕ) → (checkedOf r T ≡ Refused n i) ↔ First l n i
+unfolding checkedOf Agrees
 refuses Never l T a n i = (λ e. absurd (let z : _≡_ {A = ℕ} 0 1 = cc in omega arith), λ x. absurd (none-first l n i a x))
 refuses (At m j) l T a n i =
     (λ e. let p : m ≡ n = cc in let q : j ≡ i = cc in rw p at (rw q at a), λ x. let o = first-one l m j n i a x in rw (o .0, o .1))
 
-accepts : (r : Refusal) (l : List Test) (T : ℕ) → Agrees r l → (N : ℕ) → (answered r T ≡ Frames N) ↔ (None l × (N ≡ T))
-unfolding answered Agrees
+accepts : (r : Refusal) (l : List Test) (T : ℕ) → Agrees r l → (N : ℕ) → (checkedOf r T ≡ Frames N) ↔ (None l × (N ≡ T))
+unfolding checkedOf Agrees
 accepts Never l T a N = (λ e. (a, cc), λ x. ap Frames (sym (x .1)))
 accepts (At m j) l T a N = (λ e. absurd (let z : _≡_ {A = ℕ} 0 1 = cc in omega arith), λ x. absurd (none-first l m j (x .0) a))
 
 -- an answer by such a refusal is right
-pub right : (r : Refusal) (l : List Test) (T : ℕ) → Agrees r l → Rightly (answered r T) l T
+pub right : (r : Refusal) (l : List Test) (T : ℕ) → Agrees r l → Rightly (checkedOf r T) l T
 right r l T a = record { refuses = refuses r l T a; accepts = accepts r l T a }

@@ -11,12 +11,13 @@ use lib.IntN.{ℤ, pos, natAbs}
 use lib.Signed.{_<ℤ_}
 use Rattle.choice.specs.declared.Refusal.the-variants.{Never}
 use Rattle.choice.specs.Records.{run}
+use Rattle.choice.specs.Choice.{maxU64}
 use Rattle.choice.proofs.Tests.{tf, or-false}
 use Rattle.utc.specs.Utc.{utcSecond}
 use Rattle.rules.specs.declared.Ends.{Ends}
-use Rattle.rules.specs.Limits.{maxSources, maxSegments, maxU64}
-use Rattle.rules.specs.Records.{Segment, Table, noSource, noSegment, source, segment, sourceOf, total}
-use Rattle.rules.specs.Rules.{negative, apart, badSource, badSegment, malformed, sourceRefusal, timesOf, judged, segmentRefusal, start, endsOf, ends, segmentsFrom, frontRefusal, refusal, checkOf}
+use Rattle.rules.specs.Limits.{maxSources, maxSegments}
+use Rattle.rules.specs.Records.{Segment, Table, noSource, noSegment, source, segment, sourceOf, frameTotal}
+use Rattle.rules.specs.Rules.{negative, apart, badSource, badSegment, malformed, sourceRefusal, stampTimes, judged, segmentRefusal, start, endsOf, ends, segmentsFrom, frontRefusal, refusal, checkOf}
 use Rattle.rules.specs.Paper.{Test, given, Malformed, OverLimit, ofSource, ofSegment, each, tests, Rightly, FrameGap, TimeGap, Negative}
 use Rattle.rules.proofs.Turns.{judged-fit}
 use Rattle.rules.proofs.Walks.{not-refused}
@@ -57,16 +58,16 @@ record Positive (e : Segment) : Type 0 where
   capdur : negative (e .stamps .capdur) ≡ false
 
 -- all its six tests, and 13
-negatives : (e : Segment) → Says (timesOf (e .stamps) .negative) (Negative e)
-unfolding timesOf
+negatives : (e : Segment) → Says (stampTimes (e .stamps) .negative) (Negative e)
+unfolding stampTimes
 negatives e =
     let n : (z : ℤ) → Says (negative z) (z <ℤ pos 0) = λ z. below z (pos 0) in
     three (either
     (either (either (n (e .stamps .srcstart)) (n (e .stamps .outstart))) (either (n (e .stamps .duration)) (n (e .stamps .srccap))))
     (either (n (e .stamps .outcap)) (n (e .stamps .capdur))))
 
-positive : (e : Segment) → timesOf (e .stamps) .negative ≡ false → Positive e
-unfolding timesOf
+positive : (e : Segment) → stampTimes (e .stamps) .negative ≡ false → Positive e
+unfolding stampTimes
 positive e q =
     let a = or-false _ _ q in
     let b = or-false _ _ (a .0) in
@@ -91,7 +92,7 @@ frame-gap t (suc k) prev p = rw (p .0) (unless (equal (segment t (suc k) .words 
 
 time-gap : (t : Table) (k : ℕ) (prev : Ends) → Prev t k prev → Positive (segment t k)
     → Says (apart (prev .some) (prev .time) (prev .capture) (natAbs (segment t k .stamps .outstart)) (natAbs (segment t k .stamps .outcap))) (TimeGap t k)
-unfolding Prev start ends endsOf timesOf
+unfolding Prev start ends endsOf stampTimes
 time-gap t zero prev p q = rw p (record { holds = λ e. tf (sym e); fails = λ e x. x })
 time-gap t (suc k) prev p q =
     rw (p .0)
@@ -100,7 +101,7 @@ time-gap t (suc k) prev p q =
     (gap (segment t k .stamps .outcap) (segment t k .stamps .capdur) (segment t (suc k) .stamps .outcap) (p .1 .outcap) (p .1 .capdur) (q .outcap)))
 
 segment-number : (t : Table) (k : ℕ) (prev : Ends) → Prev t k prev → Number k (segmentRefusal (t .sources) prev (segment t k)) (ofSegment t k)
-unfolding segmentRefusal judged timesOf Number
+unfolding segmentRefusal judged stampTimes Number
 segment-number t k prev v =
     let w = segment t k .words in
     let e = segment t k .stamps in
@@ -152,6 +153,6 @@ agrees t =
     (append _ _ _ _ head segs)
 
 -- of every table
-pub rightly : (t : Table) → Rightly (checkOf t) (tests t) (total (t .segments))
+pub rightly : (t : Table) → Rightly (checkOf t) (tests t) (frameTotal (t .segments))
 unfolding checkOf
-rightly t = right (refusal t) (tests t) (total (t .segments)) (agrees t)
+rightly t = right (refusal t) (tests t) (frameTotal (t .segments)) (agrees t)

@@ -5,10 +5,10 @@ use mathlib.Core.Path.{_≡_, refl, sym, ap, _∙_, subst}
 use lib.ListN.{length}
 use lib.Dec.{leb}
 use borrow.Author.Tests.{leb-true, leb-false}
+use Rattle.choice.specs.Choice.{maxU64}
 use Rattle.choice.proofs.Tests.{decide}
-use Rattle.rules.specs.Limits.{maxU64}
 use Rattle.rules.specs.Records.{Table, noSegment, segment, outEnd}
-use Rattle.rules.specs.Lookups.{count, ended, overBy}
+use Rattle.rules.specs.Lookups.{countSuch, ended, overBy}
 use Rattle.rules.specs.Steps.{Ordered}
 use Rattle.rules.proofs.Accepted.{Accepted}
 use Rattle.rules.proofs.Exact.{as-run}
@@ -44,9 +44,9 @@ holder {t} {N} a frame inside =
     let s = split (λ k. outEnd (segment t k)) n maxU64 frame (frames-ordered a) n (omega arith) (λ k l q. absurd (omega arith)) in
     let some = a .some-segments in
     let within : s .0 < n = decide (leb n (s .0)) (λ q. absurd (omega (arith, leb-true n (s .0) q, s .1 .below (n - 1) (omega (arith, leb-true n (s .0) q)), a .last))) (leb-false n (s .0)) in
-    let counted : count (overBy frame) (t .segments) ≡ s .0 =
-    ap (count (overBy frame)) (sym (as-run noSegment (t .segments)))
+    let counted : countSuch (overBy frame) (t .segments) ≡ s .0 =
+    ap (countSuch (overBy frame)) (sym (as-run noSegment (t .segments)))
     ∙ count-ended (overBy frame) (segment t) (λ k. outEnd (segment t k)) n frame (λ k h. refl)
     ∙ sym (bracket-end (λ k. outEnd (segment t k)) n frame (s .0) (s .0) (s .1) (omega arith)) in
-    let e : s .0 ≡ min (count (overBy frame) (t .segments)) (n - 1) = omega arith in
+    let e : s .0 ≡ min (countSuch (overBy frame) (t .segments)) (n - 1) = omega arith in
     subst (Holds t frame) e (holds a frame (s .0) within (s .1))

@@ -13,9 +13,9 @@ use Rattle.choice.specs.Records.{any, firstRefused, orRefused}
 use Rattle.choice.proofs.Tests.{decide}
 use Rattle.rules.specs.declared.Source.{Source}
 use Rattle.rules.specs.declared.Ends.{Ends}
-use Rattle.rules.specs.Records.{Segment, Table, noSource, noSegment, source, segment, sourceOf, total}
-use Rattle.rules.specs.Rules.{negative, badWords, badSource, badSegment, malformed, badDate, badClock, badShift, sourceRefusal, timesOf, judged, segmentRefusal, start, endsOf, ends, segmentsFrom, frontRefusal, refusal, answered, checkOf}
-use Rattle.rules.specs.Lookups.{count, ended, overBy, overByUs, found, segmentOfFrame, segmentOfTime, sameShift, runsOn, continued, continuesAt}
+use Rattle.rules.specs.Records.{Segment, Table, noSource, noSegment, source, segment, sourceOf, frameTotal}
+use Rattle.rules.specs.Rules.{negative, badWords, badSource, badSegment, malformed, badDate, badClock, badShift, sourceRefusal, stampTimes, judged, segmentRefusal, start, endsOf, ends, segmentsFrom, frontRefusal, refusal, checkedOf, checkOf}
+use Rattle.rules.specs.Lookups.{countSuch, ended, overBy, overByUs, lookedUp, segmentOfFrame, segmentOfTime, sameShift, segmentRunsOn, continued, continuesAt}
 use Rattle.rules.specs.Absent.{cleanSource, cleanSegment, clean}
 
 -- ---- lists of records that are changed where no one looks
@@ -24,8 +24,8 @@ unfolding any
 any-map p f [] h = refl
 any-map p f (a ∷ l) h = rw (h a, any-map p f l h)
 
-count-map : {A : Type 0} (p : A → Bool) (f : A → A) (l : List A) → ((a : A) → p (f a) ≡ p a) → count p (map f l) ≡ count p l
-unfolding count
+count-map : {A : Type 0} (p : A → Bool) (f : A → A) (l : List A) → ((a : A) → p (f a) ≡ p a) → countSuch p (map f l) ≡ countSuch p l
+unfolding countSuch
 count-map p f [] h = refl
 count-map p f (a ∷ l) h = rw (h a, count-map p f l h)
 
@@ -70,8 +70,8 @@ source-clean log text s =
     rw (date-clean text (s .dated) (s .from) (s .size), clock-clean (s .kind) (s .ticks) (s .per) (s .modulus))
 
 judged-clean : (s : Source) (prev : Ends) (e : Segment)
-    → judged (cleanSource s) prev (e .words) (timesOf (cleanSegment e .stamps)) ≡ judged s prev (e .words) (timesOf (e .stamps))
-unfolding judged timesOf cleanSource cleanSegment
+    → judged (cleanSource s) prev (e .words) (stampTimes (cleanSegment e .stamps)) ≡ judged s prev (e .words) (stampTimes (e .stamps))
+unfolding judged stampTimes cleanSource cleanSegment
 judged-clean s prev e = rw (shift-clean (s .kind) (s .modulus) (e .words .flag) (e .stamps .shift))
 
 no-source : cleanSource noSource ≡ noSource
@@ -93,11 +93,11 @@ unfolding segmentRefusal cleanSegment
 segment-clean srcs prev e =
     rw (length-map srcs cleanSource) (ap (when (leb (length srcs) (e .words .source)) 9) (rest srcs prev e))
   where
-    rest : (srcs : List Source) (prev : Ends) (e : Segment) → judged (getD (map cleanSource srcs) (cleanSegment e .words .source) noSource) prev (cleanSegment e .words) (timesOf (cleanSegment e .stamps)) ≡ judged (sourceOf srcs e) prev (e .words) (timesOf (e .stamps))
+    rest : (srcs : List Source) (prev : Ends) (e : Segment) → judged (getD (map cleanSource srcs) (cleanSegment e .words .source) noSource) prev (cleanSegment e .words) (stampTimes (cleanSegment e .stamps)) ≡ judged (sourceOf srcs e) prev (e .words) (stampTimes (e .stamps))
     rest srcs prev e = rw (source-at srcs (e .words .source)) (judged-clean (sourceOf srcs e) prev e)
 
 ends-clean : (e : Segment) → ends (cleanSegment e) ≡ ends e
-unfolding ends endsOf timesOf cleanSegment
+unfolding ends endsOf stampTimes cleanSegment
 ends-clean e = refl
 
 segments-clean : (srcs : List Source) (i : ℕ) (prev : Ends) (l : List Segment) → segmentsFrom (map cleanSource srcs) i prev (map cleanSegment l) ≡ segmentsFrom srcs i prev l
@@ -105,8 +105,8 @@ unfolding segmentsFrom
 segments-clean srcs i prev [] = refl
 segments-clean srcs i prev (e ∷ l) = rw (segment-clean srcs prev e, ends-clean e, segments-clean srcs (suc i) (ends e) l)
 
-pub total-clean : (l : List Segment) → total (map cleanSegment l) ≡ total l
-unfolding total cleanSegment
+pub total-clean : (l : List Segment) → frameTotal (map cleanSegment l) ≡ frameTotal l
+unfolding frameTotal cleanSegment
 total-clean [] = refl
 total-clean (e ∷ l) = ap (λ (n : ℕ). e .words .count + n) (total-clean l)
 
@@ -138,7 +138,7 @@ refusal-clean t = sym λ i. orRefused (first i) (segments-clean (t .sources) 0 s
 
 pub check-clean : (t : Table) → checkOf t ≡ checkOf (clean t)
 unfolding checkOf clean
-check-clean t = λ i. answered (refusal-clean t i) (sym (total-clean (t .segments)) i)
+check-clean t = λ i. checkedOf (refusal-clean t i) (sym (total-clean (t .segments)) i)
 
 ended-clean : (p : Segment → Bool) (l : List Segment) → ((e : Segment) → p (cleanSegment e) ≡ p e) → ended p l ≡ ended p (map cleanSegment l)
 unfolding ended
@@ -150,25 +150,25 @@ same-clean flag flag′ z z′ =
     decide (eqb flag 0) (λ e. rw e)
     (λ e. decide (eqb flag flag′) (λ q. rw (e, rw (eqb-true flag flag′ q) at e)) (λ q. rw q))
 
-runs-clean : (p e : Segment) → runsOn (cleanSegment p) (cleanSegment e) ≡ runsOn p e
-unfolding runsOn cleanSegment
+runs-clean : (p e : Segment) → segmentRunsOn (cleanSegment p) (cleanSegment e) ≡ segmentRunsOn p e
+unfolding segmentRunsOn cleanSegment
 runs-clean p e = rw (same-clean (p .words .flag) (e .words .flag) (p .stamps .shift) (e .stamps .shift))
 
 -- ---- of every table: each answer is that of the clean one
 pub frame-clean : (k : ℕ) (t : Table) → segmentOfFrame t k ≡ segmentOfFrame (clean t) k
 unfolding segmentOfFrame clean cleanSegment
-frame-clean k t = λ i. found (check-clean t i) (ended-clean (overBy k) (t .segments) (λ e. refl) i)
+frame-clean k t = λ i. lookedUp (check-clean t i) (ended-clean (overBy k) (t .segments) (λ e. refl) i)
 
 pub time-clean : (z : ℤ) (t : Table) → segmentOfTime t z ≡ segmentOfTime (clean t) z
 unfolding segmentOfTime clean cleanSegment
-time-clean z t = λ i. found (check-clean t i) (ended-clean (overByUs z) (t .segments) (λ e. refl) i)
+time-clean z t = λ i. lookedUp (check-clean t i) (ended-clean (overByUs z) (t .segments) (λ e. refl) i)
 
 pub continues-clean : (r : ℕ) (t : Table) → continuesAt t r ≡ continuesAt (clean t) r
 unfolding continuesAt clean cleanSegment
 continues-clean r t = λ i. continued (check-clean t i) (asked i)
   where
-    asked : ((leb 1 r && ltb r (length (t .segments))) && runsOn (segment t (r - 1)) (segment t r))
-        ≡ ((leb 1 r && ltb r (length (map cleanSegment (t .segments)))) && runsOn (segment (clean t) (r - 1)) (segment (clean t) r))
+    asked : ((leb 1 r && ltb r (length (t .segments))) && segmentRunsOn (segment t (r - 1)) (segment t r))
+        ≡ ((leb 1 r && ltb r (length (map cleanSegment (t .segments)))) && segmentRunsOn (segment (clean t) (r - 1)) (segment (clean t) r))
     asked = rw (length-map (t .segments) cleanSegment, segment-at (t .segments) (r - 1), segment-at (t .segments) r, runs-clean (segment t (r - 1)) (segment t r))
 
 -- so it is the same of tables that are clean alike

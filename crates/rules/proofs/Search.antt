@@ -8,29 +8,29 @@ use lib.ListN.{length}
 use lib.Dec.{leb}
 use lib.IntN.{natAbs}
 use borrow.Author.Tests.{le-leb, lt-leb}
-use Rattle.choice.specs.Choice.{when}
+use Rattle.choice.specs.Choice.{when, maxU64}
 use Rattle.choice.specs.Records.{run}
-use Rattle.rules.specs.Limits.{maxU64, maxI64}
+use Rattle.rules.specs.Limits.{maxI64}
 use Rattle.rules.specs.Records.{Table, segment, outEnd}
-use Rattle.rules.specs.Lookups.{count}
+use Rattle.rules.specs.Lookups.{countSuch}
 use Rattle.rules.specs.Steps.{endedBy, Ordered}
 use Rattle.rules.proofs.Accepted.{Accepted}
 
 module _ {A : Type 0} (p : A → Bool) (f : ℕ → A) where
-  none-pass : (m i : ℕ) → ((k : ℕ) → k < m → p (f (i + k)) ≡ false) → count p (run f i m) ≡ 0
-  unfolding when run count
+  none-pass : (m i : ℕ) → ((k : ℕ) → k < m → p (f (i + k)) ≡ false) → countSuch p (run f i m) ≡ 0
+  unfolding when run countSuch
   none-pass zero i h = refl
   none-pass (suc m) i h =
       let e : p (f i) ≡ false = subst (λ (j : ℕ). p (f j) ≡ false) (add-zero i) (h 0 (suc-le-suc zero-le)) in
       rw e (none-pass m (suc i) (λ k l. subst (λ (j : ℕ). p (f j) ≡ false) (omega arith) (h (suc k) (suc-le-suc l))))
 
   -- none passes
-  pub count-none : (n : ℕ) → ((k : ℕ) → k < n → p (f k) ≡ false) → count p (run f 0 n) ≡ 0
+  pub count-none : (n : ℕ) → ((k : ℕ) → k < n → p (f k) ≡ false) → countSuch p (run f 0 n) ≡ 0
   count-none n h = none-pass n 0 (λ k l. subst (λ (j : ℕ). p (f j) ≡ false) (sym (zero-add k)) (h k l))
 
   -- all before n pass, none from n on: n pass
-  count-split : (n m i : ℕ) → n ≤ m → ((k : ℕ) → k < n → p (f (i + k)) ≡ true) → ((k : ℕ) → n ≤ k → k < m → p (f (i + k)) ≡ false) → count p (run f i m) ≡ n
-  unfolding when run count
+  count-split : (n m i : ℕ) → n ≤ m → ((k : ℕ) → k < n → p (f (i + k)) ≡ true) → ((k : ℕ) → n ≤ k → k < m → p (f (i + k)) ≡ false) → countSuch p (run f i m) ≡ n
+  unfolding when run countSuch
   count-split zero m i l h g = none-pass m i (λ k q. g k zero-le q)
   count-split (suc n) zero i l h g = absurd (not-suc-le-zero l)
   count-split (suc n) (suc m) i l h g =
@@ -40,16 +40,16 @@ module _ {A : Type 0} (p : A → Bool) (f : ℕ → A) where
       (λ k q r. subst (λ (j : ℕ). p (f j) ≡ false) (omega arith) (g (suc k) (suc-le-suc q) (suc-le-suc r)))))
 
 -- two counts of as many records, where each passes as its twin does
-count-same : {A B : Type 0} (p : A → Bool) (f : ℕ → A) (q : B → Bool) (g : ℕ → B) (m i : ℕ) → ((k : ℕ) → k < m → p (f (i + k)) ≡ q (g (i + k))) → count p (run f i m) ≡ count q (run g i m)
-unfolding when run count
+count-same : {A B : Type 0} (p : A → Bool) (f : ℕ → A) (q : B → Bool) (g : ℕ → B) (m i : ℕ) → ((k : ℕ) → k < m → p (f (i + k)) ≡ q (g (i + k))) → countSuch p (run f i m) ≡ countSuch q (run g i m)
+unfolding when run countSuch
 count-same p f q g zero i h = refl
 count-same p f q g (suc m) i h =
     let e : p (f i) ≡ q (g i) = subst (λ (j : ℕ). p (f j) ≡ q (g j)) (add-zero i) (h 0 (suc-le-suc zero-le)) in
-    let r : count p (run f (suc i) m) ≡ count q (run g (suc i) m) = count-same p f q g m (suc i) (λ k l. subst (λ (j : ℕ). p (f j) ≡ q (g j)) (omega arith) (h (suc k) (suc-le-suc l))) in
+    let r : countSuch p (run f (suc i) m) ≡ countSuch q (run g (suc i) m) = count-same p f q g m (suc i) (λ k l. subst (λ (j : ℕ). p (f j) ≡ q (g j)) (omega arith) (h (suc k) (suc-le-suc l))) in
     rw (e, r)
 
 -- records that pass exactly where their end is at most v
-pub count-ended : {A : Type 0} (p : A → Bool) (f : ℕ → A) (e : ℕ → ℕ) (n v : ℕ) → ((k : ℕ) → k < n → p (f k) ≡ leb (e k) v) → count p (run f 0 n) ≡ endedBy e n v
+pub count-ended : {A : Type 0} (p : A → Bool) (f : ℕ → A) (e : ℕ → ℕ) (n v : ℕ) → ((k : ℕ) → k < n → p (f k) ≡ leb (e k) v) → countSuch p (run f 0 n) ≡ endedBy e n v
 unfolding endedBy
 count-ended p f e n v h = count-same p f (λ k. leb (e k) v) (λ k. k) n 0 (λ k l. subst (λ (j : ℕ). p (f j) ≡ leb (e j) v) (sym (zero-add k)) (h k l))
 

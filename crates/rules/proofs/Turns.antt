@@ -5,7 +5,7 @@ use mathlib.Core.Path.{_≡_, refl}
 use mathlib.Core.Bool.{Bool, false}
 use lib.Dec.{eqb}
 use borrow.Author.Tests.{eqb-true, not-false}
-use Rattle.choice.specs.Choice.{when, past}
+use Rattle.choice.specs.Choice.{when, past, maxU64}
 use Rattle.choice.proofs.Tests.{or-false}
 use Rattle.choice.proofs.Chains.{when-zero, past-not}
 use Rattle.rules.specs.declared.Source.{Source}
@@ -13,7 +13,7 @@ use Rattle.rules.specs.declared.Words.{Words}
 use Rattle.rules.specs.declared.Times.{Times}
 use Rattle.rules.specs.declared.Ends.{Ends}
 use Rattle.rules.specs.declared.Turn.the-variants.{Stop, Go}
-use Rattle.rules.specs.Limits.{maxU64, maxI64}
+use Rattle.rules.specs.Limits.{maxI64}
 use Rattle.rules.specs.Rules.{judged}
 use Rattle.rules.specs.Steps.{stopOr}
 

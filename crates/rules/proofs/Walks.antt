@@ -17,8 +17,8 @@ use Rattle.rules.specs.declared.Source.{Source}
 use Rattle.rules.specs.declared.Ends.{Ends}
 use Rattle.rules.specs.declared.Turn.the-variants.{Stop, Go}
 use Rattle.rules.specs.declared.Checked.the-variants.{Frames, Refused}
-use Rattle.rules.specs.Records.{Segment, Table, noSource, sourceOf, total}
-use Rattle.rules.specs.Rules.{timesOf, judged, segmentRefusal, start, endsOf, ends, segmentsFrom, malformed, frontRefusal, refusal, answered, checkOf}
+use Rattle.rules.specs.Records.{Segment, Table, noSource, sourceOf, frameTotal}
+use Rattle.rules.specs.Rules.{stampTimes, judged, segmentRefusal, start, endsOf, ends, segmentsFrom, malformed, frontRefusal, refusal, checkedOf, checkOf}
 use Rattle.rules.specs.Steps.{stopOr, turned, turnOf, walked}
 use Rattle.rules.proofs.Turns.{judged-fit}
 
@@ -35,7 +35,7 @@ turn-stop (suc m) n x e = (cc, λ z. omega arith)
 
 -- no refusal of 9 to 17: the source is there, and 10 to 17 don't refuse
 pub not-refused : (srcs : List Source) (prev : Ends) (e : Segment) → segmentRefusal srcs prev e ≡ 0
-    → (e .words .source < length srcs) × (judged (sourceOf srcs e) prev (e .words) (timesOf (e .stamps)) ≡ 0)
+    → (e .words .source < length srcs) × (judged (sourceOf srcs e) prev (e .words) (stampTimes (e .stamps)) ≡ 0)
 unfolding segmentRefusal
 not-refused srcs prev e q =
     let s = when-zero _ _ _ (λ z. let y : _≡_ {A = ℕ} 9 0 = z in omega arith) q in
@@ -50,7 +50,7 @@ next-frame srcs prev e q = ap (λ (n : ℕ). n + e .words .count) (judged-fit _ 
 pub record Walk (srcs : List Source) (f : ℕ → Segment) (m k : ℕ) (prev : Ends) : Type 0 where
   pub inside : k ≤ m
   pub same : segmentsFrom srcs k prev (run f k (m - k)) ≡ segmentsFrom srcs 0 start (run f 0 m)
-  pub frames : prev .frame + total (run f k (m - k)) ≡ total (run f 0 m)
+  pub frames : prev .frame + frameTotal (run f k (m - k)) ≡ frameTotal (run f 0 m)
 
 module _ (srcs : List Source) (f : ℕ → Segment) (m : ℕ) where
   pub walk-start : Walk srcs f m 0 start
@@ -63,9 +63,9 @@ module _ (srcs : List Source) (f : ℕ → Segment) (m : ℕ) where
     unfolding segmentsFrom
     walk-cons h = ap (segmentsFrom srcs k prev) (run-cons f k m h) ∙ rw add-one
 
-    total-cons : k < m → total (run f k (m - k)) ≡ f k .words .count + total (run f (k + 1) (m - (k + 1)))
-    unfolding total
-    total-cons h = ap total (run-cons f k m h)
+    total-cons : k < m → frameTotal (run f k (m - k)) ≡ f k .words .count + frameTotal (run f (k + 1) (m - (k + 1)))
+    unfolding frameTotal
+    total-cons h = ap frameTotal (run-cons f k m h)
 
     pub walk-go : {next : Ends} → k < m → turnOf srcs prev (f k) ≡ Go next → Walk srcs f m (k + 1) next
     unfolding turnOf when
@@ -81,17 +81,17 @@ module _ (srcs : List Source) (f : ℕ → Segment) (m : ℕ) where
         rw (z .1) at w′
 
     pub walk-stop : {n : ℕ} → k < m → turnOf srcs prev (f k) ≡ Stop n → Refused n k ≡ walked srcs (run f 0 m)
-    unfolding turnOf walked answered when
+    unfolding turnOf walked checkedOf when
     walk-stop {n} h e =
         let z = turn-stop _ _ _ e in
         let q : segmentsFrom srcs 0 start (run f 0 m) ≡ At n k = sym (w .same) ∙ walk-cons h ∙ rw (ne-eqb (segmentRefusal srcs prev (f k)) 0 (z .1), z .0) in
         rw q
 
     pub walk-end : m ≤ k → Frames (prev .frame) ≡ walked srcs (run f 0 m)
-    unfolding walked answered segmentsFrom total
+    unfolding walked checkedOf segmentsFrom frameTotal
     walk-end h =
         let q : segmentsFrom srcs 0 start (run f 0 m) ≡ Never = sym (w .same) ∙ ap (segmentsFrom srcs k prev) (run-nil f k m h) in
-        let c : total (run f k (m - k)) ≡ 0 = ap total (run-nil f k m h) in
+        let c : frameTotal (run f k (m - k)) ≡ 0 = ap frameTotal (run-nil f k m h) in
         rw q (ap Frames (omega (arith, w .frames)))
 
 -- the source that a segment names, of n sources g 0, g 1, ..
@@ -100,14 +100,14 @@ module _ (g : ℕ → Source) (n : ℕ) (prev : Ends) (e : Segment) where
   unfolding turnOf stopOr segmentRefusal when
   turn-none h = rw (length-run g 0 n, le-leb n (e .words .source) h)
 
-  pub turn-some : e .words .source < n → turned (g (e .words .source)) prev (e .words) (timesOf (e .stamps)) ≡ turnOf (run g 0 n) prev e
+  pub turn-some : e .words .source < n → turned (g (e .words .source)) prev (e .words) (stampTimes (e .stamps)) ≡ turnOf (run g 0 n) prev e
   unfolding turnOf turned segmentRefusal ends when
   turn-some h = rw (length-run g 0 n, lt-leb n (e .words .source) h, getD-run g 0 n (e .words .source) noSource h, zero-add)
 
 -- 1 to 8 decide whether the segments are walked
 module _ (t : Table) where
   pub check-stops : {n i : ℕ} → frontRefusal (t .log) (t .text) (t .sources) (malformed t) (length (t .segments)) ≡ At n i → Refused n i ≡ checkOf t
-  unfolding checkOf refusal orRefused answered
+  unfolding checkOf refusal orRefused checkedOf
   check-stops e = rw e
 
   pub check-goes : frontRefusal (t .log) (t .text) (t .sources) (malformed t) (length (t .segments)) ≡ Never → walked (t .sources) (t .segments) ≡ checkOf t

@@ -1,4 +1,4 @@
--- The limits that 2, 11 and 14 hold a table to.
+-- The limits that 2 and 14 hold a table to.
 use Prim.Native.Nat.{ℕ}
 
 abbrev pub maxSources : ℕ
@@ -6,10 +6,6 @@ maxSources = 64
 
 abbrev pub maxSegments : ℕ
 maxSegments = 512
-
--- 2^64 - 1
-abbrev pub maxU64 : ℕ
-maxU64 = 0xffff_ffff_ffff_ffff
 
 -- 2^63 - 1
 abbrev pub maxI64 : ℕ

@@ -8,11 +8,12 @@ use mathlib.Core.Logic.{_⊎_, _↔_}
 use lib.ListN.{length, getD, take, drop}
 use lib.IntN.{pos, _+ℤ_}
 use lib.Signed.{_<ℤ_, _≤ℤ_}
+use Rattle.choice.specs.Choice.{maxU64}
 use Rattle.utc.specs.Utc.{utcSecond}
 use Rattle.rules.specs.declared.Source.{Source}
 use Rattle.rules.specs.declared.Checked.{Checked}
 use Rattle.rules.specs.declared.Checked.the-variants.{Frames, Refused}
-use Rattle.rules.specs.Limits.{maxSources, maxSegments, maxU64, maxI64}
+use Rattle.rules.specs.Limits.{maxSources, maxSegments, maxI64}
 use Rattle.rules.specs.Records.{Segment, Table, noSource, noSegment, source, segment, sourceOf, outEnd, outEndUs, captureEndUs}
 
 -- some record of a list has it

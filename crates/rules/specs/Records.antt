@@ -67,6 +67,6 @@ abbrev pub captureEndUs : Segment → ℤ
 captureEndUs e = e .stamps .outcap +ℤ e .stamps .capdur
 
 -- how many frames some segments have
-unfoldable pub total : List Segment → ℕ
-total [] = 0
-total (e ∷ l) = e .words .count + total l
+unfoldable pub frameTotal : List Segment → ℕ
+frameTotal [] = 0
+frameTotal (e ∷ l) = e .words .count + frameTotal l

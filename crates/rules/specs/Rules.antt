@@ -9,7 +9,7 @@ use lib.IntN.{ℤ, pos, natAbs}
 use lib.Signed.{ltZ}
 use Rattle.choice.specs.declared.Refusal.{Refusal}
 use Rattle.choice.specs.declared.Refusal.the-variants.{Never, At}
-use Rattle.choice.specs.Choice.{when, past}
+use Rattle.choice.specs.Choice.{when, past, maxU64}
 use Rattle.choice.specs.Records.{any, firstRefused, orRefused}
 use Rattle.utc.specs.Utc.{utcSecond}
 use Rattle.rules.specs.declared.Source.{Source}
@@ -18,8 +18,8 @@ use Rattle.rules.specs.declared.Times.{Times}
 use Rattle.rules.specs.declared.Ends.{Ends}
 use Rattle.rules.specs.declared.Checked.{Checked}
 use Rattle.rules.specs.declared.Checked.the-variants.{Frames, Refused}
-use Rattle.rules.specs.Limits.{maxSources, maxSegments, maxU64, maxI64}
-use Rattle.rules.specs.Records.{Stamps, Segment, Table, sourceOf, total}
+use Rattle.rules.specs.Limits.{maxSources, maxSegments, maxI64}
+use Rattle.rules.specs.Records.{Stamps, Segment, Table, sourceOf, frameTotal}
 
 -- 1: a flag or kind outside its set, or a present creation time whose range leaves the text of n bytes
 abbrev pub badWords : ℕ → ℕ → ℕ → ℕ → ℕ → Bool
@@ -66,8 +66,8 @@ abbrev pub negative : ℤ → Bool
 negative z = ltZ z (pos 0)
 
 -- a segment's times as numbers; the magnitudes are used only after 13, where none is negative
-unfoldable pub timesOf : Stamps → Times
-timesOf e = record {
+unfoldable pub stampTimes : Stamps → Times
+stampTimes e = record {
   negative =
       ((negative (e .srcstart) || negative (e .outstart)) || (negative (e .duration) || negative (e .srccap)))
       || (negative (e .outcap) || negative (e .capdur));
@@ -114,7 +114,7 @@ judged s prev w t =
 unfoldable pub segmentRefusal : List Source → Ends → Segment → ℕ
 segmentRefusal srcs prev e =
     when (leb (length srcs) (e .words .source)) 9
-    (judged (sourceOf srcs e) prev (e .words) (timesOf (e .stamps)))
+    (judged (sourceOf srcs e) prev (e .words) (stampTimes (e .stamps)))
 
 -- before the first segment: frame 0, and no times
 unfoldable pub start : Ends
@@ -126,7 +126,7 @@ endsOf w t = record { some = true; frame = w .out + w .count; time = t .outstart
 
 -- where a segment ends
 unfoldable pub ends : Segment → Ends
-ends e = endsOf (e .words) (timesOf (e .stamps))
+ends e = endsOf (e .words) (stampTimes (e .stamps))
 
 -- 9 to 17, segment by segment from the i-th on, after one that ends at prev
 unfoldable pub segmentsFrom : List Source → ℕ → Ends → List Segment → Refusal
@@ -151,10 +151,10 @@ refusal t =
     (segmentsFrom (t .sources) 0 start (t .segments))
 
 -- a refusal, or the n frames of a table that has none
-unfoldable pub answered : Refusal → ℕ → Checked
-answered Never n = Frames n
-answered (At n i) _ = Refused n i
+unfoldable pub checkedOf : Refusal → ℕ → Checked
+checkedOf Never n = Frames n
+checkedOf (At n i) _ = Refused n i
 
 -- the check of a table: a refusal, or the frame total
 unfoldable pub checkOf : Table → Checked
-checkOf t = answered (refusal t) (total (t .segments))
+checkOf t = checkedOf (refusal t) (frameTotal (t .segments))

@@ -3,7 +3,7 @@ use Prim.Native.Nat.{ℕ, zero, suc, _≤_, _<_}
 use mathlib.Core.Bool.{not, _||_}
 use mathlib.Core.List.{List}
 use lib.Dec.{leb, eqb}
-use Rattle.choice.specs.Choice.{when, past}
+use Rattle.choice.specs.Choice.{when, past, maxU64}
 use Rattle.choice.specs.Records.{run}
 use Rattle.rules.specs.declared.Source.{Source}
 use Rattle.rules.specs.declared.Words.{Words}
@@ -12,10 +12,9 @@ use Rattle.rules.specs.declared.Ends.{Ends}
 use Rattle.rules.specs.declared.Turn.{Turn}
 use Rattle.rules.specs.declared.Checked.{Checked}
 use Rattle.rules.specs.declared.Turn.the-variants.{Stop, Go}
-use Rattle.rules.specs.Limits.{maxU64}
-use Rattle.rules.specs.Records.{Segment, total}
-use Rattle.rules.specs.Lookups.{count}
-use Rattle.rules.specs.Rules.{tooLate, apart, judged, endsOf, segmentRefusal, ends, segmentsFrom, start, answered}
+use Rattle.rules.specs.Records.{Segment, frameTotal}
+use Rattle.rules.specs.Lookups.{countSuch}
+use Rattle.rules.specs.Rules.{tooLate, apart, judged, endsOf, segmentRefusal, ends, segmentsFrom, start, checkedOf}
 
 -- 10 to 12, and then the rest
 abbrev pub framesOr : ℕ → ℕ → ℕ → ℕ → ℕ → ℕ
@@ -49,11 +48,11 @@ turnOf srcs prev e = stopOr (segmentRefusal srcs prev e) (ends e)
 
 -- 9 to 17 of all segments, then the frame total
 unfoldable pub walked : List Source → List Segment → Checked
-walked srcs segs = answered (segmentsFrom srcs 0 start segs) (total segs)
+walked srcs segs = checkedOf (segmentsFrom srcs 0 start segs) (frameTotal segs)
 
 -- how many of the ends e 0, .., e (n - 1) are at most v
 unfoldable pub endedBy : (ℕ → ℕ) → ℕ → ℕ → ℕ
-endedBy e n v = count (λ k. leb (e k) v) (run (λ k. k) 0 n)
+endedBy e n v = countSuch (λ k. leb (e k) v) (run (λ k. k) 0 n)
 
 -- ends that a halving search needs: none passes m, and they never fall
 pub record Ordered (e : ℕ → ℕ) (n m : ℕ) : Type 0 where

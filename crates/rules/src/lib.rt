@@ -1,4 +1,5 @@
 // Refusals 1 to 17 over records: no word here knows how a table is lent. The Rust's SegmentTable::check.
+use choice::MAX_U64;
 ghost use mathlib.Core.Path.{_≡_};
 ghost use Rattle.rules.specs.Rules.{badWords, noRate, badDate, badClock, sourceRefusal, tooLate, apart, badShift, overLimit, judged};
 ghost use Rattle.rules.specs.Steps.{framesOr, timesOr, turned};
@@ -8,9 +9,7 @@ const MAX_SOURCES: usize = 64;
 
 pub const MAX_SEGMENTS: usize = 512;
 
-// The largest u64 and i64.
-const MAX_U64: u64 = 0xffff_ffff_ffff_ffff;
-
+// The largest i64.
 const MAX_I64: u64 = 0x7fff_ffff_ffff_ffff;
 
 // A source of the table; the Rust's TableSource.
@@ -88,7 +87,7 @@ pub enum Checked {
 }
 
 // What a lookup answers: the segment's index, or the check's refusal.
-pub enum Found {
+pub enum Lookup {
     Index(usize),
     NoIndex(u64, usize),
 }

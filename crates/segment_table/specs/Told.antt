@@ -12,16 +12,16 @@ use Rattle.boxes.specs.declared.Place.{Place}
 use Rattle.boxes.specs.declared.Place.the-variants as place
 use Rattle.rules.specs.declared.Checked.{Checked}
 use Rattle.rules.specs.declared.Checked.the-variants as checked
-use Rattle.rules.specs.declared.Found.{Found}
-use Rattle.rules.specs.declared.Found.the-variants as found
+use Rattle.rules.specs.declared.Lookup.{Lookup}
+use Rattle.rules.specs.declared.Lookup.the-variants as lookup
 use Rattle.rules.specs.declared.Continued.{Continued}
 use Rattle.rules.specs.declared.Continued.the-variants as continued
 use Rattle.table.specs.declared.Filled.{Filled}
 use Rattle.table.specs.declared.Filled.the-variants as filled
 use Rattle.frame_times.specs.declared.FrameTimes.{FrameTimes}
 use Rattle.frame_times.specs.declared.FrameTimes.the-variants as moov
-use Rattle.mcraw.specs.declared.Times.{Times}
-use Rattle.mcraw.specs.declared.Times.the-variants as times
+use Rattle.mcraw.specs.declared.RecordingTimes.{RecordingTimes}
+use Rattle.mcraw.specs.declared.RecordingTimes.the-variants as times
 use Rattle.maps.specs.declared.Mapped.{Mapped}
 use Rattle.maps.specs.declared.Mapped.the-variants as mapped
 use Rattle.maps.specs.declared.Traced.{Traced}
@@ -58,9 +58,9 @@ refusalTold (checked.Frames n) = (0, 0)
 refusalTold (checked.Refused n i) = (n, i)
 
 -- a segment
-unfoldable pub foundTold : Found → ℕ → ℕ × ℕ × ℕ
-foundTold (found.Index k) segment = (0, k, 0)
-foundTold (found.NoIndex n i) segment = (n, segment, i)
+unfoldable pub lookupTold : Lookup → ℕ → ℕ × ℕ × ℕ
+lookupTold (lookup.Index k) segment = (0, k, 0)
+lookupTold (lookup.NoIndex n i) segment = (n, segment, i)
 
 -- 1 for yes, 0 for no
 unfoldable pub continuedTold : Continued → ℕ → ℕ × ℕ × ℕ
@@ -82,11 +82,11 @@ tracedTold (traced.From s f g z) source frame flag shift = (0, s, f, g, z, 0)
 tracedTold (traced.Refused n i) source frame flag shift = (n, source, frame, flag, shift, i)
 
 -- frame count, scale, nominal, end
-unfoldable pub timesTold : Times → ℕ → ℕ → ℤ → ℤ → ℕ × ℕ × ℕ × ℤ × ℤ × ℕ
+unfoldable pub timesTold : RecordingTimes → ℕ → ℕ → ℤ → ℤ → ℕ × ℕ × ℕ × ℤ × ℤ × ℕ
 timesTold (times.Timed f s m e) frames scale nominal end = (0, f, s, m, e, 0)
 timesTold (times.Refused n i) frames scale nominal end = (n, frames, scale, nominal, end, i)
 
 -- the same of a moov
 unfoldable pub moovTold : FrameTimes → ℕ → ℕ → ℤ → ℤ → ℕ × ℕ × ℕ × ℤ × ℤ × ℕ
-moovTold (moov.Times f s m e) frames scale nominal end = (0, f, s, m, e, 0)
+moovTold (moov.Presented f s m e) frames scale nominal end = (0, f, s, m, e, 0)
 moovTold (moov.Refused n i) frames scale nominal end = (n, frames, scale, nominal, end, i)

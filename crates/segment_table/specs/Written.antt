@@ -11,9 +11,9 @@ use Rattle.rows.specs.Lent.{rows, wordsOf, shiftsOf}
 use Rattle.rules.specs.Records.{Table}
 use Rattle.table.specs.Rows as table
 use Rattle.maps.specs.declared.Traced.{Traced}
-use Rattle.maps.specs.Answers.{cutRefusal, joinRefusal, mergeRefusal, originRefusal, answered, tracedOf}
+use Rattle.maps.specs.Answers.{cutRefusal, joinRefusal, mergeRefusal, originRefusal, mappedOf, tracedOf}
 use Rattle.slices.specs.Slices.{laid, after, zeros}
-use Rattle.mcraw.specs.Mcraw.{timesOf, written}
+use Rattle.mcraw.specs.Mcraw.{mcrawTimes, startsWritten}
 use Rattle.frame_times.specs.Times as moov
 use Rattle.judge.specs.Judge.{checkMcraw}
 use Rattle.segment_table.specs.Told.{checkedTold, filledTold, mappedTold, timesTold, moovTold}
@@ -26,7 +26,7 @@ pub record RowedTold (t : Table) (ou : List ℕ) (os : List ℤ) (rows r : ℕ) 
 
 -- the rows m were asked for, or refused
 pub record MapTold (x : Refusal) (m : List Row) (ou : List ℕ) (os : List ℤ) (rows r : ℕ) (ou′ : List ℕ) (os′ : List ℤ) (rows′ index′ : ℕ) : Type 0 where
-  pub told : (r, rows′, index′) ≡ mappedTold (answered x m) rows
+  pub told : (r, rows′, index′) ≡ mappedTold (mappedOf x m) rows
   pub words : ou′ ≡ after x (wordsOf m) ou
   pub shifts : os′ ≡ after x (shiftsOf m) os
 
@@ -46,14 +46,14 @@ originOf u s k = tracedOf (originRefusal u s k) (origin (rows u s) k)
 
 -- a recording's frame times were asked for: number, starts, working slice, frame count, scale, nominal, end, index
 pub record McrawTold (ts starts work : List ℤ) (frames scale : ℕ) (nominal end : ℤ) (r : ℕ) (starts′ work′ : List ℤ) (frames′ scale′ : ℕ) (nominal′ end′ : ℤ) (index′ : ℕ) : Type 0 where
-  pub told : (r, frames′, scale′, nominal′, end′, index′) ≡ timesTold (timesOf ts (length starts) (length work)) frames scale nominal end
-  pub laid-out : starts′ ≡ laid (written (timesOf ts (length starts) (length work)) ts) starts
+  pub told : (r, frames′, scale′, nominal′, end′, index′) ≡ timesTold (mcrawTimes ts (length starts) (length work)) frames scale nominal end
+  pub laid-out : starts′ ≡ laid (startsWritten (mcrawTimes ts (length starts) (length work)) ts) starts
   pub cleared : work′ ≡ zeros work
 
 -- a moov's frame times were asked for: number, starts, both working slices, frame count, scale, nominal, end, index
 pub record MoovTold (bytes : List ℕ) (starts a b : List ℤ) (frames scale : ℕ) (nominal end : ℤ) (r : ℕ) (starts′ a′ b′ : List ℤ) (frames′ scale′ : ℕ) (nominal′ end′ : ℤ) (index′ : ℕ) : Type 0 where
-  pub told : (r, frames′, scale′, nominal′, end′, index′) ≡ moovTold (moov.timesOf bytes (moov.room starts a b) .answer) frames scale nominal end
-  pub laid-out : starts′ ≡ laid (moov.timesOf bytes (moov.room starts a b) .starts) starts
+  pub told : (r, frames′, scale′, nominal′, end′, index′) ≡ moovTold (moov.timesOfMoov bytes (moov.room starts a b) .answer) frames scale nominal end
+  pub laid-out : starts′ ≡ laid (moov.timesOfMoov bytes (moov.room starts a b) .starts) starts
   pub first-cleared : a′ ≡ zeros a
   pub second-cleared : b′ ≡ zeros b
 

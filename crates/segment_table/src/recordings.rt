@@ -1,13 +1,13 @@
 // Frame times: of a movie's video track, and of a MotionCam recording's timestamps.
 use frame_times::FrameTimes;
-use mcraw::Times;
+use mcraw::RecordingTimes;
 ghost use mathlib.Core.Path.{_≡_};
 ghost use Rattle.segment_table.specs.Told.{moovTold, timesTold};
 ghost use Rattle.segment_table.specs.Written.{McrawTold, MoovTold};
 
 // Tells frame count, scale, nominal and end.
 fn tell_times(
-    answer: Times,
+    answer: RecordingTimes,
     frames: &mut u64,
     scale: &mut u64,
     nominal: &mut i64,
@@ -17,7 +17,7 @@ fn tell_times(
     ensures { λ r. ⌜ (r, now (frames .exit), now (scale .exit), now (nominal .exit), now (end .exit), now (index .exit)) ≡ timesTold answer (now (frames .entry)) (now (scale .entry)) (now (nominal .entry)) (now (end .entry)) ⌝ }
 {
     match answer {
-        Times::Timed {
+        RecordingTimes::Timed {
             frames: f,
             scale: s,
             nominal: m,
@@ -30,7 +30,7 @@ fn tell_times(
             *index = 0;
             0
         }
-        Times::Refused(number, i) => {
+        RecordingTimes::Refused(number, i) => {
             *index = i as u64;
             number
         }
@@ -70,7 +70,7 @@ fn tell_moov(
     ensures { λ r. ⌜ (r, now (frames .exit), now (scale .exit), now (nominal .exit), now (end .exit), now (index .exit)) ≡ moovTold answer (now (frames .entry)) (now (scale .entry)) (now (nominal .entry)) (now (end .entry)) ⌝ }
 {
     match answer {
-        FrameTimes::Times {
+        FrameTimes::Presented {
             frames: f,
             timescale: s,
             nominal: m,

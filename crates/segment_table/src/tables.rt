@@ -1,13 +1,13 @@
 // Tables: the check, both lookups, whether a segment continues the one before, the rows of its map.
 use rules::Checked;
 use rules::Continued;
-use rules::Found;
+use rules::Lookup;
 use table::Filled;
 ghost use mathlib.Core.Path.{_≡_};
 ghost use Rattle.rules.specs.Rules.{checkOf};
 ghost use Rattle.rules.specs.Lookups.{segmentOfFrame, segmentOfTime, continuesAt};
 ghost use Rattle.table.specs.Layout.{tableOf};
-ghost use Rattle.segment_table.specs.Told.{checkedTold, foundTold, continuedTold, filledTold};
+ghost use Rattle.segment_table.specs.Told.{checkedTold, lookupTold, continuedTold, filledTold};
 ghost use Rattle.segment_table.specs.Written.{RowedTold};
 
 // Tells a frame total.
@@ -28,16 +28,16 @@ pub(crate) fn tell_checked(answer: Checked, frames: &mut u64, index: &mut u64) -
 }
 
 // Tells a segment.
-pub(crate) fn tell_found(answer: Found, segment: &mut u64, index: &mut u64) -> u64
-    ensures { λ r. ⌜ (r, now (segment .exit), now (index .exit)) ≡ foundTold answer (now (segment .entry)) ⌝ }
+pub(crate) fn tell_lookup(answer: Lookup, segment: &mut u64, index: &mut u64) -> u64
+    ensures { λ r. ⌜ (r, now (segment .exit), now (index .exit)) ≡ lookupTold answer (now (segment .entry)) ⌝ }
 {
     match answer {
-        Found::Index(k) => {
+        Lookup::Index(k) => {
             *segment = k as u64;
             *index = 0;
             0
         }
-        Found::NoIndex(number, i) => {
+        Lookup::NoIndex(number, i) => {
             *index = i as u64;
             number
         }
@@ -112,10 +112,10 @@ pub extern "C" fn st_segment_of_frame(
     segment: &mut u64,
     index: &mut u64,
 ) -> u64
-    ensures { λ r. ⌜ (r, now (segment .exit), now (index .exit)) ≡ foundTold (segmentOfFrame (tableOf (now (sources .entry)) (now (segments .entry)) (now (times .entry)) log (now (text .entry))) frame) (now (segment .entry)) ⌝ }
+    ensures { λ r. ⌜ (r, now (segment .exit), now (index .exit)) ≡ lookupTold (segmentOfFrame (tableOf (now (sources .entry)) (now (segments .entry)) (now (times .entry)) log (now (text .entry))) frame) (now (segment .entry)) ⌝ }
 {
     let found = table::segment_of_frame(sources, segments, times, log, text, frame);
-    tell_found(found, segment, index)
+    tell_lookup(found, segment, index)
 }
 
 // The segment of a time in microseconds: the number of segments that end at or before it, at most the last index.
@@ -131,10 +131,10 @@ pub extern "C" fn st_segment_of_time_us(
     segment: &mut u64,
     index: &mut u64,
 ) -> u64
-    ensures { λ r. ⌜ (r, now (segment .exit), now (index .exit)) ≡ foundTold (segmentOfTime (tableOf (now (sources .entry)) (now (segments .entry)) (now (times .entry)) log (now (text .entry))) time) (now (segment .entry)) ⌝ }
+    ensures { λ r. ⌜ (r, now (segment .exit), now (index .exit)) ≡ lookupTold (segmentOfTime (tableOf (now (sources .entry)) (now (segments .entry)) (now (times .entry)) log (now (text .entry))) time) (now (segment .entry)) ⌝ }
 {
     let found = table::segment_of_time_us(sources, segments, times, log, text, time);
-    tell_found(found, segment, index)
+    tell_lookup(found, segment, index)
 }
 
 // Whether a segment continues the one before it: the same source, source frames that run on, equal shift. Answers 1 or

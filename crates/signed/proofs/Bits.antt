@@ -9,7 +9,7 @@ use lib.Signed.{leZ, ltZ}
 use mir.Syntax.{w64}
 use mir.Val.{SFits, toZ, ofZ}
 use mir.Facts.{toZ-ofZ}
-use Rattle.signed.specs.Signed.{I64}
+use Rattle.signed.specs.Steps.{I64}
 
 -- what the machine reads back from the bits of z
 abbrev pub read : ℤ → ℤ

@@ -11,7 +11,8 @@ use mir.Facts.{toZ-pos}
 use borrow.Author.Tests.{lt-ltb, le-ltb}
 use Rattle.choice.specs.Choice.{if_then_else_}
 use Rattle.signed.specs.declared.Held.the-variants.{Is, Outside}
-use Rattle.signed.specs.Signed.{I64, within, withSign}
+use Rattle.signed.specs.Signed.{within}
+use Rattle.signed.specs.Steps.{I64, withSign}
 use Rattle.signed.proofs.Bits.{read, reads}
 
 pub in-range : (z : ℤ) → I64 z → Is z ≡ within z

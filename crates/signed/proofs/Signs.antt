@@ -9,7 +9,7 @@ use lib.Signed.{ltZ, nonNeg}
 use mir.Syntax.{w64}
 use mir.Val.{Fits, SFits}
 use borrow.Author.Tests.{ltb-true, le-ltb}
-use Rattle.signed.specs.Signed.{withSign}
+use Rattle.signed.specs.Steps.{withSign}
 use Rattle.signed.proofs.Bits.{read, reads}
 
 -- what `-(x + 1)` is at an x below 0, and that each step fits

@@ -8,7 +8,8 @@ use lib.Signed.{ltZ}
 use mir.Syntax.{w64}
 use mir.Val.{SFits}
 use Rattle.signed.specs.declared.Held.the-variants.{Outside}
-use Rattle.signed.specs.Signed.{I64, within}
+use Rattle.signed.specs.Signed.{within}
+use Rattle.signed.specs.Steps.{I64}
 use Rattle.signed.proofs.Bits.{fits-of}
 use Rattle.signed.proofs.Up.{up, up-top, lt-up, ge-up, sums, differences}
 use Rattle.signed.proofs.Ranges.{out-of-range}

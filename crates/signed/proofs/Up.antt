@@ -8,8 +8,8 @@ use borrow.Author.Tests.{leb-true, leb-false, ltb-true, ltb-false, le-leb, lt-lt
 use lib.Dec.{ltb}
 use lib.IntN.{ℤ, pos, negsuc, subℕ, _+ℤ_, _-ℤ_}
 use lib.Signed.{leZ, ltZ, mag, shrZ}
+use Rattle.signed.specs.Steps.{I64}
 use Rattle.choice.proofs.Tests.{tf}
-use Rattle.signed.specs.Signed.{I64}
 
 abbrev pub up : ℤ → ℕ
 up (pos n) = 2 ^ 63 + n

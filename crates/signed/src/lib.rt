@@ -4,8 +4,9 @@ ghost use mathlib.Core.Path.{_≡_};
 ghost use Prim.Native.Nat.{_<_, _^_};
 ghost use lib.IntN.{pos, negℤ, natAbs, _+ℤ_, _-ℤ_};
 ghost use lib.Signed.{ltZ, leZ, _≤ℤ_, mag};
-ghost use Rattle.signed.specs.Signed.{eqZ, within, withSign, ofBits};
+ghost use Rattle.signed.specs.Signed.{eqZ, within, ofBits};
 ghost use Rattle.signed.specs.Rounded.{rounded};
+ghost use Rattle.signed.specs.Steps.{withSign};
 
 // A number, or none where an i64 doesn't hold it.
 pub enum Held {

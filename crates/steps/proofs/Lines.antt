@@ -9,11 +9,12 @@ use lib.ListN.{length, getD, drop, drop-of-length-le}
 use lib.Seq.{drop-cons}
 use borrow.Author.Tests.{lt-ltb, le-ltb, le-leb, lt-leb, eq-eqb, ne-eqb}
 use lib.Dec.{eqb}
+use Rattle.choice.specs.Choice.{maxU64}
 use Rattle.choice.proofs.Tests.{decide}
 use Rattle.steps.specs.declared.Kind.{Kind}
 use Rattle.steps.specs.declared.Number.the-variants.{Is, Large, Not}
 use Rattle.steps.specs.Words.{passing, leadingOf, sameAs}
-use Rattle.steps.specs.Numbers.{largest, digitOf, numberFrom, oversOf, numberIn}
+use Rattle.steps.specs.Numbers.{digitOf, numberFrom, oversOf, numberIn}
 
 -- the bytes from i on: byte i, and those after it
 from : (l : List ℕ) (i : ℕ) → i < length l → drop i l ≡ getD l i 0 ∷ drop (i + 1) l
@@ -75,11 +76,11 @@ module _ (l : List ℕ) (i d : ℕ) (e : d ≡ digitOf (getD l i 0)) (h : i < le
 pub overs-end : (l : List ℕ) (i : ℕ) → length l ≤ i → oversOf (drop i l) ≡ Large
 overs-end l i h = rw (ended l i h)
 
-pub number-end : (l : List ℕ) (i n : ℕ) → length l ≤ i → n ≤ largest → numberFrom n (drop i l) ≡ Is n
-number-end l i n h t = rw (ended l i h, le-leb n largest t)
+pub number-end : (l : List ℕ) (i n : ℕ) → length l ≤ i → n ≤ maxU64 → numberFrom n (drop i l) ≡ Is n
+number-end l i n h t = rw (ended l i h, le-leb n maxU64 t)
 
-pub number-overs : (l : List ℕ) (n : ℕ) → largest < n → numberFrom n l ≡ oversOf l
-number-overs [] n h = rw (lt-leb n largest h)
+pub number-overs : (l : List ℕ) (n : ℕ) → maxU64 < n → numberFrom n l ≡ oversOf l
+number-overs [] n h = rw (lt-leb n maxU64 h)
 number-overs (b ∷ l) n h = let e = number-overs l (10 * n + digitOf b) (omega arith) in rw e
 
 pub number-empty : (l : List ℕ) → length l ≡ 0 → Not ≡ numberIn l
@@ -93,8 +94,8 @@ number-start [] h = absurd (h refl)
 number-start (b ∷ l) h = refl
 
 -- the next digit makes the number too large, or it doesn't
-pub digit-past : (n d : ℕ) → (largest - d) / 10 < n → d ≤ 9 → largest < 10 * n + d
+pub digit-past : (n d : ℕ) → (maxU64 - d) / 10 < n → d ≤ 9 → maxU64 < 10 * n + d
 digit-past n d h l = omega arith
 
-pub digit-within : (n d : ℕ) → n ≤ (largest - d) / 10 → d ≤ 9 → 10 * n + d ≤ largest
+pub digit-within : (n d : ℕ) → n ≤ (maxU64 - d) / 10 → d ≤ 9 → 10 * n + d ≤ maxU64
 digit-within n d h l = omega arith

@@ -3,18 +3,15 @@ use Prim.Native.Nat.{ℕ, _+_, _-_, _*_}
 use mathlib.Core.Bool.{Bool, true, false}
 use mathlib.Core.List.{List, [], _∷_}
 use lib.Dec.{ltb, leb, eqb}
-use Rattle.choice.specs.Choice.{if_then_else_}
-use Rattle.signed.specs.Signed.{within, withSign}
+use Rattle.choice.specs.Choice.{if_then_else_, maxU64}
+use Rattle.signed.specs.Signed.{within}
 use Rattle.signed.specs.declared.Held.{Held}
 use Rattle.signed.specs.declared.Held.the-variants as held
+use Rattle.signed.specs.Steps.{withSign}
 use Rattle.steps.specs.declared.Number.{Number}
 use Rattle.steps.specs.declared.Number.the-variants.{Is, Large, Not}
 use Rattle.steps.specs.declared.Integer.{Integer}
 use Rattle.steps.specs.declared.Integer.the-variants as integer
-
--- the largest u64, 2^64 - 1
-abbrev pub largest : ℕ
-largest = 18446744073709551615
 
 -- a digit's value, and 10 for a byte that is no digit
 abbrev pub digitOf : ℕ → ℕ
@@ -22,7 +19,7 @@ digitOf b = if ltb b 48 then 10 else if ltb 57 b then 10 else b - 48
 
 -- the digits l after those of n
 abbrev pub numberFrom : ℕ → List ℕ → Number
-numberFrom n [] = if leb n largest then Is n else Large
+numberFrom n [] = if leb n maxU64 then Is n else Large
 numberFrom n (b ∷ l) = if ltb 9 (digitOf b) then Not else numberFrom (10 * n + digitOf b) l
 
 -- the same where n is too large already

@@ -1,5 +1,6 @@
 // One line of text as one step on a frame map: `row`, `cut`, `join`, `merge` or `origin` with its numbers. `#` begins a comment.
 // Words and numbers are public: other programs read their lines with them.
+use choice::MAX_U64;
 use signed::Held;
 ghost use mathlib.Core.Path.{_≡_};
 ghost use lib.ListN.{length, drop};
@@ -7,9 +8,6 @@ ghost use Prim.Native.Nat.{_≤_};
 ghost use Rattle.steps.specs.Words.{passing, leadingOf, sameAs, codeOf, trimmed, wordOf, restOf};
 ghost use Rattle.steps.specs.Numbers.{digitOf, oversOf, numberIn, signedAs, integerIn};
 ghost use Rattle.steps.specs.Steps.{endedBy, rowShift, rowCount, rowFirst, rowSource, cutEnd, cutStart, originFrame, keywordIn, stepIn, stepOf};
-
-// 2^64 - 1.
-const LARGEST: u64 = 0xffff_ffff_ffff_ffff;
 
 // Kinds of bytes: blanks between words, bytes of words, bytes before a comment.
 enum Kind {
@@ -174,7 +172,7 @@ pub fn number_of(l: &[u8]) -> Number
             return Number::Not;
         }
         i += 1;
-        if (LARGEST - d) / 10 < n {
+        if (MAX_U64 - d) / 10 < n {
             return overs(l, i);
         }
         n = 10 * n + d;

@@ -10,15 +10,16 @@ use lib.Dec.{leb}
 use lib.IntN.{ℤ, pos, negsuc, natAbs}
 use lib.Signed.{leZ}
 use borrow.Author.Tests.{le-leb, lt-leb, lt-ltb, le-ltb}
+use Rattle.choice.specs.Choice.{maxU64}
 use Rattle.choice.proofs.Tests.{tf, and-false}
 use Rattle.choice.proofs.Runs.{getD-run}
 use Rattle.rules.specs.declared.Checked.the-variants.{Frames, Refused}
-use Rattle.rules.specs.declared.Found.the-variants.{Index, NoIndex}
+use Rattle.rules.specs.declared.Lookup.the-variants.{Index, NoIndex}
 use Rattle.rules.specs.declared.Continued.the-variants.{Answer, NoAnswer}
-use Rattle.rules.specs.Limits.{maxU64, maxI64}
+use Rattle.rules.specs.Limits.{maxI64}
 use Rattle.rules.specs.Records.{Segment, noSegment, segment, outEnd, outEndUs}
 use Rattle.rules.specs.Rules.{negative, checkOf}
-use Rattle.rules.specs.Lookups.{count, ended, overBy, overByUs, found, segmentOfFrame, segmentOfTime, runsOn, continued, continuesAt}
+use Rattle.rules.specs.Lookups.{countSuch, ended, overBy, overByUs, lookedUp, segmentOfFrame, segmentOfTime, segmentRunsOn, continued, continuesAt}
 use Rattle.rules.specs.Steps.{endedBy, Ordered}
 use Rattle.rules.proofs.Accepted.{Accepted, accepted}
 use Rattle.rules.proofs.Search.{count-none, count-ended, ordered-same, frames-ordered, times-ordered}
@@ -38,11 +39,11 @@ module _ (s u : List ℕ) (t : List ℤ) (log : Bool) (text : List ℕ) where
   -- a table that is refused
   module _ {n i : ℕ} (e : checkOf (tableOf s u t log text) ≡ Refused n i) where
     pub frame-refused : (frame : ℕ) → NoIndex n i ≡ segmentOfFrame (tableOf s u t log text) frame
-    unfolding segmentOfFrame found
+    unfolding segmentOfFrame lookedUp
     frame-refused frame = rw e
 
     pub time-refused : (time : ℤ) → NoIndex n i ≡ segmentOfTime (tableOf s u t log text) time
-    unfolding segmentOfTime found
+    unfolding segmentOfTime lookedUp
     time-refused time = rw e
 
     pub continues-refused : (r : ℕ) → NoAnswer n i ≡ continuesAt (tableOf s u t log text) r
@@ -83,7 +84,7 @@ module _ (s u : List ℕ) (t : List ℤ) (log : Bool) (text : List ℕ) where
 
     -- the frame lookup
     pub frame-index : (frame : ℕ) → Index (min (endedBy (endAt u) (length u / 5) frame) (length u / 5 - 1)) ≡ segmentOfFrame (tableOf s u t log text) frame
-    unfolding segmentOfFrame found ended tableOf segmentsOf
+    unfolding segmentOfFrame lookedUp ended tableOf segmentsOf
     frame-index frame =
         rw (e, count-ended (overBy frame) (segmentAt u t) (endAt u) (length u / 5) frame (λ k h. refl), length-segments u t)
 
@@ -97,14 +98,14 @@ module _ (s u : List ℕ) (t : List ℤ) (log : Bool) (text : List ℕ) where
     over (negsuc n) h a = tf h
 
     pub time-before : (time : ℤ) → negative time ≡ true → Index 0 ≡ segmentOfTime (tableOf s u t log text) time
-    unfolding segmentOfTime found ended tableOf segmentsOf
+    unfolding segmentOfTime lookedUp ended tableOf segmentsOf
     time-before time h =
         rw (e, count-none (overByUs time) (segmentAt u t) (length u / 5) (λ k b. ap (λ (z : ℤ). leZ z time) (end-us k b) ∙ over-not time h (endUsAt t k)))
         (ap Index (omega arith))
 
     pub time-index : (time : ℤ) → negative time ≡ false
         → Index (min (endedBy (endUsAt t) (length u / 5) (natAbs time)) (length u / 5 - 1)) ≡ segmentOfTime (tableOf s u t log text) time
-    unfolding segmentOfTime found ended tableOf segmentsOf
+    unfolding segmentOfTime lookedUp ended tableOf segmentsOf
     time-index time h =
         rw (
           e,
@@ -121,7 +122,7 @@ module _ (s u : List ℕ) (t : List ℤ) (log : Bool) (text : List ℕ) where
     unfolding continuesAt continued
     continues-past r h = rw (e, table-length, le-ltb r (length u / 5) h, and-false (leb 1 r))
 
-    pub continues-here : (r : ℕ) → 1 ≤ r → r < length u / 5 → Answer (runsOn (segmentAt u t (r - 1)) (segmentAt u t r)) ≡ continuesAt (tableOf s u t log text) r
+    pub continues-here : (r : ℕ) → 1 ≤ r → r < length u / 5 → Answer (segmentRunsOn (segmentAt u t (r - 1)) (segmentAt u t r)) ≡ continuesAt (tableOf s u t log text) r
     unfolding continuesAt continued
     continues-here r l h =
         rw (e, table-length, le-leb 1 r l, lt-ltb r (length u / 5) h, segment-lent (r - 1) (omega arith), segment-lent r h)

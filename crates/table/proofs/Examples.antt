@@ -4,19 +4,20 @@ use mathlib.Core.Path.{_≡_, refl}
 use mathlib.Core.Bool.{true, false}
 use mathlib.Core.List.{List, [], _∷_, _++_, map}
 use lib.IntN.{ℤ, pos, negsuc}
-use Rattle.choice.specs.Choice.{when, orElse, past}
+use Rattle.choice.specs.Choice.{when, past}
 use Rattle.choice.specs.Records.{run, any, firstRefused, orRefused}
+use Rattle.choice.specs.Steps.{orElse}
 use Rattle.utc.specs.Utc.{two, days, utcBytes, utcSecond}
 use Rattle.rows.specs.declared.Row.{Row}
 use Rattle.rules.specs.declared.Checked.{Checked}
 use Rattle.rules.specs.declared.Checked.the-variants.{Frames, Refused}
-use Rattle.rules.specs.declared.Found.{Found}
-use Rattle.rules.specs.declared.Found.the-variants.{Index}
+use Rattle.rules.specs.declared.Lookup.{Lookup}
+use Rattle.rules.specs.declared.Lookup.the-variants.{Index}
 use Rattle.rules.specs.declared.Continued.{Continued}
 use Rattle.rules.specs.declared.Continued.the-variants.{Answer}
-use Rattle.rules.specs.Records.{Table, noSource, noSegment, total}
-use Rattle.rules.specs.Rules.{badSource, badSegment, malformed, sourceRefusal, timesOf, judged, segmentRefusal, start, endsOf, ends, segmentsFrom, frontRefusal, refusal, answered, checkOf}
-use Rattle.rules.specs.Lookups.{count, ended, found, segmentOfFrame, segmentOfTime, runsOn, continued, continuesAt}
+use Rattle.rules.specs.Records.{Table, noSource, noSegment, frameTotal}
+use Rattle.rules.specs.Rules.{badSource, badSegment, malformed, sourceRefusal, stampTimes, judged, segmentRefusal, start, endsOf, ends, segmentsFrom, frontRefusal, refusal, checkedOf, checkOf}
+use Rattle.rules.specs.Lookups.{countSuch, ended, lookedUp, segmentOfFrame, segmentOfTime, segmentRunsOn, continued, continuesAt}
 use Rattle.table.specs.Layout.{sourcesOf, segmentsOf, tableOf}
 use Rattle.table.specs.Rows.{rowOf, rowsOf}
 
@@ -134,7 +135,7 @@ checks =
     ∷ []
 
 -- frames 29, 30 and 50; times -5 and 1,200,000
-abbrev pub lookups : List (Case Found)
+abbrev pub lookups : List (Case Lookup)
 lookups =
     is (segmentOfFrame T 29) (Index 0)
     ∷ is (segmentOfFrame T 30) (Index 1)
@@ -162,5 +163,5 @@ abbrev pub row : ℕ → ℕ → ℕ → ℕ → Row
 row s f n o = record { source = s; first = f; count = n; out = o; flag = 0; shift = pos 0 }
 
 pub examples : Hold checks × Hold lookups × Hold follows × (rowsOf T ≡ row 0 10 30 0 ∷ row 1 5 20 30 ∷ [])
-unfolding when orElse past run any firstRefused orRefused two days utcBytes utcSecond noSource noSegment total badSource badSegment malformed sourceRefusal timesOf judged segmentRefusal start endsOf ends segmentsFrom frontRefusal refusal answered checkOf count ended found segmentOfFrame segmentOfTime runsOn continued continuesAt sourcesOf segmentsOf tableOf rowOf rowsOf
+unfolding when orElse past run any firstRefused orRefused two days utcBytes utcSecond noSource noSegment frameTotal badSource badSegment malformed sourceRefusal stampTimes judged segmentRefusal start endsOf ends segmentsFrom frontRefusal refusal checkedOf checkOf countSuch ended lookedUp segmentOfFrame segmentOfTime segmentRunsOn continued continuesAt sourcesOf segmentsOf tableOf rowOf rowsOf
 examples = (refl, refl, refl, refl)

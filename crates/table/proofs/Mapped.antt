@@ -8,14 +8,15 @@ use lib.ListN.{length, getD, length-map}
 use lib.Dec.{eqb}
 use borrow.Author.Tests.{eq-eqb, ne-eqb, lt-ltb, eqb-true, eqb-false}
 use Rattle.choice.proofs.Chains.{not-past}
-use Rattle.choice.specs.Choice.{when}
+use Rattle.choice.specs.Choice.{when, maxU64}
 use Rattle.choice.proofs.Tests.{decide}
-use Rattle.rows.specs.Rows.{largest, okShift, okRow, WellFrom}
+use Rattle.rows.specs.Rows.{okShift, okRow, WellFrom}
 use Rattle.rows.specs.Rows as rows
 use Rattle.rows.proofs.Flat.{rows-flat}
-use Rattle.rules.specs.Records.{Segment, Table, noSegment, segment, outEnd, total}
+use Rattle.rules.specs.Records.{Segment, Table, noSegment, segment, outEnd, frameTotal}
 use Rattle.rules.proofs.Accepted.{Accepted, accepted}
-use Rattle.table.specs.Rows.{rowOf, rowsOf, Mapped}
+use Rattle.table.specs.Rows.{rowOf, rowsOf}
+use Rattle.table.specs.Steps.{RowsAreMap}
 
 shift-ok : (e : Segment) → e .words .flag ≤ 1 → okShift (rowOf e) ≡ true
 unfolding rowOf when
@@ -27,8 +28,8 @@ shift-ok e h =
 -- what a segment has of its own
 record Good (e : Segment) : Type 0 where
   some : 0 < e .words .count
-  source : e .words .first + e .words .count ≤ largest
-  last : outEnd e ≤ largest
+  source : e .words .first + e .words .count ≤ maxU64
+  last : outEnd e ≤ maxU64
   flag : e .words .flag ≤ 1
 
 -- its row, where output frame p is next
@@ -37,8 +38,8 @@ unfolding rowOf
 row-ok p e g o =
     rw (
       lt-ltb 0 (e .words .count) (g .some),
-      not-past (e .words .first) (e .words .count) largest (g .source),
-      not-past (e .words .out) (e .words .count) largest (g .last),
+      not-past (e .words .first) (e .words .count) maxU64 (g .source),
+      not-past (e .words .out) (e .words .count) maxU64 (g .last),
       eq-eqb (e .words .out) p o,
     )
     (shift-ok e (g .flag))
@@ -54,13 +55,13 @@ rows-ok p (e ∷ l) g z n =
           (λ k b. n (suc k) (suc-le-suc b)),
     )
 
-rows-total : (l : List Segment) → rows.total (map rowOf l) ≡ total l
-unfolding total rowOf
+rows-total : (l : List Segment) → rows.total (map rowOf l) ≡ frameTotal l
+unfolding frameTotal rowOf
 rows-total [] = refl
 rows-total (e ∷ l) = ap (λ (n : ℕ). e .words .count + n) (rows-total l)
 
 -- of every table
-pub mapped : (t : Table) → Mapped t
+pub mapped : (t : Table) → RowsAreMap t
 unfolding rowsOf
 mapped t = record {
   well = λ N e. let a = accepted t N e in rows-ok 0 (t .segments) (good N a) (λ b. a .first) (λ k b. a .follows k b .frame);

@@ -21,7 +21,7 @@ use Rattle.rows.specs.Lent.{wordsOf, shiftsOf}
 use Rattle.rows.proofs.Flat.{length-shifts}
 use Rattle.rules.specs.declared.Checked.the-variants.{Frames, Refused}
 use Rattle.rules.specs.Records.{Segment, noSegment}
-use Rattle.rules.specs.Rules.{answered, checkOf}
+use Rattle.rules.specs.Rules.{checkedOf, checkOf}
 use Rattle.table.specs.declared.Filled.the-variants.{Rows, NoRows}
 use Rattle.table.specs.Layout.{wordsAt, segmentAt, segmentsOf, tableOf}
 use Rattle.table.specs.Rows.{rowOf, rowsOf, tooSmall, rowsRefusal, filled, Rowed}
@@ -83,13 +83,13 @@ module _ (u : List ℕ) (t : List ℤ) where
 pub has-room : (n nu ns : ℕ) → tooSmall n nu ns ≡ false → (n * 5 ≤ nu) × (n ≤ ns)
 has-room n nu ns e = let p = or-false (ltb nu (n * 5)) (ltb ns n) e in (ltb-false nu (n * 5) (p .0), ltb-false ns n (p .1))
 
-refused-is : (r : Refusal) (T n i : ℕ) → answered r T ≡ Refused n i → r ≡ At n i
-unfolding answered
+refused-is : (r : Refusal) (T n i : ℕ) → checkedOf r T ≡ Refused n i → r ≡ At n i
+unfolding checkedOf
 refused-is Never T n i e = absurd (let z : _≡_ {A = ℕ} 0 1 = cc in omega arith)
 refused-is (At m j) T n i e = let p : m ≡ n = cc in let q : j ≡ i = cc in rw (p, q)
 
-accepted-is : (r : Refusal) (T N : ℕ) → answered r T ≡ Frames N → r ≡ Never
-unfolding answered
+accepted-is : (r : Refusal) (T N : ℕ) → checkedOf r T ≡ Frames N → r ≡ Never
+unfolding checkedOf
 accepted-is Never T N e = refl
 accepted-is (At m j) T N e = absurd (let z : _≡_ {A = ℕ} 0 1 = cc in omega arith)
 

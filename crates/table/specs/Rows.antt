@@ -13,12 +13,8 @@ use Rattle.choice.specs.Records.{orRefused}
 use Rattle.slices.specs.Slices.{after}
 use Rattle.rows.specs.declared.Row.{Row}
 use Rattle.rows.specs.Lent.{wordsOf, shiftsOf}
-use Rattle.rows.specs.Lent as lent
-use Rattle.rows.specs.Rows.{WellFormed}
-use Rattle.rows.specs.Rows as rows
-use Rattle.rules.specs.declared.Checked.the-variants.{Frames}
 use Rattle.rules.specs.Records.{Segment, Table}
-use Rattle.rules.specs.Rules.{refusal, checkOf}
+use Rattle.rules.specs.Rules.{refusal}
 use Rattle.table.specs.declared.Filled.{Filled}
 use Rattle.table.specs.declared.Filled.the-variants.{Rows, NoRows}
 
@@ -59,11 +55,3 @@ pub record Rowed (t : Table) (ou : List ℕ) (os : List ℤ) (r : Filled) (ou′
   pub answer : r ≡ filled (rowsRefusal t (length ou) (length os)) (length (t .segments))
   pub words : ou′ ≡ after (rowsRefusal t (length ou) (length os)) (wordsOf (rowsOf t)) ou
   pub shifts : os′ ≡ after (rowsRefusal t (length ou) (length os)) (shiftsOf (rowsOf t)) os
-
--- the rows of an accepted table of N frames are a well-formed map of N frames, one row a segment; `mapped`, in proofs/Mapped.antt, proves it of every table
-pub record Mapped (t : Table) : Type 0 where
-  pub well : (N : ℕ) → checkOf t ≡ Frames N → WellFormed (rowsOf t)
-  pub frames : (N : ℕ) → checkOf t ≡ Frames N → rows.total (rowsOf t) ≡ N
-  pub each : length (rowsOf t) ≡ length (t .segments)
-  -- the words and shifts that are written, lent as a map again, are these rows
-  pub read : lent.rows (wordsOf (rowsOf t)) (shiftsOf (rowsOf t)) ≡ rowsOf t

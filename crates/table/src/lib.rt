@@ -3,7 +3,7 @@ use choice::Refusal;
 use rules::Checked;
 use rules::Continued;
 use rules::Ends;
-use rules::Found;
+use rules::Lookup;
 use rules::Source;
 use rules::Times;
 use rules::Turn;
@@ -15,9 +15,10 @@ ghost use Prim.Native.Nat.{_+_, _-_, _*_, _/_, _≤_, _<_, min};
 ghost use lib.ListN.{length, getD};
 ghost use lib.IntN.{ℤ, pos, natAbs};
 ghost use Rattle.choice.specs.Records.{any, firstRefused};
-ghost use Rattle.rules.specs.Limits.{maxU64, maxI64};
-ghost use Rattle.rules.specs.Rules.{negative, badSource, badSegment, sourceRefusal, timesOf, frontRefusal, checkOf};
-ghost use Rattle.rules.specs.Lookups.{segmentOfFrame, segmentOfTime, sameShift, runsOn, continuesAt};
+ghost use Rattle.choice.specs.Choice.{maxU64};
+ghost use Rattle.rules.specs.Limits.{maxI64};
+ghost use Rattle.rules.specs.Rules.{negative, badSource, badSegment, sourceRefusal, stampTimes, frontRefusal, checkOf};
+ghost use Rattle.rules.specs.Lookups.{segmentOfFrame, segmentOfTime, sameShift, segmentRunsOn, continuesAt};
 ghost use Rattle.rules.specs.Steps.{turnOf, walked, endedBy, Ordered};
 ghost use Rattle.table.specs.Layout.{sourceWords, segmentWords, segmentStamps, sourceAt, wordsAt, stampsAt, segmentAt, sourcesOf, segmentsOf, badLengths, tableOf};
 ghost use Rattle.slices.specs.Slices.{laid};
@@ -102,7 +103,7 @@ fn plain_at(t: &[i64], i: usize) -> u64
 // Whether any of the six times of segment k is negative.
 fn negative_times_at(t: &[i64], k: usize) -> bool
     requires { ⌜ k * segmentStamps + segmentStamps ≤ length (now t) ⌝ }
-    ensures { λ r. ⌜ r ≡ timesOf (stampsAt (now (t .entry)) k) .negative ⌝ }
+    ensures { λ r. ⌜ r ≡ stampTimes (stampsAt (now (t .entry)) k) .negative ⌝ }
 {
     let d = k * STAMPS;
     let a = negative_at(t, d) | negative_at(t, d + 1);
@@ -113,8 +114,8 @@ fn negative_times_at(t: &[i64], k: usize) -> bool
 
 // What the signed words of segment k say, whether or not a time is negative.
 fn any_times_at(t: &[i64], k: usize, negative: bool) -> Times
-    requires { ⌜ (k * segmentStamps + segmentStamps ≤ length (now t)) × (negative ≡ timesOf (stampsAt (now t) k) .negative) ⌝ }
-    ensures { λ r. ⌜ r ≡ timesOf (stampsAt (now (t .entry)) k) ⌝ }
+    requires { ⌜ (k * segmentStamps + segmentStamps ≤ length (now t)) × (negative ≡ stampTimes (stampsAt (now t) k) .negative) ⌝ }
+    ensures { λ r. ⌜ r ≡ stampTimes (stampsAt (now (t .entry)) k) ⌝ }
 {
     let d = k * STAMPS;
     Times {
@@ -133,7 +134,7 @@ fn any_times_at(t: &[i64], k: usize, negative: bool) -> Times
 // What the signed words of segment k say. Where no time is negative, as in every accepted table, its words are its numbers.
 fn times_at(t: &[i64], k: usize) -> Times
     requires { ⌜ k * segmentStamps + segmentStamps ≤ length (now t) ⌝ }
-    ensures { λ r. ⌜ r ≡ timesOf (stampsAt (now (t .entry)) k) ⌝ }
+    ensures { λ r. ⌜ r ≡ stampTimes (stampsAt (now (t .entry)) k) ⌝ }
 {
     let d = k * STAMPS;
     let negative = negative_times_at(t, k);
@@ -367,12 +368,12 @@ pub fn segment_of_frame(
     log: bool,
     text: &[u8],
     frame: u64,
-) -> Found
+) -> Lookup
     ensures { λ r. ⌜ r ≡ segmentOfFrame (tableOf (now (sources .entry)) (now (u .entry)) (now (t .entry)) log (now (text .entry))) frame ⌝ }
 {
     match check(sources, u, t, log, text) {
-        Checked::Refused(n, i) => Found::NoIndex(n, i),
-        Checked::Frames(_) => Found::Index(at_most(ended(u, frame), u.len() / WORDS - 1)),
+        Checked::Refused(n, i) => Lookup::NoIndex(n, i),
+        Checked::Frames(_) => Lookup::Index(at_most(ended(u, frame), u.len() / WORDS - 1)),
     }
 }
 
@@ -384,18 +385,18 @@ pub fn segment_of_time_us(
     log: bool,
     text: &[u8],
     time: i64,
-) -> Found
+) -> Lookup
     ensures { λ r. ⌜ r ≡ segmentOfTime (tableOf (now (sources .entry)) (now (u .entry)) (now (t .entry)) log (now (text .entry))) time ⌝ }
 {
     match check(sources, u, t, log, text) {
-        Checked::Refused(n, i) => return Found::NoIndex(n, i),
+        Checked::Refused(n, i) => return Lookup::NoIndex(n, i),
         Checked::Frames(_) => {}
     }
     if signed::negative(time) {
-        return Found::Index(0);
+        return Lookup::Index(0);
     }
     let n = u.len() / WORDS;
-    Found::Index(at_most(ended_us(t, n, signed::magnitude(time)), n - 1))
+    Lookup::Index(at_most(ended_us(t, n, signed::magnitude(time)), n - 1))
 }
 
 // Whether two shifts are equal; both absent counts as equal.
@@ -408,7 +409,7 @@ fn same_shift(flag: u64, shift: i64, other: u64, second: i64) -> bool
 // Whether segment r continues the one before it.
 fn runs_on(u: &[u64], t: &[i64], r: usize) -> bool
     requires { ⌜ (0 < r) × (r * segmentWords + segmentWords ≤ length (now u)) × (r * segmentStamps + segmentStamps ≤ length (now t)) × (wordsAt (now u) (r - 1) .first + wordsAt (now u) (r - 1) .count ≤ maxU64) ⌝ }
-    ensures { λ b. ⌜ b ≡ runsOn (segmentAt (now (u .entry)) (now (t .entry)) (r - 1)) (segmentAt (now (u .entry)) (now (t .entry)) r) ⌝ }
+    ensures { λ b. ⌜ b ≡ segmentRunsOn (segmentAt (now (u .entry)) (now (t .entry)) (r - 1)) (segmentAt (now (u .entry)) (now (t .entry)) r) ⌝ }
 {
     let p = words_at(u, r - 1);
     let e = words_at(u, r);

@@ -13,8 +13,9 @@ use mir.Facts.{toZ-pos}
 use borrow.Author.Tests.{eq-eqb, ne-eqb, lt-ltb, le-ltb}
 use Rattle.choice.specs.Choice.{when}
 use Rattle.signed.specs.declared.Held.the-variants.{Is, Outside}
-use Rattle.signed.specs.Signed.{I64, within, withSign}
+use Rattle.signed.specs.Signed.{within}
 use Rattle.signed.specs.Rounded.{nearest, rounded}
+use Rattle.signed.specs.Steps.{I64, withSign}
 use Rattle.signed.proofs.Bits.{read, reads}
 use Rattle.signed.proofs.Quotients.{halves}
 use Rattle.signed.proofs.Ranges.{in-range}
@@ -24,8 +25,8 @@ use Rattle.wide.specs.Value.{value, number}
 use Rattle.wide.proofs.Rooms.{lt-eq}
 use Rattle.ticks.specs.declared.Us.the-variants.{At, Refused}
 use Rattle.ticks.specs.Nearest.{rounded-neg}
-use Rattle.ticks.specs.Ticks.{largestScale, scaleOver, noTime, microsOf, usOf, ticksToUs, bigOf}
-use Rattle.ticks.specs.Steps.{smallTicks}
+use Rattle.ticks.specs.Ticks.{largestScale, scaleOver, noTime, microsOf, usOf, ticksToUs}
+use Rattle.ticks.specs.Steps.{smallTicks, bigOf}
 
 -- an i64 in two words is the same number, and small
 pub big-number : (x : ℤ) → number (bigOf x) ≡ x

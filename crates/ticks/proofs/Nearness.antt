@@ -9,8 +9,8 @@ use lib.Dec.{leb, lit<, lit≤}
 use lib.IntN.{ℤ, pos, negsuc, negℤ, natAbs, _+ℤ_, _-ℤ_, _*ℤ_, negℤ-negℤ, negℤ-+ℤ, +ℤ-comm, *ℤ-comm}
 use lib.Signed.{leZ, ltZ}
 use borrow.Author.Tests.{lt-ltb, le-ltb, lt-leb}
+use Rattle.signed.specs.Steps.{withSign}
 use Rattle.choice.proofs.Tests.{tf, le-or-lt, same-leb}
-use Rattle.signed.specs.Signed.{withSign}
 use Rattle.signed.proofs.Signs.{sign-mag, sign-times}
 use Rattle.wide.specs.declared.Wide.{Wide}
 use Rattle.wide.specs.Value.{value}

@@ -1,7 +1,9 @@
 -- What the private steps ask and promise.
 use mathlib.Core.Path.{_≡_}
 use Prim.Native.Nat.{ℕ, _^_, _<_}
-use lib.IntN.{ℤ, pos, _-ℤ_}
+use lib.IntN.{ℤ, pos, natAbs, _-ℤ_}
+use lib.Signed.{ltZ}
+use Rattle.wide.specs.declared.Big.{Big}
 use Rattle.wide.specs.Value.{value}
 use Rattle.ticks.specs.declared.Allowance.{Allowance}
 
@@ -21,3 +23,7 @@ pub record Room (a b plus minus : ℕ) : Type 0 where
   pub b-lt : b < 2 ^ 118
   pub plus-lt : plus < 2 ^ 118
   pub minus-lt : minus < 2 ^ 118
+
+-- an i64 as a sign and a magnitude of two words
+abbrev pub bigOf : ℤ → Big
+bigOf x = record { neg = ltZ x (pos 0); mag = record { hi = 0; lo = natAbs x } }

@@ -3,13 +3,12 @@ use Prim.Native.Nat.{ℕ, _+_, _*_, _/_, _^_}
 use mathlib.Core.Bool.{Bool}
 use lib.Dec.{eqb, ltb}
 use lib.IntN.{ℤ, pos, natAbs, _+ℤ_, _-ℤ_, _*ℤ_}
-use lib.Signed.{leZ, ltZ}
+use lib.Signed.{leZ}
 use Rattle.choice.specs.Choice.{if_then_else_, when}
 use Rattle.signed.specs.declared.Held.{Held}
 use Rattle.signed.specs.declared.Held.the-variants.{Is, Outside}
 use Rattle.signed.specs.Signed.{within}
 use Rattle.signed.specs.Rounded.{rounded}
-use Rattle.wide.specs.declared.Big.{Big}
 use Rattle.ticks.specs.declared.Us.{Us}
 use Rattle.ticks.specs.declared.Us.the-variants.{At, Refused}
 use Rattle.ticks.specs.declared.MediaTicks.{MediaTicks}
@@ -48,7 +47,3 @@ editTicks duration timescale movie = (duration * timescale + movie / 2) / movie
 -- the same where an i64 holds it
 unfoldable pub mediaTicks : ℕ → ℕ → ℕ → MediaTicks
 mediaTicks duration timescale movie = if ltb (editTicks duration timescale movie) (2 ^ 63) then Are (editTicks duration timescale movie) else Beyond
-
--- an i64 as a sign and a magnitude of two words
-abbrev pub bigOf : ℤ → Big
-bigOf x = record { neg = ltZ x (pos 0); mag = record { hi = 0; lo = natAbs x } }

@@ -15,7 +15,8 @@ use lib.Dec.{ltb, eqb}
 use borrow.Author.Tests.{lt-ltb, le-ltb, eq-eqb, ne-eqb, ltb-true, le-leb}
 use Rattle.choice.specs.Choice.{if_then_else_}
 use Rattle.choice.proofs.Tests.{either, tf}
-use Rattle.signed.specs.Signed.{I64, eqZ}
+use Rattle.signed.specs.Signed.{eqZ}
+use Rattle.signed.specs.Steps.{I64}
 use Rattle.signed.proofs.Order.{eqZ-yes, eqZ-no}
 use Rattle.ticks.specs.Ticks.{editTicks, mediaTicks}
 use Rattle.ticks.specs.declared.MediaTicks.{MediaTicks}

@@ -14,7 +14,7 @@ use Rattle.boxes.specs.Bytes.{be32At}
 use Rattle.tracks.specs.declared.Rows.{Rows}
 use Rattle.tracks.specs.declared.Rows.the-variants.{Whole, Torn}
 use Rattle.tracks.specs.Steps.{Spread}
-use Rattle.tracks.specs.Tables.{Entry, rowsOf, optionalRows, entriesFrom, entriesOf, total, perFrame, durations}
+use Rattle.tracks.specs.Tables.{Entry, tableRows, optionalRows, entriesFrom, entriesOf, entryTotal, perFrame, durations}
 
 -- one entry more
 entries-step : (n : ℕ) (p : List ℕ) (at : ℕ) → (n ≡ 0 → ⊥)
@@ -32,16 +32,16 @@ per-frame-none : (n : ℕ) (p : List ℕ) (at : ℕ) → n ≡ 0 → perFrame (e
 unfolding perFrame entriesFrom
 per-frame-none n p at h = rw h
 
-pub total-step : (n : ℕ) (p : List ℕ) (at : ℕ) → (n ≡ 0 → ⊥) → total (entriesFrom n p at) ≡ be32At p at + total (entriesFrom (n - 1) p (at + 8))
-unfolding total
+pub total-step : (n : ℕ) (p : List ℕ) (at : ℕ) → (n ≡ 0 → ⊥) → entryTotal (entriesFrom n p at) ≡ be32At p at + entryTotal (entriesFrom (n - 1) p (at + 8))
+unfolding entryTotal
 total-step n p at h = rw (entries-step n p at h)
 
-pub total-none : (n : ℕ) (p : List ℕ) (at : ℕ) → n ≡ 0 → total (entriesFrom n p at) ≡ 0
-unfolding total entriesFrom
+pub total-none : (n : ℕ) (p : List ℕ) (at : ℕ) → n ≡ 0 → entryTotal (entriesFrom n p at) ≡ 0
+unfolding entryTotal entriesFrom
 total-none n p at h = rw h
 
-pub length-per-frame : (es : List Entry) → length (perFrame es) ≡ total es
-unfolding perFrame total
+pub length-per-frame : (es : List Entry) → length (perFrame es) ≡ entryTotal es
+unfolding perFrame entryTotal
 length-per-frame [] = refl
 length-per-frame (e ∷ es) = length-append (replicate (e .count) (e .value)) (perFrame es) ∙ (λ i. length-replicate (e .count) (e .value) i + length-per-frame es i)
 
@@ -72,7 +72,7 @@ pub record Laying (p : List ℕ) (n most : ℕ) (out₀ out : List ℤ) (sum lef
   pub long : length out ≡ length out₀
   pub there : left * 8 ≤ length p - at
   pub under : sum ≤ most
-  pub sums : sum + total (entriesFrom left p at) ≡ total (entriesOf n p)
+  pub sums : sum + entryTotal (entriesFrom left p at) ≡ entryTotal (entriesOf n p)
   pub done : List ℕ
   pub is : done ++ perFrame (entriesFrom left p at) ≡ durations n p
   pub count : length done ≡ sum
@@ -95,7 +95,7 @@ map-replicate f (suc n) x = ap (λ l. f x ∷ l) (map-replicate f n x)
 
 module _ (p : List ℕ) (n most : ℕ) (out₀ out : List ℤ) (sum left at : ℕ) (h : Laying p n most out₀ out sum left at) (some : left ≡ 0 → ⊥) (c v : ℕ) (ec : c ≡ be32At p at) (ev : v ≡ be32At p (at + 4)) where
   -- over the most
-  pub lay-more : most - sum < c → most + 1 ≡ min (total (entriesOf n p)) (most + 1)
+  pub lay-more : most - sum < c → most + 1 ≡ min (entryTotal (entriesOf n p)) (most + 1)
   lay-more l = omega (arith, h .sums, h .under, total-step left p at some)
 
   module _ (fits : c ≤ most - sum) where
@@ -143,8 +143,8 @@ abbrev Optional : ℕ → Rows → Type 0
 Optional l Torn = Unit {0}
 Optional l (Whole n) = n * 8 ≤ l - 8
 
-there : (p : List ℕ) → There (length p) (rowsOf p)
-unfolding rowsOf
+there : (p : List ℕ) → There (length p) (tableRows p)
+unfolding tableRows
 there p =
     either (There (length p)) (ltb (length p) 8) (λ h. tt)
     (λ h. either (There (length p)) (ltb (length p) (be32At p 4 * 8 + 8)) (λ k. tt) (λ k. ltb-false (length p) (be32At p 4 * 8 + 8) k))
@@ -155,10 +155,10 @@ loosen l (Whole n) h = omega arith
 
 optional : (p : List ℕ) → Optional (length p) (optionalRows p)
 unfolding optionalRows
-optional p = either (Optional (length p)) (ltb (length p) 4) (λ h. omega arith) (λ h. loosen (length p) (rowsOf p) (there p))
+optional p = either (Optional (length p)) (ltb (length p) 4) (λ h. omega arith) (λ h. loosen (length p) (tableRows p) (there p))
 
-pub rows-there : (p : List ℕ) (n : ℕ) → rowsOf p ≡ Whole n → n * 8 ≤ length p - 8
-rows-there p n e = subst (Optional (length p)) e (loosen (length p) (rowsOf p) (there p))
+pub rows-there : (p : List ℕ) (n : ℕ) → tableRows p ≡ Whole n → n * 8 ≤ length p - 8
+rows-there p n e = subst (Optional (length p)) e (loosen (length p) (tableRows p) (there p))
 
 pub optional-there : (p : List ℕ) (n : ℕ) → optionalRows p ≡ Whole n → n * 8 ≤ length p - 8
 optional-there p n e = subst (Optional (length p)) e (optional p)

@@ -6,11 +6,11 @@ use lib.ListN.{length, getD, drop, replicate}
 use lib.IntN.{ℤ, pos}
 use lib.Signed.{leZ}
 use mathlib.Core.Bool.{true}
-use Rattle.signed.specs.Signed.{I64}
+use Rattle.signed.specs.Steps.{I64}
 use Rattle.slices.specs.Slices.{laid}
 use Rattle.tracks.specs.declared.Cursor.{Cursor}
 use Rattle.tracks.specs.declared.Edit.{Edit}
-use Rattle.tracks.specs.Tables.{entriesFrom, entriesOf, total, perFrame, durations}
+use Rattle.tracks.specs.Tables.{entriesFrom, entriesOf, entryTotal, perFrame, durations}
 
 -- the values of the frames that a walk hasn't passed
 abbrev pub rest : List ℕ → Cursor → List ℕ
@@ -32,7 +32,7 @@ pub record Next (p : List ℕ) (c r : Cursor) : Type 0 where
 
 -- r is how many frames a table's n entries are for, but no more than most + 1; where out has room for them, their values are laid over it
 pub record Spread (p : List ℕ) (n most r : ℕ) (before after : List ℤ) : Type 0 where
-  pub frames : r ≡ min (total (entriesOf n p)) (most + 1)
+  pub frames : r ≡ min (entryTotal (entriesOf n p)) (most + 1)
   pub laid : r ≤ most → r ≤ length before → after ≡ laid (map pos (durations n p)) before
 
 -- an edit as an edit list gives it: its end and its empty ticks aren't below 0, and an i64 holds them

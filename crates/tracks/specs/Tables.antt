@@ -19,12 +19,12 @@ unfoldable pub scaleOf : List ℕ → ℕ
 scaleOf p = if ltb (length p) 4 then 0 else if eqb (getD p 0 0) 1 then scaleAt p (4 + 16) else scaleAt p (4 + 8)
 
 -- how many entries a stts or ctts has: after version and flags four bytes say, and so many entries of 8 bytes follow
-unfoldable pub rowsOf : List ℕ → Rows
-rowsOf p = if ltb (length p) 8 then Torn else if ltb (length p) (be32At p 4 * 8 + 8) then Torn else Whole (be32At p 4)
+unfoldable pub tableRows : List ℕ → Rows
+tableRows p = if ltb (length p) 8 then Torn else if ltb (length p) (be32At p 4 * 8 + 8) then Torn else Whole (be32At p 4)
 
 -- the same of a table that may be absent, as one under 4 bytes is
 unfoldable pub optionalRows : List ℕ → Rows
-optionalRows p = if ltb (length p) 4 then Whole 0 else rowsOf p
+optionalRows p = if ltb (length p) 4 then Whole 0 else tableRows p
 
 -- an entry: how many frames it is for, and their value
 pub record Entry : Type 0 where
@@ -37,9 +37,9 @@ entriesFrom zero p at = []
 entriesFrom (suc n) p at = record { count = be32At p at; value = be32At p (at + 4) } ∷ entriesFrom n p (at + 8)
 
 -- how many frames they are for
-unfoldable pub total : List Entry → ℕ
-total [] = 0
-total (e ∷ es) = e .count + total es
+unfoldable pub entryTotal : List Entry → ℕ
+entryTotal [] = 0
+entryTotal (e ∷ es) = e .count + entryTotal es
 
 -- a value for each of these frames
 unfoldable pub perFrame : List Entry → List ℕ

@@ -5,7 +5,7 @@ use boxes::read::be32;
 ghost use mathlib.Core.Path.{_≡_};
 ghost use Prim.Native.Nat.{_+_, _-_, _*_, _≤_};
 ghost use lib.ListN.{length, replicate};
-ghost use Rattle.tracks.specs.Tables.{scaleAt, scaleOf, rowsOf, optionalRows, offsetOf};
+ghost use Rattle.tracks.specs.Tables.{scaleAt, scaleOf, tableRows, optionalRows, offsetOf};
 ghost use Rattle.tracks.specs.Steps.{atFirst, Next, Spread};
 
 // The timescale at at; 0 where it isn't whole.
@@ -34,7 +34,7 @@ pub fn scale(p: &[u8]) -> u32
 
 // How many entries a table has: one length tells whether they are all there.
 pub fn count_rows(p: &[u8]) -> Rows
-    ensures { λ r. ⌜ r ≡ rowsOf (now (p .entry)) ⌝ }
+    ensures { λ r. ⌜ r ≡ tableRows (now (p .entry)) ⌝ }
 {
     if p.len() < 8 {
         return Rows::Torn;

@@ -38,14 +38,14 @@ abbrev pub dated : ℕ → ℕ → ℕ → Bool
 dated y m d = (leb 1 m && leb m 12) && (leb 1 d && leb d (days y m))
 
 -- a time of day, with no leap second
-abbrev pub timed : ℕ → ℕ → ℕ → Bool
-timed h m s = (ltb h 24 && ltb m 60) && ltb s 60
+abbrev pub timeOfDay : ℕ → ℕ → ℕ → Bool
+timeOfDay h m s = (ltb h 24 && ltb m 60) && ltb s 60
 
 -- the rule for 20 bytes
 unfoldable pub utcBytes : List ℕ → Bool
 utcBytes b =
     (marks b && allFigures b)
-    && (dated (two b 0 * 100 + two b 2) (two b 5) (two b 8) && timed (two b 11) (two b 14) (two b 17))
+    && (dated (two b 0 * 100 + two b 2) (two b 5) (two b 8) && timeOfDay (two b 11) (two b 14) (two b 17))
 
 -- the UTC rule, of any bytes
 unfoldable pub utcSecond : List ℕ → Bool

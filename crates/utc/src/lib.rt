@@ -2,7 +2,7 @@
 ghost use mathlib.Core.Path.{_≡_};
 ghost use Prim.Native.Nat.{_+_, _*_, _-_, _<_};
 ghost use lib.ListN.{length};
-ghost use Rattle.utc.specs.Utc.{figures, two, allFigures, marks, leap, days, dated, timed, utcBytes, utcSecond};
+ghost use Rattle.utc.specs.Utc.{figures, two, allFigures, marks, leap, days, dated, timeOfDay, utcBytes, utcSecond};
 
 // What a figure is worth; 0 for a byte below `0`, which no answer rests on.
 fn value(c: u8) -> u64
@@ -73,7 +73,7 @@ fn is_dated(y: u64, m: u64, d: u64) -> bool
 
 // Whether there is such a time of day.
 fn is_timed(h: u64, m: u64, s: u64) -> bool
-    ensures { λ r. ⌜ r ≡ timed h m s ⌝ }
+    ensures { λ r. ⌜ r ≡ timeOfDay h m s ⌝ }
 {
     ((h < 24) & (m < 60)) & (s < 60)
 }

@@ -5,7 +5,8 @@ use denote.Ref.{now}
 use lib.ListN.{length, take, drop}
 use borrow.Author.Tests.{lt-ltb, le-ltb}
 use borrow.Author.Needs.{needs}
-use Rattle.boxes.specs.Places.{findBoxPlace, Within}
+use Rattle.boxes.specs.Places.{findBoxPlace}
+use Rattle.boxes.specs.Steps.{Within}
 use Rattle.boxes.proofs.Within.{search-within, movable}
 use Rattle.boxes.proofs.find_box_place.Statement.{statement}
 use Rattle.boxes.proofs.find_box_place.Tie as tie

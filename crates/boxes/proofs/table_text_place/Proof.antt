@@ -9,7 +9,8 @@ use borrow.Author.Tests.{lt-ltb, le-ltb}
 use borrow.Author.Needs.{needs}
 use Rattle.boxes.specs.Bytes.{moov}
 use Rattle.boxes.specs.Boxes.{boxesOf, textual, firstOf}
-use Rattle.boxes.specs.Places.{Within, tableTextPlace}
+use Rattle.boxes.specs.Places.{tableTextPlace}
+use Rattle.boxes.specs.Steps.{Within}
 use Rattle.boxes.proofs.Parts.{missed, hit}
 use Rattle.boxes.proofs.Within.{search-within, fits-in, table-of-within, movable}
 use Rattle.boxes.proofs.table_text_place.Statement.{statement}

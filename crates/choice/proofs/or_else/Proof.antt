@@ -1,4 +1,4 @@
-use Rattle.choice.specs.Choice.{orElse}
+use Rattle.choice.specs.Steps.{orElse}
 use Rattle.choice.proofs.Chains.{orElse-kept}
 use borrow.Author.Needs.{needs}
 use Rattle.choice.proofs.or_else.Statement.{statement}

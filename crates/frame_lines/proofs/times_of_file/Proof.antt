@@ -6,10 +6,11 @@ use native.Mathlib.Nat.{add-sub-cancel-left}
 use native.Mathlib.Omega.{arith}
 use lib.ListN.{length, take, drop}
 use Rattle.boxes.specs.Bytes.{moov}
-use Rattle.boxes.specs.Places.{Within, findBoxPlace}
+use Rattle.boxes.specs.Places.{findBoxPlace}
 use Rattle.boxes.specs.declared.Place.{Place}
+use Rattle.boxes.specs.Steps.{Within}
 use Rattle.boxes.proofs.Within.{find-box-within}
-use Rattle.frame_times.specs.Times.{Outcome, room, timesOf}
+use Rattle.frame_times.specs.Times.{Outcome, room, timesOfMoov}
 use Rattle.frame_times.proofs.TrackLaws.{answered-as}
 use Rattle.frame_lines.specs.Files.{moovTimes}
 use borrow.Author.Needs.{needs}
@@ -44,7 +45,7 @@ returns c =
     let v = c .before .before .before .video-frame-times-of-moov .ensures in
     answered-as
     (ap (by-place s) (sym (place-is (p .before .before)) ∙ p .p .given .1)
-    ∙ ap (λ n. timesOf (take n (drop (p .p .given .0 .0) (file s))) (room (s .args .starts .now) (s .args .«work-a» .now) (s .args .«work-b» .now))) (sym (add-sub-cancel-left (p .p .given .0 .0) (p .p .given .0 .1 .0))))
+    ∙ ap (λ n. timesOfMoov (take n (drop (p .p .given .0 .0) (file s))) (room (s .args .starts .now) (s .args .«work-a» .now) (s .args .«work-b» .now))) (sym (add-sub-cancel-left (p .p .given .0 .0) (p .p .given .0 .1 .0))))
     (record { answer = v .answer; starts = v .starts })
 
 returns-2 : tie.Need-returns-2

@@ -1,13 +1,13 @@
 use mathlib.Core.Path.{_≡_, sym, ap, _∙_, subst}
 use mathlib.Core.Bool.{true, false}
 use native.Mathlib.Omega.{arith}
-use Rattle.signed.specs.Signed.{I64}
+use Rattle.signed.specs.Steps.{I64}
 use Rattle.signed.proofs.Bits.{reads, fits-of}
 use Rattle.ticks.specs.Ticks.{endsNear}
 use Rattle.rules.specs.Records.{Segment, outEnd, outEndUs}
 use Rattle.table.specs.Layout.{segmentsOf}
 use Rattle.judge.specs.Video.{shownBy}
-use Rattle.judge.specs.Judge.{lastOf}
+use Rattle.judge.specs.Judge.{lastSegment}
 use Rattle.judge.proofs.Lent.{last-lent}
 use Rattle.judge.proofs.Chains.{no-video, over-limit, other-count, wrong-start, far, fits}
 use borrow.Author.Needs.{needs}
@@ -22,10 +22,10 @@ given c = sym (c .before .is-given .ensures (c .before .before .before .args .st
 within : (c : tie.Else2) → shownBy (c .before .before .before .before .before .args .video) (c .before .before .before .before .before .args .starts .now) .over ≡ false
 within c = sym (c .before .is-over .ensures) ∙ c .if2 .left
 
-counted : (c : tie.Else3) → outEnd (lastOf (segmentsOf (c .before .before .before .before .before .before .before .args .u .now) (c .before .before .before .before .before .before .before .args .t .now))) ≡ shownBy (c .before .before .before .before .before .before .before .args .video) (c .before .before .before .before .before .before .before .args .starts .now) .frames
+counted : (c : tie.Else3) → outEnd (lastSegment (segmentsOf (c .before .before .before .before .before .before .before .args .u .now) (c .before .before .before .before .before .before .before .args .t .now))) ≡ shownBy (c .before .before .before .before .before .before .before .args .video) (c .before .before .before .before .before .before .before .args .starts .now) .frames
 counted c = c .before .before .before .before .before .before .before .pre .frames ∙ c .if3 .left ∙ c .before .frame-count .ensures
 
-near-is : (c : tie.After-is-near) → (let s = c .before .before .before .before .before .before .before .before .before .before .before .before in let v = shownBy (s .args .video) (s .args .starts .now) in c .is-near .result ≡ endsNear (outEndUs (lastOf (segmentsOf (s .args .u .now) (s .args .t .now)))) (v .end) (v .nominal) (v .scale))
+near-is : (c : tie.After-is-near) → (let s = c .before .before .before .before .before .before .before .before .before .before .before .before in let v = shownBy (s .args .video) (s .args .starts .now) in c .is-near .result ≡ endsNear (outEndUs (lastSegment (segmentsOf (s .args .u .now) (s .args .t .now)))) (v .end) (v .nominal) (v .scale))
 near-is c =
     let s = c .before .before .before .before .before .before .before .before .before .before .before .before in
     let v = shownBy (s .args .video) (s .args .starts .now) in

@@ -3,8 +3,9 @@ use mathlib.Core.Path.{_≡_, ap}
 use native.Mathlib.Omega.{arith}
 use lib.ListN.{length}
 use Rattle.choice.specs.Records.{run}
+use Rattle.choice.specs.Choice.{maxU64}
 use Rattle.choice.proofs.Tests.{called}
-use Rattle.rows.specs.Rows.{largest, merge, mergeInto}
+use Rattle.rows.specs.Rows.{merge, mergeInto}
 use Rattle.rows.specs.Lent.{rowAt, rows}
 use Rattle.maps.proofs.Spans.{row-source}
 use Rattle.maps.proofs.Written.{merge-start, merge-glues, merge-parts, merge-end, glue-fits}
@@ -12,7 +13,7 @@ use Rattle.maps.proofs.count_merge.Statement.{statement}
 use Rattle.maps.proofs.count_merge.Tie as tie
 
 abbrev Inv-loop : tie.InvT-loop
-Inv-loop u s c₀ w₀ i₀ c w i = (i ≤ length s) × (w < i) × (c .first + c .count ≤ largest) × (w + length (mergeInto c (run (rowAt u s) i (length s - i))) ≡ length (merge (rows u s)))
+Inv-loop u s c₀ w₀ i₀ c w i = (i ≤ length s) × (w < i) × (c .first + c .count ≤ maxU64) × (w + length (mergeInto c (run (rowAt u s) i (length s - i))) ≡ length (merge (rows u s)))
 
 abbrev μ-loop : tie.MeasureT-loop
 μ-loop u s c₀ w₀ i₀ c w i = length s - i

@@ -1,10 +1,10 @@
 use Prim.Native.Nat.{ℕ}
 use mathlib.Core.Path.{_≡_, _∙_, ap₂}
 use borrow.Author.Tests.{not-true, not-false}
-use Rattle.choice.specs.Choice.{past}
+use Rattle.choice.specs.Choice.{past, maxU64}
 use Rattle.choice.specs.declared.Refusal.the-variants.{Never}
 use Rattle.choice.proofs.Tests.{called}
-use Rattle.rows.specs.Rows.{largest, total}
+use Rattle.rows.specs.Rows.{total}
 use Rattle.rows.specs.Lent.{rows}
 use Rattle.maps.specs.Answers.{mapRefusal}
 use Rattle.maps.proofs.Chains.{counted-are, counted-refused, room-on, room-off, join-malformed, join-malformed-second, join-rows-in, join-rows-in-second, join-long, join-room}
@@ -20,8 +20,8 @@ second : (c : tie.After-e) → (mapRefusal (c .before .before .before .before .b
 second c = counted-are (mapRefusal (c .before .before .before .before .before .before .before .before .before .args .v .now) (c .before .before .before .before .before .before .before .before .before .args .t .now)) (total (rows (c .before .before .before .before .before .before .before .before .before .args .v .now) (c .before .before .before .before .before .before .before .before .before .args .t .now))) _ (called (c .before .before .frames-of2 .ensures) (c .e .given .1))
 
 -- where 53 was tested: what it tested
-tested : (c : tie.After-is-past) → c .is-past .result ≡ past (total (rows (c .before .before .before .before .before .before .before .before .before .before .before .before .before .args .u .now) (c .before .before .before .before .before .before .before .before .before .before .before .before .before .args .s .now))) (total (rows (c .before .before .before .before .before .before .before .before .before .before .before .before .before .args .v .now) (c .before .before .before .before .before .before .before .before .before .before .before .before .before .args .t .now))) largest
-tested c = c .is-past .ensures ∙ ap₂ (λ (x y : ℕ). past x y largest) (first (c .before .before .before .before .before .before .before .before) .1) (second (c .before .before .before .before) .1)
+tested : (c : tie.After-is-past) → c .is-past .result ≡ past (total (rows (c .before .before .before .before .before .before .before .before .before .before .before .before .before .args .u .now) (c .before .before .before .before .before .before .before .before .before .before .before .before .before .args .s .now))) (total (rows (c .before .before .before .before .before .before .before .before .before .before .before .before .before .args .v .now) (c .before .before .before .before .before .before .before .before .before .before .before .before .before .args .t .now))) maxU64
+tested c = c .is-past .ensures ∙ ap₂ (λ (x y : ℕ). past x y maxU64) (first (c .before .before .before .before .before .before .before .before) .1) (second (c .before .before .before .before) .1)
 
 returns : tie.Need-returns
 returns c = rw (join-rows-in _ _ _ _ _ _ (first (c .before .before .before .before .before .before) .0) (second (c .before .before) .0) (c .if1 .taken))

@@ -4,8 +4,9 @@ use mathlib.Core.List.{[]}
 use native.Mathlib.Omega.{arith}
 use lib.ListN.{length}
 use Rattle.choice.specs.Records.{run}
+use Rattle.choice.specs.Choice.{maxU64}
 use Rattle.choice.proofs.Tests.{called}
-use Rattle.rows.specs.Rows.{largest, merge, mergeInto}
+use Rattle.rows.specs.Rows.{merge, mergeInto}
 use Rattle.rows.specs.Lent.{rowAt, rows}
 use Rattle.maps.proofs.Spans.{row-source}
 use Rattle.maps.proofs.Written.{Written, written-none, written-all, rows-all, words-length, shifts-length, put-room, put-step, merge-start, merge-glues, merge-parts, merge-end, glue-fits}
@@ -13,7 +14,7 @@ use Rattle.maps.proofs.write_merge.Statement.{statement}
 use Rattle.maps.proofs.write_merge.Tie as tie
 
 abbrev Inv-loop : tie.InvT-loop
-Inv-loop u s ou₀ os₀ c₀ w₀ i₀ ou os c w i = (i ≤ length s) × (w < i) × (c .first + c .count ≤ largest) × Written (merge (rows u s)) (mergeInto c (run (rowAt u s) i (length s - i))) ou₀ os₀ ou os w
+Inv-loop u s ou₀ os₀ c₀ w₀ i₀ ou os c w i = (i ≤ length s) × (w < i) × (c .first + c .count ≤ maxU64) × Written (merge (rows u s)) (mergeInto c (run (rowAt u s) i (length s - i))) ou₀ os₀ ou os w
 
 abbrev μ-loop : tie.MeasureT-loop
 μ-loop u s ou₀ os₀ c₀ w₀ i₀ ou os c w i = length s - i

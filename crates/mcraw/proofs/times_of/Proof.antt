@@ -7,10 +7,11 @@ use lib.Dec.{ltb}
 use lib.ListN.{length, length-take}
 use mir.Syntax.{w64}
 use mir.Val.{SFits}
+use Rattle.signed.specs.Signed.{isOutside}
 use Rattle.choice.proofs.Tests.{called, or-false}
 use Rattle.signed.proofs.Bits.{reads}
-use Rattle.mcraw.specs.declared.Times.the-variants.{Timed}
-use Rattle.mcraw.specs.Mcraw.{nanoseconds, outside, span, fallOf}
+use Rattle.mcraw.specs.declared.RecordingTimes.the-variants.{Timed}
+use Rattle.mcraw.specs.Mcraw.{nanoseconds, span, fallOf}
 use Rattle.mcraw.proofs.Gaps.{no-fall}
 use Rattle.mcraw.proofs.Spans.{gaps-fit}
 use Rattle.mcraw.proofs.Holds.{inside, stands, span-held, span-lost, end-held, end-lost}
@@ -47,7 +48,7 @@ returns-5 c =
     (span-held ts _ _ (c .before .before .before .before .before .before .difference-arg .given) (c .before .before .before .before .before .difference-arg2 .given) (c .before .before .before .before .difference .ensures) (c .before .before .span .given .1) .0)
     (c .if3 .taken)
 
-spanned : (c : tie.Else3) → (outside (span (c .before .before .before .before .before .before .before .before .before .before .before .before .args .ts .now)) ≡ false) × (c .before .before .span .given .0 .0 ≡ span (c .before .before .before .before .before .before .before .before .before .before .before .before .args .ts .now))
+spanned : (c : tie.Else3) → (isOutside (span (c .before .before .before .before .before .before .before .before .before .before .before .before .args .ts .now)) ≡ false) × (c .before .before .span .given .0 .0 ≡ span (c .before .before .before .before .before .before .before .before .before .before .before .before .args .ts .now))
 spanned c =
     let ts = c .before .before .before .before .before .before .before .before .before .before .before .before .args .ts .now in
     span-held ts _ _ (c .before .before .before .before .before .before .difference-arg .given) (c .before .before .before .before .before .difference-arg2 .given) (c .before .before .before .before .difference .ensures) (c .before .before .span .given .1)

@@ -5,7 +5,7 @@ use native.Mathlib.Omega.{arith}
 use lib.IntN.{ℤ, pos, _-ℤ_}
 use lib.ListN.{length, getD, set, take, drop, length-set, drop-of-length-le}
 use lib.Seq.{take-all}
-use Rattle.signed.specs.Signed.{I64}
+use Rattle.signed.specs.Steps.{I64}
 use Rattle.signed.proofs.Bits.{back}
 use Rattle.slices.specs.Slices.{All}
 use Rattle.slices.proofs.Every.{all-at}

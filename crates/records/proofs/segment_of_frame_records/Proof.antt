@@ -58,15 +58,15 @@ use Rattle.records.specs.Records.{locate}
 use Rattle.records.specs.Steps.{noRecord, recordAt, begun, nextOf, after, answerOf}
 use Rattle.records.specs.declared.TrimSegment.{TrimSegment}
 use Rattle.records.specs.declared.SoFar.{SoFar}
-use Rattle.rules.specs.declared.Found.{Found}
+use Rattle.rules.specs.declared.Lookup.{Lookup}
 use Rattle.records.proofs.Known.{after-none, after-more, same-answer}
 use Rattle.records.proofs.Lent.{still, word, sourcesTy, textTy, recordsTy, lentVal, Src, Txt, Rec, Ans, two-src, two-txt, two-rec}
 use Rattle.records.proofs.TrimSegment as T
 use Rattle.records.proofs.TrimSegment.Laws as T′
 use Rattle.records.proofs.SoFar as F
 use Rattle.records.proofs.SoFar.Laws as F′
-use Rattle.rules.proofs.Found as S
-use Rattle.rules.proofs.Found.Laws as S′
+use Rattle.rules.proofs.Lookup as S
+use Rattle.rules.proofs.Lookup.Laws as S′
 use Rattle.records.proofs.begin as begin
 use Rattle.records.proofs.begin.Symbol as begin-def
 use Rattle.records.proofs.begin.Symbol.{name as #begin}
@@ -111,7 +111,7 @@ module _ {M : Type 1} (𝓤 : URA M) (H : Heap 𝓤) (A : Atoms 𝓤) (mem : Mem
       → ent 𝓤 (ensured 𝓤 H A next.ended (next.clauses 𝓤 H A mem run) (κ₀, tt) (src, (g, (s, tt))) tt r) (fact 𝓤 (r ≡ nextOf (sourcesOf (now src)) g s))
   next-said κ₀ src g s r = exE 𝓤 _ (λ ws. snd∗ 𝓤 (sem 𝓤 H A (lasts next.ended (κ₀, tt) (src, (g, (s, tt))) ws)) (fact 𝓤 (r ≡ nextOf (sourcesOf (now src)) g s)))
 
-  answer-said : (κ₀ κ₁ : Lft) (src txt : RefT (List ℕ)) (g : SoFar) (lg : Bool) (r : Found)
+  answer-said : (κ₀ κ₁ : Lft) (src txt : RefT (List ℕ)) (g : SoFar) (lg : Bool) (r : Lookup)
       → ent 𝓤 (ensured 𝓤 H A answer.ended (answer.clauses 𝓤 H A mem run) (κ₀, (κ₁, tt)) (src, (txt, (g, (lg, tt)))) tt r) (fact 𝓤 (r ≡ answerOf (now src) (now txt) g lg))
   answer-said κ₀ κ₁ src txt g lg r = exE 𝓤 _ (λ ws. snd∗ 𝓤 (sem 𝓤 H A (lasts answer.ended (κ₀, (κ₁, tt)) (src, (txt, (g, (lg, tt)))) ws)) (fact 𝓤 (r ≡ answerOf (now src) (now txt) g lg)))
 
@@ -142,10 +142,10 @@ module _ {M : Type 1} (𝓤 : URA M) (H : Heap 𝓤) (A : Atoms 𝓤) (W : Given
   Own g v = ‵ (F.the-row .own g (v ∷ []))
 
   -- what is had at exit
-  abbrev Left : Found → Val → List (Item 𝓤)
+  abbrev Left : Lookup → Val → List (Item 𝓤)
   Left r u = Ans r u ∷ (‵ (flft κ₀ q₀) ⊛ ‵ (flft κ₁ q₁) ⊛ ‵ ftrue) ∷ Src κ₀ src ∷ Txt κ₁ txt ∷ ‵ (flft κ₂ q₂) ∷ Rec κ₂ rec (lentVal rec) ∷ []
 
-  exits : fr < 2 ^ 64 → (r : Found) (u : Val) → r ≡ locate (now src) (now txt) ys lg fr → ent 𝓤 (⋆ 𝓤 H A (Left r u)) (Post u)
+  exits : fr < 2 ^ 64 → (r : Lookup) (u : Val) → r ≡ locate (now src) (now txt) ys lg fr → ent 𝓤 (⋆ 𝓤 H A (Left r u)) (Post u)
   exits gf r u e =
       qed W (Left r u) ∵ suffices ! _ (ends-at 𝓤 H A f.ended stayed (f.clauses 𝓤 H A mem run) W bound u r (tt, (tt, (tt, (tt, (tt, tt))))) (tt, (tt, (tt, (tt, (tt, tt)))))) $ says ! e $
       -- the tokens
@@ -264,7 +264,7 @@ module _ {M : Type 1} (𝓤 : URA M) (H : Heap 𝓤) (A : Atoms 𝓤) (W : Given
         move ! (17 ∷ []) $ two-txt ! κ₁ txt $
         move ! (19 ∷ 20 ∷ 2 ∷ 0 ∷ 5 ∷ []) $ cut (Passed g (i .1 .1)) (raw (Answer 𝓤 H A mem run .pre (to-answer g (i .1 .1))) ∷ []) _ (goes-answer g (i .1 .1)) $
         calls-at ! fm (Answer 𝓤 H A mem run) known-answer (to-answer g (i .1 .1)) (and-then ! (load ! (from ! (stop !)) (look ! 12 refl)) (and-then ! (load ! (from ! (stop !)) (look ! 13 refl)) (and-then ! (load ! (from ! (stop !)) (look ! 3 refl)) (and-then ! (load ! (from ! (stop !)) (look ! 14 refl)) (no-more !))))) (λ u.
-        use1 W (later (some (λ (r : Found). ((‵ (flft κ₀ q₀) ⊛ ‵ (flft κ₁ q₁) ⊛ ‵ ftrue) ⊛ Ans r u) ⊛ raw (ensured 𝓤 H A answer.ended (answer.clauses 𝓤 H A mem run) (κ₀, (κ₁, tt)) (src, (txt, (g, (lg, tt)))) tt r)))) (id⊢ 𝓤 _) $ await ! tt $ pick ! (λ r.
+        use1 W (later (some (λ (r : Lookup). ((‵ (flft κ₀ q₀) ⊛ ‵ (flft κ₁ q₁) ⊛ ‵ ftrue) ⊛ Ans r u) ⊛ raw (ensured 𝓤 H A answer.ended (answer.clauses 𝓤 H A mem run) (κ₀, (κ₁, tt)) (src, (txt, (g, (lg, tt)))) tt r)))) (id⊢ 𝓤 _) $ await ! tt $ pick ! (λ r.
         split ! $ move ! (1 ∷ []) $ use1 W (raw (fact 𝓤 (r ≡ answerOf (now src) (now txt) g lg))) (answer-said 𝓤 H A mem run κ₀ κ₁ src txt g lg r) $ heard ! (r ≡ answerOf (now src) (now txt) g lg) (λ e₁. split ! $ move ! (1 ∷ []) $
         peeks ! S.the-row (Is S.the-row) (shows 𝓤 H A S.the-row) r (u ∷ []) (λ is.
         land ! (from ! (stop !)) (init ! 17 refl (EL.lawful S.the-type S′.the-laws 𝓤 H A W tt .typed r _ is .0)) $

@@ -1,12 +1,12 @@
 -- `records::times_of` meets its contract. Assumes nothing.
 use Rattle.signed.proofs.Bits.{back}
 use borrow.Author.Needs.{needs}
-use Rattle.rules.specs.Rules.{timesOf}
+use Rattle.rules.specs.Rules.{stampTimes}
 use Rattle.records.proofs.times_of.Statement.{statement}
 use Rattle.records.proofs.times_of.Tie as tie
 
 returns : tie.Need-returns
-unfolding timesOf
+unfolding stampTimes
 returns c =
     let r = c .before .before .before .before .before .before .before .before .before .before .before .before .before .before .before .before .before .before .before .before .before .before .before .before .before .before .before .before .args .r in
     let g = c .before .struct-told14 .given .1 .1 .1 .1 in

@@ -2,13 +2,14 @@ use Prim.Native.Nat.{_+_, _-_, _*_, _≤_}
 use mathlib.Core.Path.{_≡_, sym, _∙_}
 use native.Mathlib.Omega.{arith}
 use lib.ListN.{length, drop}
-use Rattle.steps.specs.Numbers.{largest, numberFrom, numberIn}
+use Rattle.choice.specs.Choice.{maxU64}
+use Rattle.steps.specs.Numbers.{numberFrom, numberIn}
 use Rattle.steps.proofs.Lines.{number-empty, number-start, number-stop, number-go, number-end, number-overs, digit-past, digit-within}
 use Rattle.steps.proofs.number_of.Statement.{statement}
 use Rattle.steps.proofs.number_of.Tie as tie
 
 abbrev Inv-loop : tie.InvT-loop
-Inv-loop l n₀ i₀ n i = (i ≤ length l) × (n ≤ largest) × (numberFrom n (drop i l) ≡ numberIn l)
+Inv-loop l n₀ i₀ n i = (i ≤ length l) × (n ≤ maxU64) × (numberFrom n (drop i l) ≡ numberIn l)
 
 abbrev μ-loop : tie.MeasureT-loop
 μ-loop l n₀ i₀ n i = length l - i

@@ -1,10 +1,10 @@
-use Rattle.rules.specs.Rules.{timesOf}
+use Rattle.rules.specs.Rules.{stampTimes}
 use borrow.Author.Needs.{needs}
 use Rattle.table.proofs.any_times_at.Statement.{statement}
 use Rattle.table.proofs.any_times_at.Tie as tie
 
 returns : tie.Need-returns
-unfolding timesOf
+unfolding stampTimes
 returns c =
     simp (
       c .magnitude-at7 .ensures,

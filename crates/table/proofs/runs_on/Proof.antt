@@ -6,7 +6,7 @@ use Rattle.table.specs.Layout.{segmentStamps}
 use native.Mathlib.Omega.{arith}
 use mathlib.Core.Path.{ap}
 use Rattle.rules.specs.declared.Words.{Words}
-use Rattle.rules.specs.Lookups.{runsOn}
+use Rattle.rules.specs.Lookups.{segmentRunsOn}
 use Rattle.signed.proofs.Bits.{back}
 use borrow.Author.Needs.{needs}
 use Rattle.table.proofs.runs_on.Statement.{statement}
@@ -17,7 +17,7 @@ add-result c =
     omega (arith, ap (λ (w : Words). w .first) (c .before .before .before .before .before .before .before .words-at .ensures), ap (λ (w : Words). w .count) (c .before .before .before .before .before .before .before .words-at .ensures))
 
 returns : tie.Need-returns
-unfolding runsOn
+unfolding segmentRunsOn
 returns c =
     simp (
       c .before .before .before .before .same-shift .ensures,

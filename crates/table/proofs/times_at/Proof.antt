@@ -1,6 +1,6 @@
 use native.Mathlib.Omega.{arith}
 use Rattle.choice.proofs.Tests.{called}
-use Rattle.rules.specs.Rules.{timesOf}
+use Rattle.rules.specs.Rules.{stampTimes}
 use Rattle.table.proofs.Signs.{plain}
 use borrow.Author.Needs.{needs}
 use Rattle.table.proofs.times_at.Statement.{statement}
@@ -25,7 +25,7 @@ plain-at-requires-6 : tie.Need-plain-at-requires-6
 plain-at-requires-6 c κs = (omega arith, plain _ (called (c .before .before .before .before .before .before .negative-times-at .ensures) (c .before .before .before .before .before .if1 .left)) .capdur)
 
 returns-2 : tie.Need-returns-2
-unfolding timesOf
+unfolding stampTimes
 returns-2 c =
     simp (
       c .magnitude-at .ensures,

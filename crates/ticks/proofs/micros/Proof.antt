@@ -4,7 +4,8 @@ use Prim.Native.Nat.{ℕ, _^_}
 use native.Mathlib.Nat.{lt-of-lt-of-le}
 use native.Mathlib.Omega.{arith}
 use lib.Dec.{lit<, lit≤}
-use Rattle.signed.specs.Signed.{within, withSign}
+use Rattle.signed.specs.Signed.{within}
+use Rattle.signed.specs.Steps.{withSign}
 use Rattle.signed.proofs.Ranges.{far}
 use Rattle.wide.specs.Value.{value, number}
 use Rattle.wide.proofs.Rooms.{lt-eq, mul-room, sum-room}

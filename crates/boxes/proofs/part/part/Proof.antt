@@ -1,7 +1,7 @@
 use mathlib.Core.Path.{refl, subst}
 use native.Mathlib.Omega.{arith}
 use borrow.Author.Needs.{needs}
-use Rattle.boxes.specs.Places.{Within}
+use Rattle.boxes.specs.Steps.{Within}
 use Rattle.boxes.proofs.Parts.{none-at, some-at}
 use Rattle.boxes.proofs.part.part.Statement.{statement}
 use Rattle.boxes.proofs.part.part.Tie as tie

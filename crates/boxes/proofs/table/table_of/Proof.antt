@@ -8,7 +8,8 @@ use lib.ListN.{length, take, drop}
 use borrow.Author.Needs.{needs}
 use Rattle.boxes.specs.Bytes.{udta}
 use Rattle.boxes.specs.Boxes.{boxesOf, firstOf}
-use Rattle.boxes.specs.Places.{Within, allOf, onlyOf, tableOf}
+use Rattle.boxes.specs.Places.{allOf, onlyOf, tableIn}
+use Rattle.boxes.specs.Steps.{Within}
 use Rattle.boxes.proofs.Parts.{missed, hit}
 use Rattle.boxes.proofs.Within.{search-within, fits-in, only-within, movable}
 use Rattle.boxes.proofs.table.table_of.Statement.{statement}
@@ -25,7 +26,7 @@ fit : (c : tie.After-start) → c .start .given .0 .0 + c .start .given .0 .1 .0
 fit c = fits-in 40 (search-within 40 udta false (moov (c .before .before)) (found (c .before .before))) (c .start .given .1)
 
 returns : tie.Need-returns
-unfolding tableOf
+unfolding tableIn
 returns c = missed _ 40 _ (found (c .before)) (c .match .keys2)
 
 add-only-child : tie.Need-add-only-child
@@ -43,7 +44,7 @@ moved-requires c κs =
     omega (arith, fit f, movable (moov (f .before .before)) a (a + n - a) (c .only-child .result) (omega (arith, fit f)) w)
 
 returns-2 : tie.Need-returns-2
-unfolding tableOf
+unfolding tableIn
 returns-2 c =
     let f = c .before .before .before .before .before .before in
     let a = f .start .given .0 .0 in

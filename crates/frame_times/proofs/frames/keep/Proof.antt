@@ -2,13 +2,13 @@ use mathlib.Core.Path.{_≡_, refl, sym, ap, _∙_, subst}
 use Prim.Native.Nat.{ℕ, _+_, _-_, _<_, _^_}
 use native.Mathlib.Omega.{arith}
 use lib.ListN.{length, length-set}
+use Rattle.signed.specs.Steps.{I64}
 use Rattle.tracks.specs.Tables.{durations, offsets}
 use Rattle.frame_times.specs.Frames.{framesFrom, kept}
 use lib.IntN.{ℤ, pos, _+ℤ_}
 use mir.Syntax.{w64}
 use mir.Val.{toZ}
 use mir.Facts.{toZ-pos}
-use Rattle.signed.specs.Signed.{I64}
 use Rattle.signed.proofs.Bits.{read, back}
 use Rattle.tracks.specs.Tables.{offsetOf}
 use Rattle.frame_times.specs.Frames.{inEdit}

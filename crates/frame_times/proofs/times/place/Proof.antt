@@ -10,7 +10,7 @@ use mir.Facts.{toZ-ofZ}
 use Rattle.signed.proofs.Bits.{read, back}
 use Rattle.slices.specs.Slices.{laid}
 use Rattle.slices.proofs.Every.{all-at}
-use Rattle.frame_times.specs.Frames.{moved}
+use Rattle.frame_times.specs.Frames.{movedTime}
 use Rattle.frame_times.specs.Steps.{Movable}
 use Rattle.frame_times.proofs.ShowLaws.{place-more, place-all}
 use borrow.Author.Needs.{needs}
@@ -18,7 +18,7 @@ use Rattle.frame_times.proofs.times.place.Statement.{statement}
 use Rattle.frame_times.proofs.times.place.Tie as tie
 
 abbrev Inv-loop : tie.InvT-loop
-Inv-loop times o d out₀ i₀ out i = (i ≤ length times) × (length out ≡ length out₀) × (out ≡ laid (map (moved (toZ w64 o) (toZ w64 d)) (take i times)) out₀)
+Inv-loop times o d out₀ i₀ out i = (i ≤ length times) × (length out ≡ length out₀) × (out ≡ laid (map (movedTime (toZ w64 o) (toZ w64 d)) (take i times)) out₀)
 
 abbrev μ-loop : tie.MeasureT-loop
 μ-loop times o d out₀ i₀ out i = length times - i
@@ -54,12 +54,12 @@ loop-again c =
     let o = s .args .o in
     let d = s .args .d in
     let x = getD (s .args .times .now) (l .i) (pos 0) in
-    let at : out-of c ≡ moved o d x = (λ i. read (read (back x (c .out .given) i -ℤ toZ-ofZ (s .fits .o) i) +ℤ toZ-ofZ (s .fits .d) i)) ∙ ap (λ z. read (z +ℤ d)) (back (x -ℤ o) (movable c .0)) ∙ back (moved o d x) (movable c .1) in (
+    let at : out-of c ≡ movedTime o d x = (λ i. read (read (back x (c .out .given) i -ℤ toZ-ofZ (s .fits .o) i) +ℤ toZ-ofZ (s .fits .d) i)) ∙ ap (λ z. read (z +ℤ d)) (back (x -ℤ o) (movable c .0)) ∙ back (movedTime o d x) (movable c .1) in (
       omega arith,
       length-set (l .out) (l .i) (out-of c) ∙ l .inv .1,
       ap (set (l .out) (l .i)) at
-          ∙ place-more (moved o d) (s .args .times .now) (s .args .out .now) (l .i) (l .out) (omega arith) (omega (arith, s .pre .0)) (l .inv .2 ∙ (λ i. laid (map (moved (toZ-ofZ (s .fits .o) i) (toZ-ofZ (s .fits .d) i)) (take (l .i) (s .args .times .now))) (s .args .out .now)))
-          ∙ sym (λ i. laid (map (moved (toZ-ofZ (s .fits .o) i) (toZ-ofZ (s .fits .d) i)) (take (l .i + 1) (s .args .times .now))) (s .args .out .now)),
+          ∙ place-more (movedTime o d) (s .args .times .now) (s .args .out .now) (l .i) (l .out) (omega arith) (omega (arith, s .pre .0)) (l .inv .2 ∙ (λ i. laid (map (movedTime (toZ-ofZ (s .fits .o) i) (toZ-ofZ (s .fits .d) i)) (take (l .i) (s .args .times .now))) (s .args .out .now)))
+          ∙ sym (λ i. laid (map (movedTime (toZ-ofZ (s .fits .o) i) (toZ-ofZ (s .fits .d) i)) (take (l .i + 1) (s .args .times .now))) (s .args .out .now)),
     )
 
 same-length : tie.Need-same-length Inv-loop μ-loop
@@ -69,7 +69,7 @@ returns : tie.Need-returns Inv-loop μ-loop
 returns c =
     let s = c .before .before in
     let l = c .before .loop in
-    place-all _ _ _ (l .i) (l .out) (omega arith) (l .inv .2) ∙ (λ i. laid (map (moved (toZ-ofZ (s .fits .o) i) (toZ-ofZ (s .fits .d) i)) (s .args .times .now)) (s .args .out .now))
+    place-all _ _ _ (l .i) (l .out) (omega arith) (l .inv .2) ∙ (λ i. laid (map (movedTime (toZ-ofZ (s .fits .o) i) (toZ-ofZ (s .fits .d) i)) (s .args .times .now)) (s .args .out .now))
 
 pub place-spec : {M : Type 1} → statement M
 place-spec = tie.close (tie.spec

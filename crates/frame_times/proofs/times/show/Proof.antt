@@ -5,13 +5,14 @@ use native.Mathlib.Omega.{arith}
 use lib.ListN.{length, getD}
 use lib.IntN.{ℤ, pos, _+ℤ_, _-ℤ_}
 use mir.Facts.{toZ-ofZ}
-use Rattle.signed.specs.Signed.{I64, within}
+use Rattle.signed.specs.Signed.{within}
+use Rattle.signed.specs.Steps.{I64}
 use Rattle.signed.proofs.Bits.{read, back}
 use Rattle.slices.specs.Slices.{laid}
 use Rattle.order.specs.Order.{sorted}
 use Rattle.order.proofs.Sorted.{length-sorted}
-use Rattle.frame_times.specs.declared.FrameTimes.the-variants.{Times}
-use Rattle.frame_times.specs.Frames.{capped, origin, moved}
+use Rattle.frame_times.specs.declared.FrameTimes.the-variants.{Presented}
+use Rattle.frame_times.specs.Frames.{capped, timeOrigin, movedTime}
 use Rattle.frame_times.specs.Steps.{Showable}
 use Rattle.frame_times.specs.Times.{Outcome}
 use Rattle.frame_times.proofs.Choices.{held, not-held, outside-is}
@@ -49,7 +50,7 @@ module _ (c : tie.After-capped-at) where
       let o = c .before .before .origin-of in
       let s = c .before .before .before .before .before .before .sort in
       let least = back (getD (s .last .0) 0 (pos 0)) (c .before .before .before .origin-of-arg .given) ∙ ap (λ (l : List ℤ). getD l 0 (pos 0)) (s .ensures) in
-      back (o .result) (o .ok) ∙ o .ensures ∙ (λ i. origin (start .args .e) (least i) (toZ-ofZ (start .fits .first) i))
+      back (o .result) (o .ok) ∙ o .ensures ∙ (λ i. timeOrigin (start .args .e) (least i) (toZ-ofZ (start .fits .first) i))
 
   cap-read : read (c .capped-at .result) ≡ cap
   cap-read = back (c .capped-at .result) (c .capped-at .ok) ∙ c .capped-at .ensures ∙ ap (capped (start .args .e)) (toZ-ofZ (start .fits .last))
@@ -61,7 +62,7 @@ module _ (c : tie.After-capped-at) where
   empty-read = back empty (able .sound .empty-fits)
 
 -- the sum is that of the end
-sum-is : (c : tie.After-sum) → (let k = c .before in c .sum .result ≡ within (moved (org k) (empty k) (cap k)))
+sum-is : (c : tie.After-sum) → (let k = c .before in c .sum .result ≡ within (movedTime (org k) (empty k) (cap k)))
 sum-is c =
     let k = c .before in
     c .sum .ensures ∙ (λ i. within (((λ j. read (cap-read k j -ℤ org-read k j)) ∙ back (cap k -ℤ org k) (apart k)) i +ℤ empty-read k i))
@@ -74,13 +75,13 @@ returns c =
     let m = c .before .before .before in
     let k = m .before in
     let s = start k in
-    let z = moved (org k) (empty k) (cap k) in
+    let z = movedTime (org k) (empty k) (cap k) in
     refuses 33 (s .args .starts .now) (c .refused .ensures)
     (shown-out (ordered k) (s .args .first) (s .args .last) (s .args .e) (able k) (some k) (s .args .scale) (s .args .nominal) (not-held z (sym (outside-is (m .sum .result) (c .before .before .match .keys2)) ∙ sum-is m)))
 
 -- the end fits
-ends : (c : tie.After-end) → (let k = c .before .before .before in let z = moved (org k) (empty k) (cap k) in (c .end .given .0 .0 ≡ z) × I64 z)
-ends c = let m = c .before .before in let k = m .before in held (moved (org k) (empty k) (cap k)) (sym (c .end .given .1) ∙ sum-is m)
+ends : (c : tie.After-end) → (let k = c .before .before .before in let z = movedTime (org k) (empty k) (cap k) in (c .end .given .0 .0 ≡ z) × I64 z)
+ends c = let m = c .before .before in let k = m .before in held (movedTime (org k) (empty k) (cap k)) (sym (c .end .given .1) ∙ sum-is m)
 
 place-requires : tie.Need-place-requires
 place-requires c κs =
@@ -100,8 +101,8 @@ returns-2 c =
     let st = k .before .before .before .before .before .before .sort in
     let z = shown-in (ordered k) (s .args .first) (s .args .last) (s .args .e) (able k) (some k) (ends e .1) (s .args .scale) (s .args .nominal) in
     record {
-      answer = (λ i. Times (length (st .ensures i)) (s .args .scale) (toZ-ofZ (s .fits .nominal) i) ((ap read (ends e .0) ∙ back (moved (org k) (empty k) (cap k)) (ends e .1)) i)) ∙ ap (λ (o : Outcome). o .answer) (sym z);
-      starts = c .before .place .ensures ∙ (λ i. laid (map (moved (org-read k i) (empty-read k i)) (st .ensures i)) (s .args .starts .now)) ∙ ap (λ (o : Outcome). laid (o .starts) (s .args .starts .now)) (sym z);
+      answer = (λ i. Presented (length (st .ensures i)) (s .args .scale) (toZ-ofZ (s .fits .nominal) i) ((ap read (ends e .0) ∙ back (movedTime (org k) (empty k) (cap k)) (ends e .1)) i)) ∙ ap (λ (o : Outcome). o .answer) (sym z);
+      starts = c .before .place .ensures ∙ (λ i. laid (map (movedTime (org-read k i) (empty-read k i)) (st .ensures i)) (s .args .starts .now)) ∙ ap (λ (o : Outcome). laid (o .starts) (s .args .starts .now)) (sym z);
     }
 
 pub show-spec : {M : Type 1} → statement M

@@ -7,7 +7,7 @@ use lib.Seq.{take-at, length-take-le}
 use lib.IntN.{pos}
 use Rattle.tracks.specs.declared.Rows.{Rows}
 use Rattle.tracks.specs.declared.Rows.the-variants.{Whole}
-use Rattle.tracks.specs.Tables.{rowsOf, entriesOf, total, durations}
+use Rattle.tracks.specs.Tables.{tableRows, entriesOf, entryTotal, durations}
 use Rattle.tracks.proofs.EntryLaws.{rows-there, length-per-frame}
 use Rattle.frame_times.specs.Times.{Outcome, room, ofDurations}
 use Rattle.frame_times.proofs.TrackLaws.{refuses, answered-as, torn-is, many, no-room, past-room}
@@ -35,10 +35,10 @@ module _ (c : tie.After-n) where
   abbrev first : tie.Start
   first = c .before .before .before .before .before .before
 
-  rows-are : rowsOf (table first) ≡ Whole (c .n .given .0 .0)
+  rows-are : tableRows (table first) ≡ Whole (c .n .given .0 .0)
   rows-are = sym (c .before .before .count-rows .ensures) ∙ c .n .given .1
 
-  by-n : by-rows first (rowsOf (table first)) ≡ by-rows first (Whole (c .n .given .0 .0))
+  by-n : by-rows first (tableRows (table first)) ≡ by-rows first (Whole (c .n .given .0 .0))
   by-n = ap (by-rows first) rows-are
 
 lay-requires : tie.Need-lay-requires
@@ -53,7 +53,7 @@ module _ (c : tie.After-lay) where
   start = first counted
 
   abbrev count : ℕ
-  count = total (entriesOf (counted .n .given .0 .0) (table start))
+  count = entryTotal (entriesOf (counted .n .given .0 .0) (table start))
 
   more : start .args .bytes < c .lay .result → start .args .bytes < count
   more h = omega (arith, c .lay .ensures .frames)

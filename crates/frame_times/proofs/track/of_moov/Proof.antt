@@ -9,7 +9,7 @@ use Rattle.boxes.specs.Boxes.{mostBytes, boxesOf, firstOf}
 use Rattle.boxes.specs.Tracks.{videoTrack}
 use Rattle.boxes.proofs.Within.{found-within}
 use Rattle.tracks.specs.Tables.{scaleOf}
-use Rattle.frame_times.specs.Times.{Outcome, mvhd, room, refused, required, inChild, ofTrack, timesOf}
+use Rattle.frame_times.specs.Times.{Outcome, mvhd, room, refused, required, inChild, ofTrack, timesOfMoov}
 use Rattle.frame_times.proofs.TrackLaws.{refuses, answered-as, missed, reached}
 use borrow.Author.Needs.{needs}
 use Rattle.frame_times.proofs.track.of_moov.Statement.{statement}
@@ -32,14 +32,14 @@ module _ (s : tie.Start) where
   by-mvhd = inChild mvhd moov (λ h. by-movie (scaleOf h))
 
 returns : tie.Need-returns
-unfolding timesOf
+unfolding timesOfMoov
 returns c =
     let s = c .before .before .before in
     refuses 30 (s .args .starts .now) (c .refused .ensures) (λ i. if lt-ltb mostBytes (length (moov s)) (c .before .if1 .taken) i then refused 30 else by-mvhd s)
 
 -- not over the most bytes
-short : (c : tie.Else1) → (let s = c .before .before in timesOf (moov s) (lent s) ≡ by-mvhd s)
-unfolding timesOf
+short : (c : tie.Else1) → (let s = c .before .before in timesOfMoov (moov s) (lent s) ≡ by-mvhd s)
+unfolding timesOfMoov
 short c = let s = c .before .before in λ i. if le-ltb mostBytes (length (moov s)) (c .if1 .left) i then refused 30 else by-mvhd s
 
 found : (c : tie.After-find-child) → c .find-child .result ≡ firstOf mvhd (boxesOf (moov (c .before .before .before .before .before)))
@@ -54,7 +54,7 @@ payload-requires : tie.Need-payload-requires
 payload-requires c κs = found-within _ _ _ (c .before .before .find-child .ensures)
 
 -- the movie's timescale is read
-reach : (c : tie.After-scale) → (let s = c .before .before .before .before .before .before .before .before .before in timesOf (moov s) (lent s) ≡ by-movie s (c .scale .result))
+reach : (c : tie.After-scale) → (let s = c .before .before .before .before .before .before .before .before .before in timesOfMoov (moov s) (lent s) ≡ by-movie s (c .scale .result))
 reach c =
     let p = c .before in
     let s = c .before .before .before .before .before .before .before .before .before in

@@ -52,14 +52,14 @@ use denote.Exit.{yes}
 use borrow.Table.Copies.{halved, cStruct}
 use borrow.Table.Owned as O
 use borrow.Rule.Slice.Prefix.{shs-prefix-same}
-use Rattle.rules.specs.declared.Found.{Found}
-use Rattle.rules.proofs.Found as S
-use Rattle.rules.proofs.Found.Laws as S′
+use Rattle.rules.specs.declared.Lookup.{Lookup}
+use Rattle.rules.proofs.Lookup as S
+use Rattle.rules.proofs.Lookup.Laws as S′
 use Rattle.records.specs.Records.{locate}
 use Rattle.records.specs.declared.TrimSegment.{TrimSegment}
 use Rattle.records.proofs.TrimSegment as T
 use Rattle.records.proofs.Lent.{still, word, sourcesTy, textTy, lentVal, Src, Txt, Ans, two-src, two-txt}
-use Rattle.records.proofs.Calling.{Lookup, Toks, calls-lookup}
+use Rattle.records.proofs.Calling.{Look, Toks, calls-lookup}
 use Rattle.records.proofs.TrimSegment.Laws as T′
 use Rattle.records.proofs.segment_of_frame_records.Symbol as lookup-def
 use Rattle.records.proofs.segment_of_frame_records.Symbol.{name as #lookup}
@@ -159,10 +159,10 @@ module _ {M : Type 1} (𝓤 : URA M) (H : Heap 𝓤) (A : Atoms 𝓤) (W : Given
   Lst = ‵ (Nine .own xs (v ∷ []))
 
   -- what is had at exit
-  abbrev Left : Found → Val → List (Item 𝓤)
+  abbrev Left : Lookup → Val → List (Item 𝓤)
   Left r u = ‵ (flft κ₀ q₀) ∷ ‵ (flft κ₁ q₁) ∷ Ans r u ∷ Lst ∷ Txt κ₁ txt ∷ Src κ₀ src ∷ []
 
-  exits : n < 2 ^ 64 → fr < 2 ^ 64 → (r : Found) (u : Val) → r ≡ locate (now src) (now txt) (take n xs) lg fr → ent 𝓤 (⋆ 𝓤 H A (Left r u)) (Post u)
+  exits : n < 2 ^ 64 → fr < 2 ^ 64 → (r : Lookup) (u : Val) → r ≡ locate (now src) (now txt) (take n xs) lg fr → ent 𝓤 (⋆ 𝓤 H A (Left r u)) (Post u)
   exits gn gf r u e =
       qed W (Left r u) ∵ suffices ! _ (ends-at 𝓤 H A f.ended stayed (f.clauses 𝓤 H A mem run) W bound u r (tt, (tt, (tt, (tt, (tt, (tt, tt)))))) (tt, (tt, (tt, (tt, (tt, (tt, tt))))))) $ says ! e $
       -- the tokens
@@ -176,14 +176,14 @@ module _ {M : Type 1} (𝓤 : URA M) (H : Heap 𝓤) (A : Atoms 𝓤) (W : Given
     En = (S′.mir, l₀) ∷ (sourcesTy, l₁) ∷ (textTy, l₂) ∷ (listTy, l₃) ∷ (word, l₄) ∷ (tyBool, l₅) ∷ (word, l₆) ∷ (listTy, l₇) ∷ (listRefTy, l₈) ∷ (frontTy, l₉) ∷ []
 
     -- [what the answer owns; the tokens; text; sources; the lender's part; the list; _9; …; _0; …]
-    abbrev Returned : Found → Val → List (Item 𝓤)
+    abbrev Returned : Lookup → Val → List (Item 𝓤)
     Returned r u = Ans r u ∷ Toks κ₀ κ₁ (α ∷ []) q₀ q₁ fullShare ∷ Txt κ₁ txt ∷ Src κ₀ src ∷ ‵ (flent (α ∷ []) (Elements xs l₇)) ∷ Lst
         ∷ ‵ (fat fullShare frontTy l₉ 0 (sliceVal (l₇, 0) n)) ∷ ‵ (fdies frontTy l₉) ∷ ‵ (fat fullShare listRefTy l₈ 0 (vptr l₇ 0)) ∷ ‵ (fdies listRefTy l₈) ∷ ‵ (fdies listTy l₇)
         ∷ ‵ (fat fullShare word l₆ 0 (vint w64 fr)) ∷ ‵ (fdies word l₆) ∷ ‵ (fat fullShare tyBool l₅ 0 (vbool lg)) ∷ ‵ (fdies tyBool l₅) ∷ ‵ (fat fullShare word l₄ 0 (vint w64 n)) ∷ ‵ (fdies word l₄)
         ∷ ‵ (fat fullShare listTy l₃ 0 v) ∷ ‵ (fdies listTy l₃) ∷ ‵ (fat fullShare textTy l₂ 0 (lentVal txt)) ∷ ‵ (fdies textTy l₂) ∷ ‵ (fat fullShare sourcesTy l₁ 0 (lentVal src)) ∷ ‵ (fdies sourcesTy l₁)
         ∷ ‵ (fat fullShare S′.mir l₀ 0 u) ∷ ‵ (fdies S′.mir l₀) ∷ []
 
-    returned : (r : Found) (u : Val) → r ≡ locate (now src) (now txt) (take n xs) lg fr → Sq W (Returned r u) (runs (𝓣 .C) (𝓣 .Λ) En mir′.t-5 (atRet En Post))
+    returned : (r : Lookup) (u : Val) → r ≡ locate (now src) (now txt) (take n xs) lg fr → Sq W (Returned r u) (runs (𝓣 .C) (𝓣 .Λ) En mir′.t-5 (atRet En Post))
     returned r u eq =
         -- the lifetime is ended, and the slot is room again
         move ! (1 ∷ []) $ split ! $ move ! (1 ∷ []) $ split ! $ move ! (1 ∷ []) $ split ! $ lft-end ! tt $ move ! (0 ∷ 7 ∷ []) $
@@ -196,7 +196,7 @@ module _ {M : Type 1} (𝓤 : URA M) (H : Heap 𝓤) (A : Atoms 𝓤) (W : Given
   abbrev given-vals : List Val
   given-vals = lentVal src ∷ lentVal txt ∷ v ∷ vint w64 n ∷ vbool lg ∷ vint w64 fr ∷ []
 
-  walk : (𝓣 : Tables 𝓤 H) → Triple 𝓤 (𝓣 .C #lookup) (Lookup 𝓤 H A mem run) → length xs ≡ 9 → n ≤ 9 → Room u64 (length (src .now)) → Room u8 (length (txt .now)) → T (hasTy listTy v) × WT v → n < 2 ^ 64 → fr < 2 ^ 64
+  walk : (𝓣 : Tables 𝓤 H) → Triple 𝓤 (𝓣 .C #lookup) (Look 𝓤 H A mem run) → length xs ≡ 9 → n ≤ 9 → Room u64 (length (src .now)) → Room u8 (length (txt .now)) → T (hasTy listTy v) × WT v → n < 2 ^ 64 → fr < 2 ^ 64
       → ent 𝓤 (onEntry 𝓤 H A f.signature (κ₀, (κ₁, tt)) (q₀, (q₁, tt)) x at) (WpFn 𝓤 H (𝓣 .C) (𝓣 .Λ) code.function given-vals Post)
   walk 𝓣 known e l gs gt wt gn gf =
       qed W ((‵ (flft κ₀ q₀) ⊛ ‵ (flft κ₁ q₁) ⊛ ‵ ftrue) ∷ ‵ (owns (ShrSlice (named 0) κ₀ u64 ∷ ShrSlice (named 1) κ₁ u8 ∷ Nine ∷ u64 ∷ bool ∷ u64 ∷ []) x at) ∷ []) ∵
@@ -221,7 +221,7 @@ module _ {M : Type 1} (𝓤 : URA M) (H : Heap 𝓤) (A : Atoms 𝓤) (W : Given
       returned 𝓣 e l gn gf l₀ l₁ l₂ l₃ l₄ l₅ l₆ l₇ l₈ l₉ α r u eq)))))))))))))
 
 module _ {M : Type 1} (𝓤 : URA M) (H : Heap 𝓤) (A : Atoms 𝓤) (W : Given 𝓤 H A) (mem : Memory → SProp 𝓤) (run : Routine → Fun 𝓤) (𝓣 : Tables 𝓤 H) where
-  located-walks : Triple 𝓤 (𝓣 .C #lookup) (Lookup 𝓤 H A mem run) → Walks 𝓤 H A f.ended stayed (WpFn 𝓤 H (𝓣 .C) (𝓣 .Λ) code.function) (f.clauses 𝓤 H A mem run)
+  located-walks : Triple 𝓤 (𝓣 .C #lookup) (Look 𝓤 H A mem run) → Walks 𝓤 H A f.ended stayed (WpFn 𝓤 H (𝓣 .C) (𝓣 .Λ) code.function) (f.clauses 𝓤 H A mem run)
   located-walks known = walked 𝓤 H A f.ended stayed (f.clauses 𝓤 H A mem run) (WpFn 𝓤 H (𝓣 .C) (𝓣 .Λ) code.function) (λ κs. (slice-vals, (slice-vals, (array-vals vals, (uint-vals w64, (bool-vals, (uint-vals w64, tt)))))))
       (λ κs. (shr-slice-tells (named 0) (κs .0) u64, (shr-slice-tells (named 1) (κs .1 .0) u8, (array-tells T.the-row vals (LL.tells T.the-type T′.the-laws) 9, (uint-tells w64, (bool-tells, (uint-tells w64, tt)))))))
       (λ κs qs bounds a g are. needs 𝓤 (a .1 .1 .1 .0 ≤ 9) _ (λ l.
@@ -231,7 +231,7 @@ module _ {M : Type 1} (𝓤 : URA M) (H : Heap 𝓤) (A : Atoms 𝓤) (W : Given
   goes : AllGo 𝓤 H A W 2 (f.signature .params) (f.ended .kept) stayed
   goes = (goes-none-slice 𝓤 H A W 2 (0 ∷ []) tt (plain (λ _. u64)) yes, (goes-none-slice 𝓤 H A W 2 (1 ∷ []) tt (plain (λ _. u8)) yes, (goes-none 𝓤 H A W 2 (λ _. Nine) yes (λ κs x f. refl), (goes-none 𝓤 H A W 2 (λ _. u64) yes (λ κs x f. refl), (goes-none 𝓤 H A W 2 (λ _. bool) yes (λ κs x f. refl), (goes-none 𝓤 H A W 2 (λ _. u64) yes (λ κs x f. refl), tt))))))
 
-  located-meets : Triple 𝓤 (𝓣 .C #lookup) (Lookup 𝓤 H A mem run) → Meets 𝓤 H A f.signature (WpFn 𝓤 H (𝓣 .C) (𝓣 .Λ) code.function) (f.spec 𝓤 H A mem run)
+  located-meets : Triple 𝓤 (𝓣 .C #lookup) (Look 𝓤 H A mem run) → Meets 𝓤 H A f.signature (WpFn 𝓤 H (𝓣 .C) (𝓣 .Λ) code.function) (f.spec 𝓤 H A mem run)
   located-meets known = walk-meets 𝓤 H A f.ended stayed W goes (f.clauses 𝓤 H A mem run) (WpFn 𝓤 H (𝓣 .C) (𝓣 .Λ) code.function) (WpFn-mono 𝓤 H (W .laws) 𝓣 code.function) (located-walks known)
 
 pub located-spec : {M : Type 1} → stated.statement M
@@ -240,4 +240,4 @@ located-spec 𝓤 H 𝓜 𝓖 𝓡 =
     entered 𝓤 H (tripleOf 𝓤 H (𝓖 .A) f.signature (f.spec 𝓤 H (𝓖 .A) (𝓜 .mem) (𝓡 .run)))
     (tables 𝓤 H 𝓜 𝓡 code.env .C) (tables 𝓤 H 𝓜 𝓡 code.env .Λ) #located code.function (code.unfolded 𝓤 H 𝓜 𝓡)
     (located-meets 𝓤 H (𝓖 .A) (givenOf 𝓤 H 𝓜 𝓖) (𝓜 .mem) (𝓡 .run) (tablesOf 𝓤 H 𝓜 (tables 𝓤 H 𝓜 𝓡 code.env))
-    (cited 𝓤 H (Lookup 𝓤 H (𝓖 .A) (𝓜 .mem) (𝓡 .run)) 𝓜 𝓡 code.env #lookup lookup-def.routine code.calls-records·segment-of-frame-records (lookup-thm.met 𝓤 H 𝓜 𝓖 𝓡)))
+    (cited 𝓤 H (Look 𝓤 H (𝓖 .A) (𝓜 .mem) (𝓡 .run)) 𝓜 𝓡 code.env #lookup lookup-def.routine code.calls-records·segment-of-frame-records (lookup-thm.met 𝓤 H 𝓜 𝓖 𝓡)))

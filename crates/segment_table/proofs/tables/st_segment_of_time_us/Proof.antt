@@ -5,7 +5,7 @@ use Rattle.segment_table.proofs.tables.st_segment_of_time_us.Statement.
 use Rattle.segment_table.proofs.tables.st_segment_of_time_us.Tie as tie
 
 returns : tie.Need-returns
-returns c = rw (c .before .before .before .segment-of-time-us .ensures, toZ-ofZ (c .before .before .before .before .before .before .before .fits .time)) at (c .tell-found .ensures)
+returns c = rw (c .before .before .before .segment-of-time-us .ensures, toZ-ofZ (c .before .before .before .before .before .before .before .fits .time)) at (c .tell-lookup .ensures)
 
 pub st-segment-of-time-us-spec : {M : Type 1} → statement M
 st-segment-of-time-us-spec =

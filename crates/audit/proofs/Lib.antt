@@ -6,7 +6,6 @@ pub mod Telling
 pub mod Meant
 pub mod Walked
 pub mod Refused
-pub mod Judged
 pub mod Tiled
 pub mod Rounded
 pub mod Absent

@@ -37,7 +37,6 @@ use Rattle.judge.specs.declared.Video.{Video}
 use Rattle.judge.specs.declared.Video.the-variants.{Nothing, Constant, Times as TimesOf}
 use Rattle.judge.specs.Video.{shownBy}
 use Rattle.judge.specs.Judge.{validateOf, Settled}
-use Rattle.judge.specs.Means.{Fits, Recorded}
 use Rattle.judge.specs.Paper.{validateTests, mcrawTests}
 use Rattle.records.specs.declared.TrimSegment.{TrimSegment}
 use Rattle.maps.specs.declared.Mapped.{Mapped}
@@ -221,12 +220,6 @@ pub record Refusals : Type 0 where
   -- Of condition 1, what `uneven` is of the lent words: a length that is no multiple of its record's, or segment slices that disagree.
   pub uneven : (l : Lent) → (table l .uneven ≡ true) ↔ Uneven (length (l .sources)) (length (l .words)) (length (l .stamps))
 
--- A TABLE IS ACCEPTED FOR A VIDEO, OR A RECORDING, exactly when it fits it: no refusal of 1 to 17, rows that cover the video's frames, each start the time of its
--- first frame, and an end that is near. (Demand 2; judge/specs/Means.antt has it in document 01's words.)
-pub record Acceptances : Type 0 where
-  pub video : (l : Lent) (v : Video) (starts : List ℤ) (r : Checked) → Validate l v starts r → (N : ℕ) → (r ≡ Frames N) ↔ Fits (table l) (shownBy v starts) N
-  pub recording : (l : Lent) (ts a b a′ b′ : List ℤ) (r : Checked) → CheckMcraw l ts a b r a′ b′ → (N : ℕ) → (r ≡ Frames N) ↔ Recorded (table l) ts (length a) (length b) N
-
 -- 6. WHAT EACH ANSWER IS: the promise is this equation with the definition of document 01, no more and no less. Sizes and boxes are those of ISO/IEC 14496-12
 -- (boxes/specs/Boxes.antt), the times are the paper's. (Demand 2.)
 pub record Meanings : Type 0 where
@@ -311,7 +304,6 @@ pub record Claims : Type 0 where
   -- The same of the maps themselves, whatever their length; among it, that an absent shift isn't a shift of 0. (Demand 3; rows/specs/Demands.antt.)
   pub demands : Demands
   pub refusals : Refusals
-  pub acceptances : Acceptances
   pub meanings : Meanings
   pub walking : Walking
   pub rounding : Rounding

@@ -59,7 +59,8 @@
  * 22 last out end isn't the video's frame count
  * 23 a segment's frame time can't be had: scale 0, or outside 64 bits
  * 24 a segment's frame time differs from out start
- * 25 the end isn't near
+ * 25 the end isn't near: |2 end_us scale - 2 end 1,000,000| is over 2 nominal 1,000,000 + scale, where end_us is the last
+ *    segment's out start plus duration; the nominal of a constant video is its denominator, and its scale the numerator
  * 30 over 16,777,216 bytes or timestamps
  * 31 there is none: no such box, no box at the offset, or no frame times to be had
  * 32 lent room too small
@@ -100,7 +101,7 @@ uint64_t st_ticks_to_us(int64_t ticks, uint64_t scale, int64_t *us, uint64_t *in
 
 /* The frames a..b of a map as a map: each row's overlap, counted from a.
  * Lent: a map, and room for the rows. Writes the rows, rows (how many), index. Refuses: 51, 52, 50, 52.
- * A null pointer only with length 0; what is written overlaps nothing else. */
+ * A null pointer only with length 0; what is written overlaps nothing else, or memory may be corrupted. */
 uint64_t st_cut(const uint64_t *words, size_t words_len, const int64_t *shifts, size_t shifts_len, uint64_t a,
                 uint64_t b, uint64_t *out_words, size_t out_words_len, int64_t *out_shifts,
                 size_t out_shifts_len, uint64_t *rows, uint64_t *index);
@@ -108,7 +109,7 @@ uint64_t st_cut(const uint64_t *words, size_t words_len, const int64_t *shifts, 
 /* Two maps as one, the second after the first.
  * Lent: two maps, and room for the rows. Writes the rows, rows (how many), index. Refuses: 51 (of the first map, then of the
  * second), 52, 53, 52.
- * A null pointer only with length 0; what is written overlaps nothing else. */
+ * A null pointer only with length 0; what is written overlaps nothing else, or memory may be corrupted. */
 uint64_t st_join(const uint64_t *words, size_t words_len, const int64_t *shifts, size_t shifts_len,
                  const uint64_t *second_words, size_t second_words_len, const int64_t *second_shifts,
                  size_t second_shifts_len, uint64_t *out_words, size_t out_words_len, int64_t *out_shifts,
@@ -116,7 +117,7 @@ uint64_t st_join(const uint64_t *words, size_t words_len, const int64_t *shifts,
 
 /* A map with one row of neighbours that continue: the same source, frames that run on, flag and shift equal.
  * Lent: a map, and room for the rows. Writes the rows, rows (how many), index. Refuses: 51, 52, 52.
- * A null pointer only with length 0; what is written overlaps nothing else. */
+ * A null pointer only with length 0; what is written overlaps nothing else, or memory may be corrupted. */
 uint64_t st_merge(const uint64_t *words, size_t words_len, const int64_t *shifts, size_t shifts_len,
                   uint64_t *out_words, size_t out_words_len, int64_t *out_shifts, size_t out_shifts_len,
                   uint64_t *rows, uint64_t *index);
@@ -158,7 +159,7 @@ uint64_t st_validate_times(const uint64_t *sources, size_t sources_len, const ui
  * judged as one frame at the rate of segment 0's source.
  * Lent: a table, the timestamps, two working slices as long as the timestamps or longer (of one timestamp, of any length).
  * Writes both working slices (all 0), frames, index. Refuses: 1 to 17, 30, 35, 34, 33, 32, 35, 33, 20, 22, 23 with 24, 25.
- * A null pointer only with length 0; what is written overlaps nothing else. */
+ * A null pointer only with length 0; what is written overlaps nothing else, or memory may be corrupted. */
 uint64_t st_check_mcraw(const uint64_t *sources, size_t sources_len, const uint64_t *segments,
                         size_t segments_len, const int64_t *times, size_t times_len, bool log,
                         const uint8_t *text, size_t text_len, const int64_t *timestamps,
@@ -208,7 +209,7 @@ uint64_t st_segment_of_frame_records(const uint64_t *sources, size_t sources_len
  * (1,000,000,000), the nominal interval and the end; the starts count from the first timestamp.
  * Lent: the timestamps, room for the starts, a working slice; both as long as the timestamps or longer.
  * Writes starts, work (all 0), frames, scale, nominal, end, index. Refuses: 30, 31, 34, 33, 32, 31, 33.
- * A null pointer only with length 0; what is written overlaps nothing else. */
+ * A null pointer only with length 0; what is written overlaps nothing else, or memory may be corrupted. */
 uint64_t st_mcraw_times(const int64_t *timestamps, size_t timestamps_len, int64_t *starts, size_t starts_len,
                         int64_t *work, size_t work_len, uint64_t *frames, uint64_t *scale, int64_t *nominal,
                         int64_t *end, uint64_t *index);
@@ -216,9 +217,9 @@ uint64_t st_mcraw_times(const int64_t *timestamps, size_t timestamps_len, int64_
 /* The frame times of a moov's first video track: how many, their timescale, the nominal interval and the end; the starts
  * in presentation order.
  * Lent: the payload of a moov box, room for the starts, two working slices as long. As many elements as the track has
- * frames are enough for each. Writes starts, both working slices (all 0), frames, scale, nominal, end, index. Refuses:
+ * frames are enough for each; it has no more than moov has bytes, else it is 31. Writes starts, both working slices (all 0), frames, scale, nominal, end, index. Refuses:
  * 30, 31, 32, 31, 33.
- * A null pointer only with length 0; what is written overlaps nothing else. */
+ * A null pointer only with length 0; what is written overlaps nothing else, or memory may be corrupted. */
 uint64_t st_video_frame_times_of_moov(const uint8_t *moov, size_t moov_len, int64_t *starts,
                                       size_t starts_len, int64_t *work_a, size_t work_a_len, int64_t *work_b,
                                       size_t work_b_len, uint64_t *frames, uint64_t *scale, int64_t *nominal,
@@ -260,7 +261,7 @@ uint64_t st_continues(const uint64_t *sources, size_t sources_len, const uint64_
 
 /* The map of an accepted table: one row a segment, an absent shift as 0.
  * Lent: a table, and room for the rows. Writes the rows, rows (how many), index. Refuses: 1 to 17, 32.
- * A null pointer only with length 0; what is written overlaps nothing else. */
+ * A null pointer only with length 0; what is written overlaps nothing else, or memory may be corrupted. */
 uint64_t st_rows_of_table(const uint64_t *sources, size_t sources_len, const uint64_t *segments,
                           size_t segments_len, const int64_t *times, size_t times_len, bool log,
                           const uint8_t *text, size_t text_len, uint64_t *out_words, size_t out_words_len,
@@ -274,8 +275,9 @@ uint64_t st_rows_of_table(const uint64_t *sources, size_t sources_len, const uin
 uint64_t st_box_size(const uint8_t *data, size_t data_len, uint64_t remaining, uint64_t *size,
                      uint64_t *header, uint64_t *index);
 
-/* The box at offset `at` of payload: its type, where its payload lies, and where the next box is. From 0 on, and then from
- * each answer's `next`, all boxes are met, in order, until 31: fewer than 8 bytes are left there, or the box doesn't fit.
+/* The box at offset `at` of payload: its type (`kind`, its four bytes, big-endian), where its payload lies, and where the
+ * next box is. From 0 on, and then from each answer's `next`, all boxes are met, in order, until 31: fewer than 8 bytes are
+ * left there, or the box doesn't fit.
  * Lent: a box's payload. Writes kind, start, length, next, index. Refuses: 30, 42, 31.
  * A null pointer only with length 0. */
 uint64_t st_children(const uint8_t *payload, size_t payload_len, uint64_t at, uint32_t *kind, uint64_t *start,

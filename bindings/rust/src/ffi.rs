@@ -44,18 +44,18 @@ extern "C" {
 
     /// The frames a..b of a map as a map: each row's overlap, counted from a.
     /// Lent: a map, and room for the rows. Writes the rows, rows (how many), index. Refuses: 51, 52, 50, 52.
-    /// A null pointer only with length 0; what is written overlaps nothing else.
+    /// A null pointer only with length 0; what is written overlaps nothing else, or memory may be corrupted.
     pub fn st_cut(words: *const u64, words_len: usize, shifts: *const i64, shifts_len: usize, a: u64, b: u64, out_words: *mut u64, out_words_len: usize, out_shifts: *mut i64, out_shifts_len: usize, rows: *mut u64, index: *mut u64) -> u64;
 
     /// Two maps as one, the second after the first.
     /// Lent: two maps, and room for the rows. Writes the rows, rows (how many), index. Refuses: 51 (of the first map, then of the
     /// second), 52, 53, 52.
-    /// A null pointer only with length 0; what is written overlaps nothing else.
+    /// A null pointer only with length 0; what is written overlaps nothing else, or memory may be corrupted.
     pub fn st_join(words: *const u64, words_len: usize, shifts: *const i64, shifts_len: usize, second_words: *const u64, second_words_len: usize, second_shifts: *const i64, second_shifts_len: usize, out_words: *mut u64, out_words_len: usize, out_shifts: *mut i64, out_shifts_len: usize, rows: *mut u64, index: *mut u64) -> u64;
 
     /// A map with one row of neighbours that continue: the same source, frames that run on, flag and shift equal.
     /// Lent: a map, and room for the rows. Writes the rows, rows (how many), index. Refuses: 51, 52, 52.
-    /// A null pointer only with length 0; what is written overlaps nothing else.
+    /// A null pointer only with length 0; what is written overlaps nothing else, or memory may be corrupted.
     pub fn st_merge(words: *const u64, words_len: usize, shifts: *const i64, shifts_len: usize, out_words: *mut u64, out_words_len: usize, out_shifts: *mut i64, out_shifts_len: usize, rows: *mut u64, index: *mut u64) -> u64;
 
     /// Where a frame comes from: its source, its frame there, the shift's flag (1 present, 0 absent) and the shift.
@@ -82,7 +82,7 @@ extern "C" {
     /// judged as one frame at the rate of segment 0's source.
     /// Lent: a table, the timestamps, two working slices as long as the timestamps or longer (of one timestamp, of any length).
     /// Writes both working slices (all 0), frames, index. Refuses: 1 to 17, 30, 35, 34, 33, 32, 35, 33, 20, 22, 23 with 24, 25.
-    /// A null pointer only with length 0; what is written overlaps nothing else.
+    /// A null pointer only with length 0; what is written overlaps nothing else, or memory may be corrupted.
     pub fn st_check_mcraw(sources: *const u64, sources_len: usize, segments: *const u64, segments_len: usize, times: *const i64, times_len: usize, log: bool, text: *const u8, text_len: usize, timestamps: *const i64, timestamps_len: usize, work_a: *mut i64, work_a_len: usize, work_b: *mut i64, work_b_len: usize, frames: *mut u64, index: *mut u64) -> u64;
 
     /// The segment of a frame, over a list of records instead of words; the answer is st_segment_of_frame's.
@@ -94,15 +94,15 @@ extern "C" {
     /// (1,000,000,000), the nominal interval and the end; the starts count from the first timestamp.
     /// Lent: the timestamps, room for the starts, a working slice; both as long as the timestamps or longer.
     /// Writes starts, work (all 0), frames, scale, nominal, end, index. Refuses: 30, 31, 34, 33, 32, 31, 33.
-    /// A null pointer only with length 0; what is written overlaps nothing else.
+    /// A null pointer only with length 0; what is written overlaps nothing else, or memory may be corrupted.
     pub fn st_mcraw_times(timestamps: *const i64, timestamps_len: usize, starts: *mut i64, starts_len: usize, work: *mut i64, work_len: usize, frames: *mut u64, scale: *mut u64, nominal: *mut i64, end: *mut i64, index: *mut u64) -> u64;
 
     /// The frame times of a moov's first video track: how many, their timescale, the nominal interval and the end; the starts
     /// in presentation order.
     /// Lent: the payload of a moov box, room for the starts, two working slices as long. As many elements as the track has
-    /// frames are enough for each. Writes starts, both working slices (all 0), frames, scale, nominal, end, index. Refuses:
+    /// frames are enough for each; it has no more than moov has bytes, else it is 31. Writes starts, both working slices (all 0), frames, scale, nominal, end, index. Refuses:
     /// 30, 31, 32, 31, 33.
-    /// A null pointer only with length 0; what is written overlaps nothing else.
+    /// A null pointer only with length 0; what is written overlaps nothing else, or memory may be corrupted.
     pub fn st_video_frame_times_of_moov(moov: *const u8, moov_len: usize, starts: *mut i64, starts_len: usize, work_a: *mut i64, work_a_len: usize, work_b: *mut i64, work_b_len: usize, frames: *mut u64, scale: *mut u64, nominal: *mut i64, end: *mut i64, index: *mut u64) -> u64;
 
     /// Checks a table: its frame total.
@@ -128,7 +128,7 @@ extern "C" {
 
     /// The map of an accepted table: one row a segment, an absent shift as 0.
     /// Lent: a table, and room for the rows. Writes the rows, rows (how many), index. Refuses: 1 to 17, 32.
-    /// A null pointer only with length 0; what is written overlaps nothing else.
+    /// A null pointer only with length 0; what is written overlaps nothing else, or memory may be corrupted.
     pub fn st_rows_of_table(sources: *const u64, sources_len: usize, segments: *const u64, segments_len: usize, times: *const i64, times_len: usize, log: bool, text: *const u8, text_len: usize, out_words: *mut u64, out_words_len: usize, out_shifts: *mut i64, out_shifts_len: usize, rows: *mut u64, index: *mut u64) -> u64;
 
     /// The size of the box at the start of data, and of its header, where `remaining` bytes are left of what it is in.
@@ -136,8 +136,9 @@ extern "C" {
     /// A null pointer only with length 0.
     pub fn st_box_size(data: *const u8, data_len: usize, remaining: u64, size: *mut u64, header: *mut u64, index: *mut u64) -> u64;
 
-    /// The box at offset `at` of payload: its type, where its payload lies, and where the next box is. From 0 on, and then from
-    /// each answer's `next`, all boxes are met, in order, until 31: fewer than 8 bytes are left there, or the box doesn't fit.
+    /// The box at offset `at` of payload: its type (`kind`, its four bytes, big-endian), where its payload lies, and where the
+    /// next box is. From 0 on, and then from each answer's `next`, all boxes are met, in order, until 31: fewer than 8 bytes are
+    /// left there, or the box doesn't fit.
     /// Lent: a box's payload. Writes kind, start, length, next, index. Refuses: 30, 42, 31.
     /// A null pointer only with length 0.
     pub fn st_children(payload: *const u8, payload_len: usize, at: u64, kind: *mut u32, start: *mut u64, length: *mut u64, next: *mut u64, index: *mut u64) -> u64;
@@ -183,7 +184,7 @@ pub const REFUSALS: &[(u64, &str)] = &[
     (22, "last out end isn't the video's frame count"),
     (23, "a segment's frame time can't be had: scale 0, or outside 64 bits"),
     (24, "a segment's frame time differs from out start"),
-    (25, "the end isn't near"),
+    (25, "the end isn't near: |2 end_us scale - 2 end 1,000,000| is over 2 nominal 1,000,000 + scale, where end_us is the last segment's out start plus duration; the nominal of a constant video is its denominator, and its scale the numerator"),
     (30, "over 16,777,216 bytes or timestamps"),
     (31, "there is none: no such box, no box at the offset, or no frame times to be had"),
     (32, "lent room too small"),

@@ -50,8 +50,8 @@ pub struct Segment {
     pub clock_shift: Option<i64>,
 }
 
-/// An accepted segment table. Of what is absent nothing is kept: two tables that differ only in words that are ignored are
-/// equal.
+/// An accepted segment table. Of what is absent nothing is kept: two tables that differ only in words and bytes that are
+/// ignored are equal.
 ///
 /// ```
 /// use segment_table::{Segment, Source, Table};
@@ -161,10 +161,17 @@ impl Table {
         Ok(table)
     }
 
-    /// Sets the words of what is absent to 0: no call looks at them, and equality and hash must not.
+    /// Sets the words of what is absent to 0, and keeps of the text the creation times alone, one after another: no call
+    /// looks at the rest, and equality and hash must not.
     fn clean(&mut self) {
+        let mut text = Vec::new();
         for source in self.sources.chunks_exact_mut(10) {
             if source[3] == 0 { source[4..6].fill(0) } // the creation time's offset and length
+            else {
+                let (at, length) = (source[4] as usize, source[5] as usize);
+                source[4] = text.len() as u64;
+                text.extend_from_slice(&self.text[at..at + length]);
+            }
             match source[6] {
                 0 => source[7..10].fill(0), // the clock's rate and modulus
                 1 => source[9] = 0,
@@ -174,6 +181,7 @@ impl Table {
         for (words, times) in self.segments.chunks_exact(5).zip(self.times.chunks_exact_mut(7)) {
             if words[4] == 0 { times[6] = 0 } // the shift
         }
+        self.text = text;
     }
 
     /// How many frames it has.

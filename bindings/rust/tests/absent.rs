@@ -49,6 +49,18 @@ fn words_of_what_is_there_do() {
     }
 }
 
+/// Bytes around the creation times, and where in the text they stand, make no difference either; the times themselves do.
+#[test]
+fn only_creation_times_count_of_the_text() {
+    let table = |at: u64, text: &str| {
+        let source = vec![100, 25, 1, 1, at, 20, 0, 0, 0, 0];
+        Table::from_words(source, vec![0, 0, 10, 0, 0], vec![0; 7], false, text.as_bytes().to_vec()).unwrap()
+    };
+    same(table(3, "?? 2024-11-17T13:12:46Z!"), table(0, "2024-11-17T13:12:46Z"));
+    assert_ne!(table(0, "2024-11-17T13:12:47Z"), table(0, "2024-11-17T13:12:46Z"));
+    assert_eq!(table(3, "?? 2024-11-17T13:12:46Z!").segment_of_frame(9), 0);
+}
+
 /// A source without a creation time has no place in the text, wherever it stands in the list.
 #[test]
 fn a_table_of_records_is_that_of_its_words() {

@@ -27,7 +27,7 @@ use Rattle.rules.specs.Records.{segment}
 use Rattle.rules.specs.Records as records
 use Rattle.rules.specs.Rules.{checkOf}
 use Rattle.rules.specs.Paper.{tests, Rightly}
-use Rattle.rules.specs.Absent.{clean}
+use Rattle.rules.specs.Absent.{stripped}
 use Rattle.rules.specs.Lookups.{segmentOfFrame, segmentOfTime, continuesAt}
 use Rattle.table.specs.declared.Filled.{Filled}
 use Rattle.table.specs.declared.Filled.the-variants.{Rows}
@@ -286,10 +286,10 @@ pub record SameAnswers (l m : Lent) : Type 0 where
 -- WORDS OF AN ABSENT THING (creation time, clock, modulus, shift) ARE IGNORED: tables that differ only in them, that are the same when these words are set to 0, get
 -- the same answers from every call that takes a table. (Document 01, 'How a table is lent'; demand 2; rules/specs/Absent.antt says which words.)
 pub record Ignored : Type 0 where
-  pub words : (l m : Lent) → clean (table l) ≡ clean (table m) → SameAnswers l m
+  pub words : (l m : Lent) → stripped (table l) ≡ stripped (table m) → SameAnswers l m
   -- and so does the lookup over records, of whose absent things some are words and some are fields
   pub segment-of-frame-records : (sources sources′ text text′ : List ℕ) (rs rs′ : List TrimSegment) (log log′ : Bool)
-      → clean (table (inWords sources text rs log)) ≡ clean (table (inWords sources′ text′ rs′ log′))
+      → stripped (table (inWords sources text rs log)) ≡ stripped (table (inWords sources′ text′ rs′ log′))
       → (f : ℕ) (r : Lookup) → calls.SegmentOfFrameRecords sources text rs log f r → calls.SegmentOfFrameRecords sources′ text′ rs′ log′ f r
 
 pub record Claims : Type 0 where

@@ -39,7 +39,7 @@ pub data Example : Type 0 where
   -- a table is accepted with so many frames, or refused
   checked : (l : Lent) (is : Checked) → Example
   -- a table against a video without lent starts
-  judged : (l : Lent) (video : Video) (is : Checked) → Example
+  against : (l : Lent) (video : Video) (is : Checked) → Example
   -- the segment of a frame, and of a time
   frame : (l : Lent) (k : ℕ) (is : Lookup) → Example
   time : (l : Lent) (us : ℤ) (is : Lookup) → Example
@@ -51,7 +51,7 @@ pub data Example : Type 0 where
   joins : (m n : List Row) (are : List Row) → Example
   merges : (m : List Row) (are : List Row) → Example
   -- where a frame of a map comes from
-  origin : (m : List Row) (k : ℕ) (is : Traced) → Example
+  comes : (m : List Row) (k : ℕ) (is : Traced) → Example
   -- the frame times of a moov, and where each frame starts
   movie : (moov : List ℕ) (are : FrameTimes) (starts : List ℤ) → Example
   -- the times of a recording's timestamps, and where each frame starts
@@ -62,7 +62,7 @@ abbrev pub Holds : Example → Type 0
 Holds (ticks t scale us) = (r : Us) → TicksToUs t scale r → r ≡ us
 Holds (second bytes is) = (r : Bool) → IsUtcSecond bytes r → r ≡ is
 Holds (checked l is) = (r : Checked) → Check l r → r ≡ is
-Holds (judged l video is) = (r : Checked) → Validate l video [] r → r ≡ is
+Holds (against l video is) = (r : Checked) → Validate l video [] r → r ≡ is
 Holds (frame l k is) = (r : Lookup) → SegmentOfFrame l k r → r ≡ is
 Holds (time l us is) = (r : Lookup) → SegmentOfTimeUs l us r → r ≡ is
 Holds (map l are) =
@@ -77,7 +77,7 @@ Holds (joins m n are) =
 Holds (merges m are) =
     (r : Mapped) (ou : List ℕ) (os : List ℤ) → Merge (wordsOf m) (shiftsOf m) (replicate (5 * length are) 0) (replicate (length are) (pos 0)) r ou os
     → (r ≡ mapped.Rows (length are)) × (mapWritten (length are) ou os ≡ are)
-Holds (origin m k is) = (r : Traced) → Origin (wordsOf m) (shiftsOf m) k r → r ≡ is
+Holds (comes m k is) = (r : Traced) → Origin (wordsOf m) (shiftsOf m) k r → r ≡ is
 Holds (movie moov are starts) =
     (r : FrameTimes) (starts′ a′ b′ : List ℤ)
     → VideoFrameTimesOfMoov moov (replicate (length starts) (pos 0)) (replicate (length starts) (pos 0)) (replicate (length starts) (pos 0)) r starts′ a′ b′
@@ -201,10 +201,10 @@ examples =
     ∷ ticks (negℤ (pos 1)) 2000000 (At (negℤ (pos 1)))
     ∷ ticks (pos 1) 4000000 (At (pos 0))
     -- 30 frames at 30000/1001: the ends 967,633 and 1,034,367 are near, 967,632 and 1,034,368 are 25
-    ∷ judged (lasting 967633) thirty (Frames 30)
-    ∷ judged (lasting 1034367) thirty (Frames 30)
-    ∷ judged (lasting 967632) thirty (Refused 25 0)
-    ∷ judged (lasting 1034368) thirty (Refused 25 0)
+    ∷ against (lasting 967633) thirty (Frames 30)
+    ∷ against (lasting 1034367) thirty (Frames 30)
+    ∷ against (lasting 967632) thirty (Refused 25 0)
+    ∷ against (lasting 1034368) thirty (Refused 25 0)
     -- a day that there was, and one that there wasn't: the UTC rule, and the creation time of T's source A
     ∷ second leapDay true
     ∷ second notLeapDay false
@@ -235,13 +235,13 @@ examples =
     ∷ recording (pos 1000 ∷ pos 1010 ∷ pos 1025 ∷ []) (Timed 3 1000000000 (pos 10) (pos 35)) (pos 0 ∷ pos 10 ∷ pos 25 ∷ [])
     -- the auditor's clip: accepted, its rows, cut twice and cut at once, and frame 41,200 of it: frame 28,200 of original 1, with the shift -1,800
     ∷ checked clipTable (Frames 108500)
-    ∷ judged clipTable (Constant 108500 25 1) (Frames 108500)
+    ∷ against clipTable (Constant 108500 25 1) (Frames 108500)
     ∷ map clipTable clipRows
     ∷ cuts clipRows 5000 105000 clipCut
     ∷ cuts clipCut 10000 90000 clipTwice
     ∷ cuts clipRows 15000 95000 clipTwice
-    ∷ origin clipTwice 41200 (From 1 28200 1 clipShift)
-    ∷ origin clipRows 56200 (From 1 28200 1 clipShift)
+    ∷ comes clipTwice 41200 (From 1 28200 1 clipShift)
+    ∷ comes clipRows 56200 (From 1 28200 1 clipShift)
     ∷ frame clipTable 56200 (Index 1)
     -- its frames up to 50,000 and those after them, joined: four rows, which merged are the clip again
     ∷ cuts clipRows 0 50000 clipHead

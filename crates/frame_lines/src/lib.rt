@@ -8,7 +8,7 @@ use frame_times::video_frame_times_of_moov;
 use printing::number;
 use printing::signed;
 use printing::text;
-use reading::End;
+use reading::Ending;
 ghost use Rattle.frame_times.specs.Times.{room};
 ghost use Rattle.frame_times.specs.Steps.{OutcomeAnswered};
 ghost use Rattle.frame_lines.specs.Files.{fileTimes};
@@ -104,8 +104,8 @@ pub fn run() {
     let n = input.held;
     let end = input.end;
     match end {
-        End::Within => print_file(&file[..n]),
-        End::Past => print_refusal(TOO_LONG),
-        End::Failed => reading::say_failed(),
+        Ending::Within => print_file(&file[..n]),
+        Ending::Past => print_refusal(TOO_LONG),
+        Ending::Failed => reading::say_failed(),
     }
 }

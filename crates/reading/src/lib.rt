@@ -3,13 +3,13 @@ use libc::STDIN_FILENO;
 ghost use Rattle.io.specs.Counts.{Counts};
 
 // What a read filled: how many bytes are held, and whether it stopped because it failed.
-pub struct Filled {
+pub struct Taken {
     pub held: usize,
     pub failed: bool,
 }
 
 // Where the input ends: within the room lent, past it, or nowhere, since a read failed.
-pub enum End {
+pub enum Ending {
     Within,
     Past,
     Failed,
@@ -18,11 +18,11 @@ pub enum End {
 // The input, as far as it is held.
 pub struct Input {
     pub held: usize,
-    pub end: End,
+    pub end: Ending,
 }
 
 // Reads until the room is full, the input ends, or a read fails. io::read_full does the same, but doesn't tell the last two apart.
-pub fn fill(room: &mut [u8]) -> Filled
+pub fn fill(room: &mut [u8]) -> Taken
     ensures { λ r. ⌜ Counts (r .held) (now (room .exit)) ⌝ }
 {
     let mut held = 0;
@@ -30,30 +30,30 @@ pub fn fill(room: &mut [u8]) -> Filled
         let got = libc::read(STDIN_FILENO, &mut room[held..]);
         let more = io::count(got, &room[held..]);
         if more == 0 {
-            return Filled {
+            return Taken {
                 held,
                 failed: got < 0,
             };
         }
         held += more;
     }
-    Filled {
+    Taken {
         held,
         failed: false,
     }
 }
 
 // How the input ends after the room is full: one byte more is asked for.
-fn after_full() -> End {
+fn after_full() -> Ending {
     let mut byte = [0u8; 1];
     let next = fill(&mut byte);
     if next.failed {
-        return End::Failed;
+        return Ending::Failed;
     }
     if next.held == 0 {
-        return End::Within;
+        return Ending::Within;
     }
-    End::Past
+    Ending::Past
 }
 
 // The whole input, where it has room.
@@ -65,13 +65,13 @@ pub fn read_input(room: &mut [u8]) -> Input
     if filled.failed {
         return Input {
             held,
-            end: End::Failed,
+            end: Ending::Failed,
         };
     }
     if held < room.len() {
         return Input {
             held,
-            end: End::Within,
+            end: Ending::Within,
         };
     }
     Input {

@@ -4,7 +4,7 @@ use choice::Refusal;
 use rules::Ends;
 use rules::Lookup;
 use rules::MAX_SEGMENTS;
-use rules::Times;
+use rules::SixTimes;
 use rules::Turn;
 use rules::Words;
 use table::SOURCE;
@@ -84,13 +84,13 @@ fn words_of(r: TrimSegment) -> Words
 }
 
 // What the signed words of a record say.
-fn times_of(r: TrimSegment) -> Times
+fn times_of(r: TrimSegment) -> SixTimes
     ensures { λ t. ⌜ t ≡ stampTimes (stampsOf r) ⌝ }
 {
     let a = signed::negative(r.src_start_us) | signed::negative(r.out_start_us);
     let b = signed::negative(r.duration_us) | signed::negative(r.src_capture_start_us);
     let c = signed::negative(r.out_capture_start_us) | signed::negative(r.capture_duration_us);
-    Times {
+    SixTimes {
         negative: (a | b) | c,
         srcstart: signed::magnitude(r.src_start_us),
         outstart: signed::magnitude(r.out_start_us),

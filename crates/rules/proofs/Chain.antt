@@ -10,7 +10,7 @@ use Rattle.choice.proofs.Chains.{orElse-kept}
 use Rattle.rules.specs.declared.Source.{Source}
 use Rattle.rules.specs.declared.Words.{Words}
 use Rattle.rules.specs.declared.Ends.{Ends}
-use Rattle.rules.specs.declared.Times.{Times}
+use Rattle.rules.specs.declared.SixTimes.{SixTimes}
 use Rattle.rules.specs.Rules.{tooLate, apart, badShift, judged}
 use Rattle.rules.specs.Steps.{framesOr, timesOr}
 
@@ -46,7 +46,7 @@ frames-part frames first count out rest =
     (part (past out count maxU64 || past first count maxU64) 11 _ rest (λ z. omega arith)
     (part (past first count frames) 12 _ rest (λ z. omega arith) (no-rest rest)))
 
-times-part : (prev : Ends) (out : ℕ) (t : Times) (rest : ℕ) → timesOr prev out t rest ≡ orElse (timesOr prev out t 0) rest
+times-part : (prev : Ends) (out : ℕ) (t : SixTimes) (rest : ℕ) → timesOr prev out t rest ≡ orElse (timesOr prev out t 0) rest
 times-part prev out t rest =
     part (t .negative) 13 _ rest (λ z. omega arith)
     (part (tooLate (t .srcstart) (t .duration) (t .srccap) (t .capdur)) 14 _ rest (λ z. omega arith)
@@ -62,7 +62,7 @@ by-rest : {x n rest r y : ℕ} → x ≡ orElse n rest → y ≡ n → y ≡ 0 �
 by-rest {x} {n} {rest} {r} {y} e h z f = f ∙ no-rest rest ∙ ap (λ (m : ℕ). orElse m rest) (sym z ∙ h) ∙ sym e
 
 -- 10 to 17: y is what 10 to 12 give, z what 13 to 16 give, r the answer
-module _ (s : Source) (prev : Ends) (w : Words) (t : Times) where
+module _ (s : Source) (prev : Ends) (w : Words) (t : SixTimes) where
   abbrev shift : ℕ
   shift = when (badShift (s .kind) (s .modulus) (w .flag) (t .back) (t .shift)) 17 0
 

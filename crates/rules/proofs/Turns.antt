@@ -10,7 +10,7 @@ use Rattle.choice.proofs.Tests.{or-false}
 use Rattle.choice.proofs.Chains.{when-zero, past-not}
 use Rattle.rules.specs.declared.Source.{Source}
 use Rattle.rules.specs.declared.Words.{Words}
-use Rattle.rules.specs.declared.Times.{Times}
+use Rattle.rules.specs.declared.SixTimes.{SixTimes}
 use Rattle.rules.specs.declared.Ends.{Ends}
 use Rattle.rules.specs.declared.Turn.the-variants.{Stop, Go}
 use Rattle.rules.specs.Limits.{maxI64}
@@ -34,14 +34,14 @@ skip : (b : Bool) (n rest : ℕ) → when b (suc n) rest ≡ 0 → (b ≡ false)
 skip b n rest e = when-zero b (suc n) rest (λ z. let q : suc n ≡ 0 = z in omega arith) e
 
 -- what a walk takes from a segment that none of 10 to 17 refuses: no time is negative, it begins where the one before ends, and its ends fit
-pub record Fit (prev : Ends) (w : Words) (t : Times) : Type 0 where
+pub record Fit (prev : Ends) (w : Words) (t : SixTimes) : Type 0 where
   pub positive : t .negative ≡ false
   pub chained : w .out ≡ prev .frame
   pub frame : w .out + w .count ≤ maxU64
   pub time : t .outstart + t .duration ≤ maxI64
   pub capture : t .outcap + t .capdur ≤ maxI64
 
-pub judged-fit : (s : Source) (prev : Ends) (w : Words) (t : Times) → judged s prev w t ≡ 0 → Fit prev w t
+pub judged-fit : (s : Source) (prev : Ends) (w : Words) (t : SixTimes) → judged s prev w t ≡ 0 → Fit prev w t
 unfolding judged
 judged-fit s prev w t e =
     let c11 = skip _ _ _ (skip _ _ _ e .1) in

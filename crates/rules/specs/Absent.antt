@@ -1,4 +1,4 @@
--- Words of an absent thing, which are ignored: a table with these words set to 0, `clean`, gets the same answers, so two tables that differ only in them do.
+-- Words of an absent thing, which are ignored: a table with these words set to 0, `stripped`, gets the same answers, so two tables that differ only in them do.
 use mathlib.Core.Bool.{_||_}
 use mathlib.Core.List.{map}
 use lib.Dec.{eqb}
@@ -8,8 +8,8 @@ use Rattle.rules.specs.declared.Source.{Source}
 use Rattle.rules.specs.Records.{Segment, Table}
 
 -- offset and length of an absent creation time; clock numbers of kind 0; modulus of kinds 0 and 1
-unfoldable pub cleanSource : Source → Source
-cleanSource s = record {
+unfoldable pub strippedSource : Source → Source
+strippedSource s = record {
   frames = s .frames;
   num = s .num;
   den = s .den;
@@ -23,8 +23,8 @@ cleanSource s = record {
 }
 
 -- the shift of an absent shift
-unfoldable pub cleanSegment : Segment → Segment
-cleanSegment e = record {
+unfoldable pub strippedSegment : Segment → Segment
+strippedSegment e = record {
   words = e .words;
   stamps = record {
     srcstart = e .stamps .srcstart;
@@ -38,11 +38,11 @@ cleanSegment e = record {
 }
 
 -- a table with the words of what is absent set to 0
-unfoldable pub clean : Table → Table
-clean t = record {
+unfoldable pub stripped : Table → Table
+stripped t = record {
   uneven = t .uneven;
   log = t .log;
   text = t .text;
-  sources = map cleanSource (t .sources);
-  segments = map cleanSegment (t .segments);
+  sources = map strippedSource (t .sources);
+  segments = map strippedSegment (t .segments);
 }

@@ -14,7 +14,7 @@ use Rattle.choice.specs.Records.{any, firstRefused, orRefused}
 use Rattle.utc.specs.Utc.{utcSecond}
 use Rattle.rules.specs.declared.Source.{Source}
 use Rattle.rules.specs.declared.Words.{Words}
-use Rattle.rules.specs.declared.Times.{Times}
+use Rattle.rules.specs.declared.SixTimes.{SixTimes}
 use Rattle.rules.specs.declared.Ends.{Ends}
 use Rattle.rules.specs.declared.Checked.{Checked}
 use Rattle.rules.specs.declared.Checked.the-variants.{Frames, Refused}
@@ -66,7 +66,7 @@ abbrev pub negative : ℤ → Bool
 negative z = ltZ z (pos 0)
 
 -- a segment's times as numbers; the magnitudes are used only after 13, where none is negative
-unfoldable pub stampTimes : Stamps → Times
+unfoldable pub stampTimes : Stamps → SixTimes
 stampTimes e = record {
   negative =
       ((negative (e .srcstart) || negative (e .outstart)) || (negative (e .duration) || negative (e .srccap)))
@@ -97,7 +97,7 @@ badShift kind modulus flag back shift =
 -- 10 to 17 of a segment of the source s, after one that ends at prev
 -- 10: frame_count 0. 11: out or src first frame plus count passes 2^64 - 1. 12: source end past the source's frames.
 -- 13: any of the six times negative. 14: of the source pairs; after 16, of the out pairs. 15: out_first_frame isn't the end before
-unfoldable pub judged : Source → Ends → Words → Times → ℕ
+unfoldable pub judged : Source → Ends → Words → SixTimes → ℕ
 judged s prev w t =
     when (eqb (w .count) 0) 10
     (when (past (w .out) (w .count) maxU64 || past (w .first) (w .count) maxU64) 11
@@ -121,7 +121,7 @@ unfoldable pub start : Ends
 start = record { some = false; frame = 0; time = 0; capture = 0 }
 
 -- where a segment with these words and times ends
-unfoldable pub endsOf : Words → Times → Ends
+unfoldable pub endsOf : Words → SixTimes → Ends
 endsOf w t = record { some = true; frame = w .out + w .count; time = t .outstart + t .duration; capture = t .outcap + t .capdur }
 
 -- where a segment ends

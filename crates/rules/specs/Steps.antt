@@ -7,7 +7,7 @@ use Rattle.choice.specs.Choice.{when, past, maxU64}
 use Rattle.choice.specs.Records.{run}
 use Rattle.rules.specs.declared.Source.{Source}
 use Rattle.rules.specs.declared.Words.{Words}
-use Rattle.rules.specs.declared.Times.{Times}
+use Rattle.rules.specs.declared.SixTimes.{SixTimes}
 use Rattle.rules.specs.declared.Ends.{Ends}
 use Rattle.rules.specs.declared.Turn.{Turn}
 use Rattle.rules.specs.declared.Checked.{Checked}
@@ -25,7 +25,7 @@ framesOr frames first count out rest =
     rest))
 
 -- 13 to 16, 14 again, and then the rest
-abbrev pub timesOr : Ends → ℕ → Times → ℕ → ℕ
+abbrev pub timesOr : Ends → ℕ → SixTimes → ℕ → ℕ
 timesOr prev out t rest =
     when (t .negative) 13
     (when (tooLate (t .srcstart) (t .duration) (t .srccap) (t .capdur)) 14
@@ -39,7 +39,7 @@ unfoldable pub stopOr : ℕ → Ends → Turn
 stopOr zero next = Go next
 stopOr (suc n) next = Stop (suc n)
 
-unfoldable pub turned : Source → Ends → Words → Times → Turn
+unfoldable pub turned : Source → Ends → Words → SixTimes → Turn
 turned s prev w t = stopOr (judged s prev w t) (endsOf w t)
 
 -- 9 to 17 of a segment

@@ -47,7 +47,7 @@ pub struct Words {
 
 // What a segment's signed words say: whether one of the six times is negative, and each one's magnitude.
 // The magnitudes of times are used only after 13, where none is negative.
-pub struct Times {
+pub struct SixTimes {
     pub negative: bool,
     // src_start_us.
     pub srcstart: u64,
@@ -210,7 +210,7 @@ fn frames_refusal(frames: u64, first: u64, count: u64, out: u64) -> u64
 }
 
 // 13 to 16, and 14 of the out pairs: a number, or 0.
-fn times_refusal(prev: Ends, out: u64, t: Times) -> u64
+fn times_refusal(prev: Ends, out: u64, t: SixTimes) -> u64
     ensures { λ r. ⌜ r ≡ timesOr prev out t 0 ⌝ }
 {
     if t.negative {
@@ -232,7 +232,7 @@ fn times_refusal(prev: Ends, out: u64, t: Times) -> u64
 }
 
 // 10 to 17 of a segment of the source s, after one that ends at prev: a number, or 0.
-fn judge(s: Source, prev: Ends, w: Words, t: Times) -> u64
+fn judge(s: Source, prev: Ends, w: Words, t: SixTimes) -> u64
     ensures { λ r. ⌜ r ≡ judged s prev w t ⌝ }
 {
     let frames = frames_refusal(s.frames, w.first, w.count, w.out);
@@ -250,7 +250,7 @@ fn judge(s: Source, prev: Ends, w: Words, t: Times) -> u64
 }
 
 // 10 to 17 of a segment: a refusal, or where it ends.
-pub fn turn_of(s: Source, prev: Ends, w: Words, t: Times) -> Turn
+pub fn turn_of(s: Source, prev: Ends, w: Words, t: SixTimes) -> Turn
     ensures { λ r. ⌜ r ≡ turned s prev w t ⌝ }
 {
     let n = judge(s, prev, w, t);

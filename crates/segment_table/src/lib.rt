@@ -59,7 +59,8 @@
 // 22 last out end isn't the video's frame count
 // 23 a segment's frame time can't be had: scale 0, or outside 64 bits
 // 24 a segment's frame time differs from out start
-// 25 the end isn't near
+// 25 the end isn't near: |2 end_us scale - 2 end 1,000,000| is over 2 nominal 1,000,000 + scale, where end_us is the last
+//    segment's out start plus duration; the nominal of a constant video is its denominator, and its scale the numerator
 // 30 over 16,777,216 bytes or timestamps
 // 31 there is none: no such box, no box at the offset, or no frame times to be had
 // 32 lent room too small

@@ -93,7 +93,7 @@ fn tell_moov(
 // The frame times of a moov's first video track: how many, their timescale, the nominal interval and the end; the starts
 // in presentation order.
 // Lent: the payload of a moov box, room for the starts, two working slices as long. As many elements as the track has
-// frames are enough for each. Writes starts, both working slices (all 0), frames, scale, nominal, end, index. Refuses:
+// frames are enough for each; it has no more than moov has bytes, else it is 31. Writes starts, both working slices (all 0), frames, scale, nominal, end, index. Refuses:
 // 30, 31, 32, 31, 33.
 #[no_mangle]
 pub extern "C" fn st_video_frame_times_of_moov(

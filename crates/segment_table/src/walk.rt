@@ -90,8 +90,9 @@ pub extern "C" fn st_box_size(
     tell_size(boxes::box_size(data, remaining), size, header, index)
 }
 
-// The box at offset `at` of payload: its type, where its payload lies, and where the next box is. From 0 on, and then from
-// each answer's `next`, all boxes are met, in order, until 31: fewer than 8 bytes are left there, or the box doesn't fit.
+// The box at offset `at` of payload: its type (`kind`, its four bytes, big-endian), where its payload lies, and where the
+// next box is. From 0 on, and then from each answer's `next`, all boxes are met, in order, until 31: fewer than 8 bytes are
+// left there, or the box doesn't fit.
 // Lent: a box's payload. Writes kind, start, length, next, index. Refuses: 30, 42, 31.
 #[no_mangle]
 pub extern "C" fn st_children(

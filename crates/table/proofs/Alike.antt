@@ -12,37 +12,37 @@ use Rattle.choice.proofs.Tests.{decide}
 use Rattle.slices.specs.Slices.{after}
 use Rattle.rows.specs.Lent.{wordsOf, shiftsOf}
 use Rattle.rules.specs.Records.{Segment, Table}
-use Rattle.rules.specs.Absent.{cleanSegment, clean}
-use Rattle.rules.proofs.Ignored.{refusal-clean, alike}
+use Rattle.rules.specs.Absent.{strippedSegment, stripped}
+use Rattle.rules.proofs.Ignored.{refusal-stripped, alike}
 use Rattle.table.specs.declared.Filled.{Filled}
 use Rattle.table.specs.Rows.{rowOf, rowsOf, tooSmall, rowsRefusal, filled, Rowed}
 
-row-clean : (e : Segment) → rowOf (cleanSegment e) ≡ rowOf e
-unfolding rowOf cleanSegment when
-row-clean e = decide (eqb (e .words .flag) 0) (λ q. rw q) (λ q. rw q)
+row-stripped : (e : Segment) → rowOf (strippedSegment e) ≡ rowOf e
+unfolding rowOf strippedSegment when
+row-stripped e = decide (eqb (e .words .flag) 0) (λ q. rw q) (λ q. rw q)
 
-rows-clean : (l : List Segment) → map rowOf (map cleanSegment l) ≡ map rowOf l
-rows-clean [] = refl
-rows-clean (e ∷ l) = λ i. row-clean e i ∷ rows-clean l i
+rows-stripped : (l : List Segment) → map rowOf (map strippedSegment l) ≡ map rowOf l
+rows-stripped [] = refl
+rows-stripped (e ∷ l) = λ i. row-stripped e i ∷ rows-stripped l i
 
-rows-of-clean : (t : Table) → rowsOf t ≡ rowsOf (clean t)
-unfolding rowsOf clean
-rows-of-clean t = sym (rows-clean (t .segments))
+rows-of-stripped : (t : Table) → rowsOf t ≡ rowsOf (stripped t)
+unfolding rowsOf stripped
+rows-of-stripped t = sym (rows-stripped (t .segments))
 
-length-clean : (t : Table) → length (t .segments) ≡ length (clean t .segments)
-unfolding clean
-length-clean t = sym (length-map (t .segments) cleanSegment)
+length-stripped : (t : Table) → length (t .segments) ≡ length (stripped t .segments)
+unfolding stripped
+length-stripped t = sym (length-map (t .segments) strippedSegment)
 
-room-clean : (nu ns : ℕ) (t : Table) → rowsRefusal t nu ns ≡ rowsRefusal (clean t) nu ns
+room-stripped : (nu ns : ℕ) (t : Table) → rowsRefusal t nu ns ≡ rowsRefusal (stripped t) nu ns
 unfolding rowsRefusal
-room-clean nu ns t = λ i. orRefused (refusal-clean t i) (when (tooSmall (length-clean t i) nu ns) (At 32 0) Never)
+room-stripped nu ns t = λ i. orRefused (refusal-stripped t i) (when (tooSmall (length-stripped t i) nu ns) (At 32 0) Never)
 
--- what rows_of_table may answer and leave of one of two tables that are clean alike, it may of the other
-pub rows-alike : (a b : Table) → clean a ≡ clean b → (ou ou′ : List ℕ) (os os′ : List ℤ) (r : Filled) → Rowed a ou os r ou′ os′ → Rowed b ou os r ou′ os′
+-- what rows_of_table may answer and leave of one of two tables that are stripped alike, it may of the other
+pub rows-alike : (a b : Table) → stripped a ≡ stripped b → (ou ou′ : List ℕ) (os os′ : List ℤ) (r : Filled) → Rowed a ou os r ou′ os′ → Rowed b ou os r ou′ os′
 rows-alike a b e ou ou′ os os′ r p =
-    let refusals = alike (λ t. rowsRefusal t (length ou) (length os)) (room-clean (length ou) (length os)) a b e in
-    let rows = alike rowsOf rows-of-clean a b e in
-    let lengths = alike (λ t. length (t .segments)) length-clean a b e in
+    let refusals = alike (λ t. rowsRefusal t (length ou) (length os)) (room-stripped (length ou) (length os)) a b e in
+    let rows = alike rowsOf rows-of-stripped a b e in
+    let lengths = alike (λ t. length (t .segments)) length-stripped a b e in
     record {
       answer = p .answer ∙ λ i. filled (refusals i) (lengths i);
       words = p .words ∙ λ i. after (refusals i) (wordsOf (rows i)) ou;

@@ -4,8 +4,8 @@ use rules::Checked;
 use rules::Continued;
 use rules::Ends;
 use rules::Lookup;
+use rules::SixTimes;
 use rules::Source;
-use rules::Times;
 use rules::Turn;
 use rules::Words;
 ghost use mathlib.Core.Path.{_≡_};
@@ -113,12 +113,12 @@ fn negative_times_at(t: &[i64], k: usize) -> bool
 }
 
 // What the signed words of segment k say, whether or not a time is negative.
-fn any_times_at(t: &[i64], k: usize, negative: bool) -> Times
+fn any_times_at(t: &[i64], k: usize, negative: bool) -> SixTimes
     requires { ⌜ (k * segmentStamps + segmentStamps ≤ length (now t)) × (negative ≡ stampTimes (stampsAt (now t) k) .negative) ⌝ }
     ensures { λ r. ⌜ r ≡ stampTimes (stampsAt (now (t .entry)) k) ⌝ }
 {
     let d = k * STAMPS;
-    Times {
+    SixTimes {
         negative,
         srcstart: magnitude_at(t, d),
         outstart: magnitude_at(t, d + 1),
@@ -132,7 +132,7 @@ fn any_times_at(t: &[i64], k: usize, negative: bool) -> Times
 }
 
 // What the signed words of segment k say. Where no time is negative, as in every accepted table, its words are its numbers.
-fn times_at(t: &[i64], k: usize) -> Times
+fn times_at(t: &[i64], k: usize) -> SixTimes
     requires { ⌜ k * segmentStamps + segmentStamps ≤ length (now t) ⌝ }
     ensures { λ r. ⌜ r ≡ stampTimes (stampsAt (now (t .entry)) k) ⌝ }
 {
@@ -141,7 +141,7 @@ fn times_at(t: &[i64], k: usize) -> Times
     if negative {
         return any_times_at(t, k, negative);
     }
-    Times {
+    SixTimes {
         negative,
         srcstart: plain_at(t, d),
         outstart: plain_at(t, d + 1),

@@ -8,7 +8,7 @@
 //
 // Every map goes through the proved calls, and every refusal is theirs, that of a 1,025th row too; this program only holds the rows and prints.
 use maps::Mapped;
-use reading::End;
+use reading::Ending;
 use steps::Step;
 ghost use Prim.Native.Nat.{_≤_};
 ghost use lib.ListN.{length};
@@ -321,10 +321,10 @@ fn main() {
     let n = input.held;
     let end = input.end;
     match end {
-        End::Within => {
+        Ending::Within => {
             lesson(&file[..n]);
         }
-        End::Past => too_long(&file[..n]),
-        End::Failed => reading::say_failed(),
+        Ending::Past => too_long(&file[..n]),
+        Ending::Failed => reading::say_failed(),
     }
 }

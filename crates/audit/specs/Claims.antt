@@ -39,6 +39,7 @@ use Rattle.judge.specs.Video.{shownBy}
 use Rattle.judge.specs.Judge.{validateOf, Settled}
 use Rattle.judge.specs.Paper.{validateTests, mcrawTests}
 use Rattle.records.specs.declared.TrimSegment.{TrimSegment}
+use Rattle.differ.specs.Differ.{Differing}
 use Rattle.maps.specs.declared.Mapped.{Mapped}
 use Rattle.maps.specs.declared.Mapped.the-variants as mapped
 use Rattle.maps.specs.declared.Traced.{Traced}
@@ -304,10 +305,12 @@ pub record Claims : Type 0 where
   -- The same of the maps themselves, whatever their length; among it, that an absent shift isn't a shift of 0. (Demand 3; rows/specs/Demands.antt.)
   pub demands : Demands
   pub refusals : Refusals
+  -- HOW FAR TWO TABLES OF ONE VIDEO MAY DIFFER, which `validate` or `check_mcraw` accepts. (Document 02, n; differ/specs/Differ.antt has the lines.)
+  pub differing : Differing table Validate CheckMcraw
   pub meanings : Meanings
   pub walking : Walking
   pub rounding : Rounding
   pub ordering : Ordering
   pub ignored : Ignored
-  -- 7. THE STARRED NUMBERS of document 01, and the auditor's clip. (Demands 2 and 3.)
+  -- 7. THE STARRED NUMBERS of document 01, the auditor's clip, and how near tables come to the bound of document 02's n. (Demands 2 and 3.)
   pub worked : All Holds examples

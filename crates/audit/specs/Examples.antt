@@ -1,9 +1,9 @@
--- DOCUMENT 01'S NUMBERS, and the auditor's clip of docs/AUDIT.md, in one statement over a single list: what EVERY call with these arguments answers.
+-- DOCUMENT 01'S NUMBERS, and the auditor's clip and exports of docs/AUDIT.md, in one statement over a single list: what EVERY call with these arguments answers.
 use Prim.Native.Nat.{ℕ, _+_, _*_, _/_, _%_}
 use mathlib.Core.Bool.{Bool, true, false}
 use mathlib.Core.List.{List, [], _∷_, _++_}
 use mathlib.Core.Path.{_≡_}
-use lib.IntN.{ℤ, pos, negℤ}
+use lib.IntN.{ℤ, pos, negℤ, natAbs, _-ℤ_}
 use lib.ListN.{replicate, length}
 use Rattle.ticks.specs.declared.Us.{Us}
 use Rattle.ticks.specs.declared.Us.the-variants.{At}
@@ -17,6 +17,7 @@ use Rattle.table.specs.declared.Filled.{Filled}
 use Rattle.table.specs.declared.Filled.the-variants as filled
 use Rattle.judge.specs.declared.Video.{Video}
 use Rattle.judge.specs.declared.Video.the-variants.{Constant}
+use Rattle.judge.specs.Judge.{lastSegment}
 use Rattle.maps.specs.declared.Mapped.{Mapped}
 use Rattle.maps.specs.declared.Mapped.the-variants as mapped
 use Rattle.maps.specs.declared.Traced.{Traced}
@@ -28,8 +29,9 @@ use Rattle.frame_times.specs.declared.FrameTimes.the-variants.{Presented}
 use Rattle.frame_times.specs.Times.{mvhd, mdhd, minf, stbl, stts, ctts, edts}
 use Rattle.mcraw.specs.declared.RecordingTimes.{RecordingTimes as Recording}
 use Rattle.mcraw.specs.declared.RecordingTimes.the-variants.{Timed}
+use Rattle.differ.specs.Differ.{SameFrames}
 use Rattle.audit.specs.Calls.{TicksToUs, IsUtcSecond, Cut, Join, Merge, Origin, VideoFrameTimesOfMoov, McrawTimes}
-use Rattle.audit.specs.Words.{Lent, Check, SegmentOfFrame, SegmentOfTimeUs, RowsOfTable, Validate, mapWritten}
+use Rattle.audit.specs.Words.{Lent, table, Check, SegmentOfFrame, SegmentOfTimeUs, RowsOfTable, Validate, CheckMcraw, mapWritten}
 
 pub data Example : Type 0 where
   -- so many ticks of a scale are so many microseconds
@@ -40,6 +42,10 @@ pub data Example : Type 0 where
   checked : (l : Lent) (is : Checked) → Example
   -- a table against a video without lent starts
   against : (l : Lent) (video : Video) (is : Checked) → Example
+  -- a table against a recording of one timestamp, which needs no working slices
+  filmed : (l : Lent) (timestamp : ℤ) (is : Checked) → Example
+  -- two tables that agree in their frame fields, accepted for one constant video: their last durations are us apart, and us·num is so much below document 02's bound
+  apart : (l m : Lent) (frames num den us below : ℕ) → Example
   -- the segment of a frame, and of a time
   frame : (l : Lent) (k : ℕ) (is : Lookup) → Example
   time : (l : Lent) (us : ℤ) (is : Lookup) → Example
@@ -57,12 +63,22 @@ pub data Example : Type 0 where
   -- the times of a recording's timestamps, and where each frame starts
   recording : (timestamps : List ℤ) (are : Recording) (starts : List ℤ) → Example
 
+abbrev pub lastDuration : Lent → ℤ
+lastDuration l = lastSegment (table l .segments) .stamps .duration
+
 -- every call with these arguments answers so, and writes the rows or starts into room for just them
 abbrev pub Holds : Example → Type 0
 Holds (ticks t scale us) = (r : Us) → TicksToUs t scale r → r ≡ us
 Holds (second bytes is) = (r : Bool) → IsUtcSecond bytes r → r ≡ is
 Holds (checked l is) = (r : Checked) → Check l r → r ≡ is
 Holds (against l video is) = (r : Checked) → Validate l video [] r → r ≡ is
+Holds (filmed l x is) = (r : Checked) (a b : List ℤ) → CheckMcraw l (x ∷ []) [] [] r a b → r ≡ is
+Holds (apart l m frames num den us below) =
+    ((r : Checked) → Validate l (Constant frames num den) [] r → r ≡ Frames frames)
+    × ((r : Checked) → Validate m (Constant frames num den) [] r → r ≡ Frames frames)
+    × SameFrames (table l) (table m)
+    × (natAbs (lastDuration l -ℤ lastDuration m) ≡ us)
+    × (us * num + below ≡ 2 * den * 1000000 + num)
 Holds (frame l k is) = (r : Lookup) → SegmentOfFrame l k r → r ≡ is
 Holds (time l us is) = (r : Lookup) → SegmentOfTimeUs l us r → r ≡ is
 Holds (map l are) =
@@ -129,12 +145,20 @@ leapDay = 48 ∷ 48 ∷ 48 ∷ 48 ∷ 45 ∷ 48 ∷ 50 ∷ 45 ∷ 50 ∷ 57 ∷ 
 abbrev pub notLeapDay : List ℕ
 notLeapDay = 49 ∷ 57 ∷ 48 ∷ 48 ∷ 45 ∷ 48 ∷ 50 ∷ 45 ∷ 50 ∷ 57 ∷ 84 ∷ 48 ∷ 48 ∷ 58 ∷ 48 ∷ 48 ∷ 58 ∷ 48 ∷ 48 ∷ 90 ∷ []
 
+-- a source of so many frames at num/den, all of which are one segment, with these signed words
+abbrev pub oneSegment : (frames num den : ℕ) → List ℤ → Lent
+oneSegment frames num den signed = record { sources = frames ∷ num ∷ den ∷ 0 ∷ 0 ∷ 0 ∷ 0 ∷ 0 ∷ 0 ∷ 0 ∷ []; words = wordsOf (row 0 0 frames 0 ∷ []); stamps = signed; log = false; text = [] }
+
 -- 30 frames at 30000/1001, of which the one segment lasts so many microseconds; as a video
 abbrev pub lasting : ℕ → Lent
-lasting us = record { sources = 30 ∷ 30000 ∷ 1001 ∷ 0 ∷ 0 ∷ 0 ∷ 0 ∷ 0 ∷ 0 ∷ 0 ∷ []; words = wordsOf (row 0 0 30 0 ∷ []); stamps = stamps 0 us (pos 0); log = false; text = [] }
+lasting us = oneSegment 30 30000 1001 (stamps 0 us (pos 0))
 
 abbrev pub thirty : Video
 thirty = Constant 30 30000 1001
+
+-- the same frames, from a source start and with capture times that are as late as an i64 holds their ends
+abbrev pub elsewhere : Lent
+elsewhere = oneSegment 30 30000 1001 (pos 9223372036853774807 ∷ pos 0 ∷ pos 1001000 ∷ pos 4611686018427387904 ∷ pos 4611686018427387904 ∷ pos 4611686018427387903 ∷ pos 0 ∷ [])
 
 -- ---- moovs
 -- numbers as four bytes each, and a box
@@ -253,4 +277,12 @@ examples =
     ∷ merges (row 0 0 10 0 ∷ row 0 10 10 10 ∷ []) (row 0 0 20 0 ∷ [])
     ∷ merges (row 0 0 10 0 ∷ shifted 0 10 10 10 (pos 0) ∷ []) (row 0 0 10 0 ∷ shifted 0 10 10 10 (pos 0) ∷ [])
     ∷ merges (shifted 0 0 10 0 (pos 5) ∷ shifted 0 10 10 10 (pos 6) ∷ []) (shifted 0 0 10 0 (pos 5) ∷ shifted 0 10 10 10 (pos 6) ∷ [])
+    -- document 02, n: at 30000/1001 the bound is reached up to the rounding, since one microsecond more would be 30,000 more; at 128/5 it is reached
+    ∷ apart (lasting 967633) (lasting 1034367) 30 30000 1001 66734 10000
+    ∷ apart (oneSegment 2 128 5 (stamps 0 39062 (pos 0))) (oneSegment 2 128 5 (stamps 0 117188 (pos 0))) 2 128 5 78126 0
+    -- source and capture times aren't bound by it
+    ∷ apart (lasting 1001000) elsewhere 30 30000 1001 0 2002030000
+    -- of one timestamp the fps decides, so that it is asked to be the same: at 25/1 a frame lasts 40,000, at 1/1 a million
+    ∷ filmed (oneSegment 1 25 1 (stamps 0 40000 (pos 0))) (pos 7) (Frames 1)
+    ∷ filmed (oneSegment 1 1 1 (stamps 0 1000000 (pos 0))) (pos 7) (Frames 1)
     ∷ []

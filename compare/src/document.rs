@@ -17,7 +17,7 @@ pub fn holds() -> bool {
 }
 
 /// All of them
-pub fn worked() -> Vec<Worked> { [numbers(), table(), maps(), times(), clip(), clip_maps()].concat() }
+pub fn worked() -> Vec<Worked> { [numbers(), table(), maps(), times(), clip(), clip_maps(), exports()].concat() }
 
 /// Ticks, ends that are near, and days
 fn numbers() -> Vec<Worked> {
@@ -165,5 +165,27 @@ fn clip_maps() -> Vec<Worked> {
             "0 0 4 0 1500 40000 0 0 1 12000 10000 40000 1 1 22000 28500 50000 1 2 0 30000 78500 0 0 -1800 -1800 0",
         ),
         (merge(&joined, 3), "0 0 3 0 1500 40000 0 0 1 12000 38500 40000 1 2 0 30000 78500 0 0 -1800 0"),
+    ]
+}
+
+/// Two exports of one trim that differ as far as they may, at 30000/1001 (the ends of `numbers`) and at 128/5; one whose source and
+/// capture times are as late as can be; and recordings of one timestamp, whose last durations the fps decides
+fn exports() -> Vec<Worked> {
+    let lasting = |frames, num, den, end| Case::ValidateConstant { table: Lent::new(videos::one_segment(frames, 0, end)), frames, num, den };
+    let elsewhere = Table { times: vec![i64::MAX - 1_001_000, 0, 1_001_000, 1 << 62, 1 << 62, (1 << 62) - 1, 0], ..videos::one_segment(30, 0, 0) };
+    let filmed = |num, duration| {
+        let mut table = videos::one_segment(1, 0, duration);
+        table.sources[1] = num;
+        Case::CheckMcraw { table: Lent::new(table), timestamps: vec![7], room: [0; 2] }
+    };
+    vec![
+        (lasting(2, 128, 5, 39_062), "0 0 2"),
+        (lasting(2, 128, 5, 117_188), "0 0 2"),
+        (lasting(2, 128, 5, 39_061), "25 0"),
+        (lasting(2, 128, 5, 117_189), "25 0"),
+        (lasting(30, 30000, 1001, 1_001_000), "0 0 30"),
+        (Case::ValidateConstant { table: Lent::new(elsewhere), frames: 30, num: 30000, den: 1001 }, "0 0 30"),
+        (filmed(25, 40_000), "0 0 1"),
+        (filmed(1, 1_000_000), "0 0 1"),
     ]
 }

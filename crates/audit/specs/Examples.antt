@@ -45,7 +45,7 @@ pub data Example : Type 0 where
   -- a table against a recording of one timestamp, which needs no working slices
   filmed : (l : Lent) (timestamp : ℤ) (is : Checked) → Example
   -- two tables that agree in their frame fields, accepted for one constant video: their last durations are us apart, and us·num is so much below document 02's bound
-  apart : (l m : Lent) (frames num den us below : ℕ) → Example
+  exports : (l m : Lent) (frames num den us below : ℕ) → Example
   -- the segment of a frame, and of a time
   frame : (l : Lent) (k : ℕ) (is : Lookup) → Example
   time : (l : Lent) (us : ℤ) (is : Lookup) → Example
@@ -73,7 +73,7 @@ Holds (second bytes is) = (r : Bool) → IsUtcSecond bytes r → r ≡ is
 Holds (checked l is) = (r : Checked) → Check l r → r ≡ is
 Holds (against l video is) = (r : Checked) → Validate l video [] r → r ≡ is
 Holds (filmed l x is) = (r : Checked) (a b : List ℤ) → CheckMcraw l (x ∷ []) [] [] r a b → r ≡ is
-Holds (apart l m frames num den us below) =
+Holds (exports l m frames num den us below) =
     ((r : Checked) → Validate l (Constant frames num den) [] r → r ≡ Frames frames)
     × ((r : Checked) → Validate m (Constant frames num den) [] r → r ≡ Frames frames)
     × SameFrames (table l) (table m)
@@ -146,19 +146,19 @@ abbrev pub notLeapDay : List ℕ
 notLeapDay = 49 ∷ 57 ∷ 48 ∷ 48 ∷ 45 ∷ 48 ∷ 50 ∷ 45 ∷ 50 ∷ 57 ∷ 84 ∷ 48 ∷ 48 ∷ 58 ∷ 48 ∷ 48 ∷ 58 ∷ 48 ∷ 48 ∷ 90 ∷ []
 
 -- a source of so many frames at num/den, all of which are one segment, with these signed words
-abbrev pub oneSegment : (frames num den : ℕ) → List ℤ → Lent
-oneSegment frames num den signed = record { sources = frames ∷ num ∷ den ∷ 0 ∷ 0 ∷ 0 ∷ 0 ∷ 0 ∷ 0 ∷ 0 ∷ []; words = wordsOf (row 0 0 frames 0 ∷ []); stamps = signed; log = false; text = [] }
+abbrev pub wholeSource : (frames num den : ℕ) → List ℤ → Lent
+wholeSource frames num den signed = record { sources = frames ∷ num ∷ den ∷ 0 ∷ 0 ∷ 0 ∷ 0 ∷ 0 ∷ 0 ∷ 0 ∷ []; words = wordsOf (row 0 0 frames 0 ∷ []); stamps = signed; log = false; text = [] }
 
 -- 30 frames at 30000/1001, of which the one segment lasts so many microseconds; as a video
 abbrev pub lasting : ℕ → Lent
-lasting us = oneSegment 30 30000 1001 (stamps 0 us (pos 0))
+lasting us = wholeSource 30 30000 1001 (stamps 0 us (pos 0))
 
 abbrev pub thirty : Video
 thirty = Constant 30 30000 1001
 
--- the same frames, from a source start and with capture times that are as late as an i64 holds their ends
+-- the same frames; the source start and the capture times have ends at 2^63 - 1
 abbrev pub elsewhere : Lent
-elsewhere = oneSegment 30 30000 1001 (pos 9223372036853774807 ∷ pos 0 ∷ pos 1001000 ∷ pos 4611686018427387904 ∷ pos 4611686018427387904 ∷ pos 4611686018427387903 ∷ pos 0 ∷ [])
+elsewhere = wholeSource 30 30000 1001 (pos 9223372036853774807 ∷ pos 0 ∷ pos 1001000 ∷ pos 4611686018427387904 ∷ pos 4611686018427387904 ∷ pos 4611686018427387903 ∷ pos 0 ∷ [])
 
 -- ---- moovs
 -- numbers as four bytes each, and a box
@@ -278,11 +278,11 @@ examples =
     ∷ merges (row 0 0 10 0 ∷ shifted 0 10 10 10 (pos 0) ∷ []) (row 0 0 10 0 ∷ shifted 0 10 10 10 (pos 0) ∷ [])
     ∷ merges (shifted 0 0 10 0 (pos 5) ∷ shifted 0 10 10 10 (pos 6) ∷ []) (shifted 0 0 10 0 (pos 5) ∷ shifted 0 10 10 10 (pos 6) ∷ [])
     -- document 02, n: at 30000/1001 the bound is reached up to the rounding, since one microsecond more would be 30,000 more; at 128/5 it is reached
-    ∷ apart (lasting 967633) (lasting 1034367) 30 30000 1001 66734 10000
-    ∷ apart (oneSegment 2 128 5 (stamps 0 39062 (pos 0))) (oneSegment 2 128 5 (stamps 0 117188 (pos 0))) 2 128 5 78126 0
+    ∷ exports (lasting 967633) (lasting 1034367) 30 30000 1001 66734 10000
+    ∷ exports (wholeSource 2 128 5 (stamps 0 39062 (pos 0))) (wholeSource 2 128 5 (stamps 0 117188 (pos 0))) 2 128 5 78126 0
     -- source and capture times aren't bound by it
-    ∷ apart (lasting 1001000) elsewhere 30 30000 1001 0 2002030000
+    ∷ exports (lasting 1001000) elsewhere 30 30000 1001 0 2002030000
     -- of one timestamp the fps decides, so that it is asked to be the same: at 25/1 a frame lasts 40,000, at 1/1 a million
-    ∷ filmed (oneSegment 1 25 1 (stamps 0 40000 (pos 0))) (pos 7) (Frames 1)
-    ∷ filmed (oneSegment 1 1 1 (stamps 0 1000000 (pos 0))) (pos 7) (Frames 1)
+    ∷ filmed (wholeSource 1 25 1 (stamps 0 40000 (pos 0))) (pos 7) (Frames 1)
+    ∷ filmed (wholeSource 1 1 1 (stamps 0 1000000 (pos 0))) (pos 7) (Frames 1)
     ∷ []

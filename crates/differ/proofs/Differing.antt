@@ -19,7 +19,7 @@ use Rattle.judge.specs.Judge.{lastSegment, validateOf, single, checkMcraw}
 use Rattle.judge.specs.Means.{Fits, Recorded}
 use Rattle.judge.specs.Paper.{Near, firstSource}
 use Rattle.judge.proofs.Meaning.{validated, recorded}
-use Rattle.differ.specs.Differ.{SameFrames, Alike, SameRate, Differing}
+use Rattle.differ.specs.Differ.{SameFrames, Alike, SameFps, Differing}
 use Rattle.differ.proofs.Distances.{last-near, duration-is, time-0, near-rates}
 
 -- ---- two tables whose starts agree, and which both end near the end of a video
@@ -66,7 +66,7 @@ only-frame t N p e k h =
     omega (arith, p .last, p .segments k h .some)
 
 module _ (t u : Table) (M N : ℕ) (f : Fits t (single (t .sources) (t .segments)) M) (g : Fits u (single (u .sources) (u .segments)) N)
-    (s : SameFrames t u) (r : SameRate (firstSource t) (firstSource u)) where
+    (s : SameFrames t u) (r : SameFps (firstSource t) (firstSource u)) where
   p : Accepted t M
   p = accepted t M (f .checked)
 
@@ -94,7 +94,7 @@ several t u ts a b c d M N h =
     ⊎-elim (λ f. absurd (omega (arith, f .0)))
     (λ f. ⊎-elim (λ g. absurd (omega (arith, g .0))) (λ g. same-video t u _ M N (f .2) (g .2)))
 
-one : (t u : Table) (x : ℤ) (a b c d M N : ℕ) → Recorded t (x ∷ []) a b M → Recorded u (x ∷ []) c d N → SameFrames t u → SameRate (firstSource t) (firstSource u)
+one : (t u : Table) (x : ℤ) (a b c d M N : ℕ) → Recorded t (x ∷ []) a b M → Recorded u (x ∷ []) c d N → SameFrames t u → SameFps (firstSource t) (firstSource u)
     → Alike t u (firstSource t .num) (pos (firstSource t .den))
 one t u x a b c d M N =
     ⊎-elim (λ f. ⊎-elim (λ g. same-frame t u M N (f .1) (g .1)) (λ g. absurd (g .0 refl)))

@@ -1,26 +1,16 @@
 -- Distances of numbers, and of two ends that are both near a third. Assumes nothing.
 use mathlib.Core.Path.{_≡_, sym, ap, _∙_, subst}
-use mathlib.Core.Bool.{Bool, cond}
 use mathlib.Core.Logic.{⊎-elim}
-use Prim.Native.Nat.{ℕ, zero, suc, _+_, _*_, _-_, _/_, _≤_, _<_}
+use Prim.Native.Nat.{ℕ, _+_, _*_, _-_, _/_, _≤_, _<_}
 use native.Mathlib.Nat.{div-eq-of-lt, mul-le-mul-right, le-of-mul-le-mul-right}
 use native.Mathlib.Omega.{arith}
-use borrow.Author.Tests.{lt-ltb, le-ltb}
 use lib.Dec.{leb→le, le→leb}
 use lib.IntN.{ℤ, pos, negsuc, natAbs, _+ℤ_, _-ℤ_, _*ℤ_, +ℤ-comm, +ℤ-negℤ-cancel, pos-ne-negsuc}
 use lib.Signed.{_≤ℤ_}
 use Rattle.choice.proofs.Tests.{le-or-lt}
 use Rattle.signed.specs.Rounded.{nearest, rounded}
+use Rattle.ticks.proofs.Nearness.{above}
 use Rattle.rules.proofs.Accepted.{Timely}
-
--- the distance of two naturals
-above : (a b : ℕ) → natAbs (pos a -ℤ pos b) ≡ a - b + (b - a)
-above a zero = omega arith
-above a (suc b) =
-    ⊎-elim
-    (λ (h : suc b ≤ a). ap (λ (t : Bool). natAbs (cond t (negsuc (suc b - suc a)) (pos (a - suc b)))) (le-ltb a (suc b) h) ∙ omega arith)
-    (λ (h : a < suc b). ap (λ (t : Bool). natAbs (cond t (negsuc (suc b - suc a)) (pos (a - suc b)))) (lt-ltb a (suc b) h) ∙ omega arith)
-    (le-or-lt (suc b) a)
 
 at-most : (n c : ℕ) → pos n ≤ℤ pos c → n ≤ c
 at-most n c h = leb→le n c (h .le)

@@ -32,8 +32,8 @@ pub record Alike (t u : Table) (scale : ℕ) (nominal : ℤ) : Type 0 where
       ≤ℤ (pos 2 *ℤ nominal *ℤ pos 1000000 +ℤ pos scale)
 
 -- the same fps, as a number: 25/1 and 50/2 are the same
-abbrev pub SameRate : Source → Source → Type 0
-SameRate s r = s .num * r .den ≡ r .num * s .den
+abbrev pub SameFps : Source → Source → Type 0
+SameFps s r = s .num * r .den ≡ r .num * s .den
 
 -- if the judge accepts two tables for the same video, and they agree in the frame fields
 pub record Differing {L : Type 0} (table : L → Table)
@@ -54,5 +54,5 @@ pub record Differing {L : Type 0} (table : L → Table)
   -- for a recording of one timestamp, also with the same fps of segment 0's source
   pub one-timestamp : (l m : L) (x : ℤ) (a b a′ b′ c d c′ d′ : List ℤ) (M N : ℕ)
       → CheckMcraw l (x ∷ []) a b (Frames M) a′ b′ → CheckMcraw m (x ∷ []) c d (Frames N) c′ d′
-      → SameFrames (table l) (table m) → SameRate (firstSource (table l)) (firstSource (table m))
+      → SameFrames (table l) (table m) → SameFps (firstSource (table l)) (firstSource (table m))
       → Alike (table l) (table m) (firstSource (table l) .num) (pos (firstSource (table l) .den))

@@ -24,7 +24,7 @@ natAbs-neg (pos zero) = refl
 natAbs-neg (pos (suc n)) = refl
 natAbs-neg (negsuc n) = refl
 
-above : (a b : ℕ) → natAbs (pos a -ℤ pos b) ≡ a - b + (b - a)
+pub above : (a b : ℕ) → natAbs (pos a -ℤ pos b) ≡ a - b + (b - a)
 above a zero = omega arith
 above a (suc b) =
     ⊎-elim

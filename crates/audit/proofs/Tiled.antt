@@ -26,7 +26,8 @@ use Rattle.rules.specs.declared.Lookup.the-variants.{Index}
 use Rattle.rules.specs.Records.{Table, noSegment, segment}
 use Rattle.rules.specs.Lookups.{ended, overBy, lookedUp, segmentOfFrame}
 use Rattle.rules.specs.Records as records
-use Rattle.rules.specs.Rules.{refusal, checkedOf, checkOf}
+use Rattle.rules.specs.Rules.{checkOf}
+use Rattle.rules.proofs.Answers.{then-rest}
 use Rattle.rules.proofs.Accepted.{accepted}
 use Rattle.rules.proofs.Holder.{Holds, holder}
 use Rattle.table.specs.declared.Filled.{Filled}
@@ -42,12 +43,6 @@ use Rattle.maps.proofs.Lawful.{lawful}
 use Rattle.audit.specs.Words.{table, mapWritten}
 use Rattle.audit.specs.Claims.{tracedIn, Origins}
 
--- an accepted check is refused nothing
-none-of : (x : Refusal) (n N : ℕ) → Frames N ≡ checkedOf x n → x ≡ Never
-unfolding checkedOf
-none-of Never n N e = refl
-none-of (At m i) n N e = let z : _≡_ {A = ℕ} 0 1 = cc in absurd (omega arith)
-
 filled-of : (x : Refusal) (n k : ℕ) → Rows k ≡ filled x n → (x ≡ Never) × (k ≡ n)
 unfolding filled
 filled-of Never n k e = (refl, cc)
@@ -55,12 +50,11 @@ filled-of (At m i) n k e = let z : _≡_ {A = ℕ} 0 1 = cc in absurd (omega ari
 
 -- the rows of a table of N frames, with room for them
 room : (t : Table) (N : ℕ) (nu ns : ℕ) → Frames N ≡ checkOf t → 5 * length (t .segments) ≤ nu → length (t .segments) ≤ ns → rowsRefusal t nu ns ≡ Never
-unfolding checkOf rowsRefusal orRefused when
+unfolding rowsRefusal when
 room t N nu ns e g h =
-    let x = none-of (refusal t) (records.frameTotal (t .segments)) N e in
     let a : ltb nu (length (t .segments) * 5) ≡ false = le-ltb nu (length (t .segments) * 5) (omega arith) in
     let b : ltb ns (length (t .segments)) ≡ false = le-ltb _ _ h in
-    rw (x, a, b)
+    then-rest t _ (sym e) ∙ rw (a, b)
 
 -- so many rows are answered
 rows-of : (t : Table) (N : ℕ) (ou ou′ : List ℕ) (os os′ : List ℤ) (r : Filled) → Frames N ≡ checkOf t → 5 * length (t .segments) ≤ length ou → length (t .segments) ≤ length os

@@ -17,6 +17,7 @@ use Rattle.rules.specs.declared.Checked.the-variants.{Frames, Refused}
 use Rattle.rules.specs.declared.Source.{Source}
 use Rattle.rules.specs.Records.{Segment, Table, outEnd, outEndUs, frameTotal}
 use Rattle.rules.specs.Rules.{refusal, checkedOf, checkOf}
+use Rattle.rules.proofs.Answers.{frames-never, check-first, then-rest}
 use Rattle.mcraw.specs.declared.RecordingTimes.the-variants.{Timed, Refused as Untimed}
 use Rattle.mcraw.specs.Mcraw.{startsOf, mcrawTimes}
 use Rattle.judge.specs.Video.{Shown, timed}
@@ -58,27 +59,16 @@ module _ (segs : List Segment) (v : Shown) where
           unfolding orRefused when
           fits e = sym (rest ∙ rw (d, e))
 
--- what an answer says of the refusal behind it
-refused-at : (r : Refusal) (m n i : ℕ) → checkedOf r m ≡ Refused n i → r ≡ At n i
-unfolding checkedOf
-refused-at Never m n i e = let z : _≡_ {A = ℕ} 0 1 = cc in absurd (omega arith)
-refused-at (At k j) m n i e = cc
-
-pub frames-never : (r : Refusal) (m n : ℕ) → checkedOf r m ≡ Frames n → (r ≡ Never) × (m ≡ n)
-unfolding checkedOf
-frames-never Never m n e = (refl, cc)
-frames-never (At k j) m n e = let z : _≡_ {A = ℕ} 0 1 = cc in absurd (omega arith)
-
 -- a check that answers r, and then what answers q
 module _ (t : Table) {r : Checked} (c : r ≡ checkOf t) where
   pub check-refuses : (rest : Refusal) {n i : ℕ} → r ≡ Refused n i → Refused n i ≡ checkedOf (orRefused (refusal t) rest) (frameTotal (t .segments))
-  unfolding checkOf checkedOf orRefused
-  check-refuses rest {n} {i} e = sym (rw (refused-at (refusal t) (frameTotal (t .segments)) n i (sym c ∙ e)))
+  unfolding checkedOf
+  check-refuses rest e = sym (rw (check-first t rest (sym c ∙ e)))
 
   module _ {N : ℕ} (e : r ≡ Frames N) {q rest : Refusal} (d : q ≡ rest) where
     pub rest-refuses : {n i : ℕ} → q ≡ At n i → Refused n i ≡ checkedOf (orRefused (refusal t) rest) (frameTotal (t .segments))
-    unfolding checkOf checkedOf orRefused
-    rest-refuses h = sym (rw (frames-never (refusal t) (frameTotal (t .segments)) N (sym c ∙ e) .0, sym d ∙ h))
+    unfolding checkedOf
+    rest-refuses h = sym (rw (then-rest t rest (sym c ∙ e), sym d ∙ h))
 
     pub rest-accepts : q ≡ Never → Frames N ≡ checkedOf (orRefused (refusal t) rest) (frameTotal (t .segments))
     unfolding checkOf checkedOf orRefused

@@ -28,6 +28,7 @@ use Rattle.ticks.proofs.Microseconds.{micros-none, micros-some}
 use Rattle.rules.specs.declared.Checked.the-variants.{Frames}
 use Rattle.rules.specs.Records.{Table, noSegment, segment, outEnd, outEndUs, frameTotal}
 use Rattle.rules.specs.Rules.{refusal, checkedOf, checkOf}
+use Rattle.rules.proofs.Answers.{frames-never}
 use Rattle.rules.proofs.Accepted.{Accepted, accepted}
 use Rattle.mcraw.specs.declared.RecordingTimes.{RecordingTimes}
 use Rattle.mcraw.specs.declared.RecordingTimes.the-variants.{Timed, Refused}
@@ -38,7 +39,7 @@ use Rattle.mcraw.proofs.Answers as answers
 use Rattle.judge.specs.Video.{Shown, timed}
 use Rattle.judge.specs.Judge.{startsAt, startRefusal, lastSegment, videoRefusal, validateOf, single, timesRefusal, recordingRefusal, checkMcraw}
 use Rattle.judge.specs.Means.{Fits, Recorded}
-use Rattle.judge.proofs.Chains.{fits, frames-never, rest-accepts, one-timestamp, by-times}
+use Rattle.judge.proofs.Chains.{fits, rest-accepts, one-timestamp, by-times}
 
 -- no record is refused exactly where the rule gives 0 for each
 none-refused : {A : Type 0} (f : A → ℕ) (i : ℕ) (l : List A) (d : A) → firstRefused f i l ≡ Never → (k : ℕ) → k < length l → f (getD l k d) ≡ 0

@@ -4,6 +4,7 @@ pub mod Turns
 pub mod Walks
 pub mod Says
 pub mod Conditions
+pub mod Answers
 pub mod Exact
 pub mod Holder
 pub mod Accepted

@@ -18,6 +18,8 @@ use Rattle.rules.specs.declared.Continued.{Continued}
 use Rattle.rules.specs.declared.Continued.the-variants as continued
 use Rattle.table.specs.declared.Filled.{Filled}
 use Rattle.table.specs.declared.Filled.the-variants as filled
+use Rattle.lookups.specs.declared.Lookups.{Lookups}
+use Rattle.lookups.specs.declared.Lookups.the-variants as lookups
 use Rattle.frame_times.specs.declared.FrameTimes.{FrameTimes}
 use Rattle.frame_times.specs.declared.FrameTimes.the-variants as moov
 use Rattle.mcraw.specs.declared.RecordingTimes.{RecordingTimes}
@@ -71,6 +73,11 @@ continuedTold (continued.NoAnswer n i) old = (n, old, i)
 unfoldable pub filledTold : Filled → ℕ → ℕ × ℕ × ℕ
 filledTold (filled.Rows k) rows = (0, k, 0)
 filledTold (filled.NoRows n i) rows = (n, rows, i)
+
+-- how many indices
+unfoldable pub lookupsTold : Lookups → ℕ → ℕ × ℕ × ℕ
+lookupsTold (lookups.Indices k) written = (0, k, 0)
+lookupsTold (lookups.NoIndices n i) written = (n, written, i)
 
 unfoldable pub mappedTold : Mapped → ℕ → ℕ × ℕ × ℕ
 mappedTold (mapped.Rows k) rows = (0, k, 0)

@@ -1,4 +1,4 @@
--- What a C caller is told of a call that writes rows, and what the lent rows hold afterwards.
+-- What a C caller is told of a call that writes slices, and what these hold afterwards.
 use Prim.Native.Nat.{ℕ}
 use mathlib.Core.List.{List}
 use mathlib.Core.Path.{_≡_}
@@ -10,19 +10,25 @@ use Rattle.rows.specs.Rows.{origin, cut, join, merge}
 use Rattle.rows.specs.Lent.{rows, wordsOf, shiftsOf}
 use Rattle.rules.specs.Records.{Table}
 use Rattle.table.specs.Rows as table
+use Rattle.lookups.specs.Indices.{indicesOf, indicesRefusal, indexed}
 use Rattle.maps.specs.declared.Traced.{Traced}
 use Rattle.maps.specs.Answers.{cutRefusal, joinRefusal, mergeRefusal, originRefusal, mappedOf, tracedOf}
 use Rattle.slices.specs.Slices.{laid, after, zeros}
 use Rattle.mcraw.specs.Mcraw.{mcrawTimes, startsWritten}
 use Rattle.frame_times.specs.Times as moov
 use Rattle.judge.specs.Judge.{checkMcraw}
-use Rattle.segment_table.specs.Told.{checkedTold, filledTold, mappedTold, timesTold, moovTold}
+use Rattle.segment_table.specs.Told.{checkedTold, filledTold, lookupsTold, mappedTold, timesTold, moovTold}
 
 -- the rows of t were asked for: number, words, shifts, how many rows, index
 pub record RowedTold (t : Table) (ou : List ℕ) (os : List ℤ) (rows r : ℕ) (ou′ : List ℕ) (os′ : List ℤ) (rows′ index′ : ℕ) : Type 0 where
   pub told : (r, rows′, index′) ≡ filledTold (table.filled (table.rowsRefusal t (length ou) (length os)) (length (t .segments))) rows
   pub words : ou′ ≡ after (table.rowsRefusal t (length ou) (length os)) (wordsOf (table.rowsOf t)) ou
   pub shifts : os′ ≡ after (table.rowsRefusal t (length ou) (length os)) (shiftsOf (table.rowsOf t)) os
+
+-- the segments of frames were asked for: number, indices, how many, index
+pub record IndexedTold (t : Table) (frames out : List ℕ) (written r : ℕ) (out′ : List ℕ) (written′ index′ : ℕ) : Type 0 where
+  pub told : (r, written′, index′) ≡ lookupsTold (indexed (indicesRefusal t (length frames) (length out)) (length frames)) written
+  pub indices : out′ ≡ after (indicesRefusal t (length frames) (length out)) (indicesOf t frames) out
 
 -- the rows m were asked for, or refused
 pub record MapTold (x : Refusal) (m : List Row) (ou : List ℕ) (os : List ℤ) (rows r : ℕ) (ou′ : List ℕ) (os′ : List ℤ) (rows′ index′ : ℕ) : Type 0 where

@@ -1,4 +1,5 @@
-// Tables: the check, both lookups, whether a segment continues the one before, the rows of its map.
+// Tables: the check, both lookups and those of a list of frames, whether a segment continues the one before, the rows of its map.
+use lookups::Lookups;
 use rules::Checked;
 use rules::Continued;
 use rules::Lookup;
@@ -7,8 +8,8 @@ ghost use mathlib.Core.Path.{_≡_};
 ghost use Rattle.rules.specs.Rules.{checkOf};
 ghost use Rattle.rules.specs.Lookups.{segmentOfFrame, segmentOfTime, continuesAt};
 ghost use Rattle.table.specs.Layout.{tableOf};
-ghost use Rattle.segment_table.specs.Told.{checkedTold, lookupTold, continuedTold, filledTold};
-ghost use Rattle.segment_table.specs.Written.{RowedTold};
+ghost use Rattle.segment_table.specs.Told.{checkedTold, lookupTold, lookupsTold, continuedTold, filledTold};
+ghost use Rattle.segment_table.specs.Written.{RowedTold, IndexedTold};
 
 // Tells a frame total.
 pub(crate) fn tell_checked(answer: Checked, frames: &mut u64, index: &mut u64) -> u64
@@ -38,6 +39,23 @@ pub(crate) fn tell_lookup(answer: Lookup, segment: &mut u64, index: &mut u64) ->
             0
         }
         Lookup::NoIndex(number, i) => {
+            *index = i as u64;
+            number
+        }
+    }
+}
+
+// Tells how many indices were written.
+fn tell_lookups(answer: Lookups, written: &mut u64, index: &mut u64) -> u64
+    ensures { λ r. ⌜ (r, now (written .exit), now (index .exit)) ≡ lookupsTold answer (now (written .entry)) ⌝ }
+{
+    match answer {
+        Lookups::Indices(n) => {
+            *written = n as u64;
+            *index = 0;
+            0
+        }
+        Lookups::NoIndices(number, i) => {
             *index = i as u64;
             number
         }
@@ -116,6 +134,27 @@ pub extern "C" fn st_segment_of_frame(
 {
     let found = table::segment_of_frame(sources, segments, times, log, text, frame);
     tell_lookup(found, segment, index)
+}
+
+// The segment of each frame of a list, which need not be in order: what st_segment_of_frame answers of each. The table is
+// checked once. An empty list is accepted.
+// Lent: a table, the frames, and room for as many segments. Writes the segments, written (how many), index. Refuses: 1 to 17, 32.
+#[no_mangle]
+pub extern "C" fn st_segments_of_frames(
+    sources: &[u64],
+    segments: &[u64],
+    times: &[i64],
+    log: bool,
+    text: &[u8],
+    frames: &[u64],
+    out_segments: &mut [u64],
+    written: &mut u64,
+    index: &mut u64,
+) -> u64
+    ensures { λ r. ⌜ IndexedTold (tableOf (now (sources .entry)) (now (segments .entry)) (now (times .entry)) log (now (text .entry))) (now (frames .entry)) (now («out_segments» .entry)) (now (written .entry)) r (now («out_segments» .exit)) (now (written .exit)) (now (index .exit)) ⌝ }
+{
+    let found = lookups::segments_of_frames(sources, segments, times, log, text, frames, out_segments);
+    tell_lookups(found, written, index)
 }
 
 // The segment of a time in microseconds: the number of segments that end at or before it, at most the last index.

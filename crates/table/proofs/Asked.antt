@@ -24,7 +24,7 @@ use Rattle.rules.specs.Steps.{endedBy, Ordered}
 use Rattle.rules.proofs.Accepted.{Accepted, accepted}
 use Rattle.rules.proofs.Search.{count-none, count-ended, ordered-same, frames-ordered, times-ordered}
 use Rattle.table.specs.Layout.{segmentAt, segmentsOf, tableOf}
-use Rattle.table.specs.Steps.{endAt, endUsAt}
+use Rattle.table.specs.Steps.{endAt, endUsAt, Searchable, indexIn}
 use Rattle.table.proofs.Lent.{length-segments, Even, even}
 
 module _ (s u : List ℕ) (t : List ℤ) (log : Bool) (text : List ℕ) where
@@ -35,6 +35,12 @@ module _ (s u : List ℕ) (t : List ℤ) (log : Bool) (text : List ℕ) where
   pub table-length : length (tableOf s u t log text .segments) ≡ length u / 5
   unfolding tableOf
   table-length = length-segments u t
+
+  -- the number of segments that have ended, in the table and in its words
+  pub index-lent : (frame : ℕ) → indexIn u frame ≡ ended (overBy frame) (tableOf s u t log text .segments)
+  unfolding indexIn ended tableOf segmentsOf
+  index-lent frame =
+      rw (count-ended (overBy frame) (segmentAt u t) (endAt u) (length u / 5) frame (λ k h. refl), length-segments u t)
 
   -- a table that is refused
   module _ {n i : ℕ} (e : checkOf (tableOf s u t log text) ≡ Refused n i) where
@@ -66,7 +72,7 @@ module _ (s u : List ℕ) (t : List ℤ) (log : Bool) (text : List ℕ) where
     pub some : 0 < length u / 5
     some = rw table-length at (given .some-segments)
 
-    pub frames : Ordered (endAt u) (length u / 5) maxU64
+    frames : Ordered (endAt u) (length u / 5) maxU64
     frames =
         ordered-same (endAt u) (λ k h. ap outEnd (segment-lent k h))
         (rw table-length at (frames-ordered given))
@@ -83,10 +89,12 @@ module _ (s u : List ℕ) (t : List ℤ) (log : Bool) (text : List ℕ) where
     end-us k h = rw (segment-lent k h) at (given .segments k (inside k h) .out-time .sum)
 
     -- the frame lookup
-    pub frame-index : (frame : ℕ) → Index (min (endedBy (endAt u) (length u / 5) frame) (length u / 5 - 1)) ≡ segmentOfFrame (tableOf s u t log text) frame
-    unfolding segmentOfFrame lookedUp ended tableOf segmentsOf
-    frame-index frame =
-        rw (e, count-ended (overBy frame) (segmentAt u t) (endAt u) (length u / 5) frame (λ k h. refl), length-segments u t)
+    pub searchable : Searchable u
+    searchable = record { some = some; ends = frames }
+
+    pub frame-index : (frame : ℕ) → Index (indexIn u frame) ≡ segmentOfFrame (tableOf s u t log text) frame
+    unfolding segmentOfFrame lookedUp
+    frame-index frame = rw (e, index-lent frame)
 
     -- the time lookup
     over-not : (time : ℤ) → negative time ≡ true → (a : ℕ) → leZ (pos a) time ≡ false

@@ -13,7 +13,7 @@ use borrow.Author.Tests.{ltb-false}
 use Rattle.choice.specs.declared.Refusal.{Refusal}
 use Rattle.choice.specs.declared.Refusal.the-variants.{Never, At}
 use Rattle.choice.specs.Choice.{when}
-use Rattle.choice.specs.Records.{run, orRefused}
+use Rattle.choice.specs.Records.{run}
 use Rattle.choice.proofs.Tests.{or-false}
 use Rattle.choice.proofs.Runs.{getD-run}
 use Rattle.slices.specs.Slices.{laid}
@@ -21,12 +21,13 @@ use Rattle.rows.specs.Lent.{wordsOf, shiftsOf}
 use Rattle.rows.proofs.Flat.{length-shifts}
 use Rattle.rules.specs.declared.Checked.the-variants.{Frames, Refused}
 use Rattle.rules.specs.Records.{Segment, noSegment}
-use Rattle.rules.specs.Rules.{checkedOf, checkOf}
+use Rattle.rules.specs.Rules.{checkOf}
+use Rattle.rules.proofs.Answers.{check-first, then-rest}
 use Rattle.table.specs.declared.Filled.the-variants.{Rows, NoRows}
 use Rattle.table.specs.Layout.{wordsAt, segmentAt, segmentsOf, tableOf}
 use Rattle.table.specs.Rows.{rowOf, rowsOf, tooSmall, rowsRefusal, filled, Rowed}
 use Rattle.table.proofs.Lent.{length-segments}
-use Rattle.table.proofs.Asked.{lengths}
+use Rattle.table.proofs.Asked.{table-length, lengths}
 
 -- ---- words
 next : (u : List ℕ) (i j : ℕ) → i < length u → suc i ≡ j → drop i u ≡ getD u i 0 ∷ drop j u
@@ -83,27 +84,17 @@ module _ (u : List ℕ) (t : List ℤ) where
 pub has-room : (n nu ns : ℕ) → tooSmall n nu ns ≡ false → (n * 5 ≤ nu) × (n ≤ ns)
 has-room n nu ns e = let p = or-false (ltb nu (n * 5)) (ltb ns n) e in (ltb-false nu (n * 5) (p .0), ltb-false ns n (p .1))
 
-refused-is : (r : Refusal) (T n i : ℕ) → checkedOf r T ≡ Refused n i → r ≡ At n i
-unfolding checkedOf
-refused-is Never T n i e = absurd (let z : _≡_ {A = ℕ} 0 1 = cc in omega arith)
-refused-is (At m j) T n i e = let p : m ≡ n = cc in let q : j ≡ i = cc in rw (p, q)
-
-accepted-is : (r : Refusal) (T N : ℕ) → checkedOf r T ≡ Frames N → r ≡ Never
-unfolding checkedOf
-accepted-is Never T N e = refl
-accepted-is (At m j) T N e = absurd (let z : _≡_ {A = ℕ} 0 1 = cc in omega arith)
-
 module _ (s u : List ℕ) (t : List ℤ) (log : Bool) (text : List ℕ) (ou : List ℕ) (os : List ℤ) where
   at : Refusal → Type 0
   at r = rowsRefusal (tableOf s u t log text) (length ou) (length os) ≡ r
 
   refusal-first : {n i : ℕ} → checkOf (tableOf s u t log text) ≡ Refused n i → at (At n i)
-  unfolding at rowsRefusal orRefused checkOf
-  refusal-first e = rw (refused-is _ _ _ _ e)
+  unfolding at rowsRefusal
+  refusal-first e = check-first _ _ e
 
   then-room : {N : ℕ} {b : Bool} → checkOf (tableOf s u t log text) ≡ Frames N → tooSmall (length u / 5) (length ou) (length os) ≡ b → at (when b (At 32 0) Never)
-  unfolding at rowsRefusal orRefused checkOf tableOf
-  then-room e h = rw (accepted-is _ _ _ e, length-segments u t, h)
+  unfolding at rowsRefusal
+  then-room e h = then-rest _ _ e ∙ rw (table-length s u t log text, h)
 
   pub rows-refused : {n i : ℕ} → checkOf (tableOf s u t log text) ≡ Refused n i → Rowed (tableOf s u t log text) ou os (NoRows n i) ou os
   unfolding at filled

@@ -1,20 +1,31 @@
--- Words of the contracts inside this crate: where the k-th segment ends, in lent words, and that an accepted table's rows are a map.
-use Prim.Native.Nat.{ℕ, _+_}
+-- Words of inner contracts: where the k-th segment ends, in lent words, which segment a frame lies in, and that an accepted table's rows are a map.
+use Prim.Native.Nat.{ℕ, _+_, _-_, _/_, _<_, min}
 use mathlib.Core.List.{List}
 use mathlib.Core.Path.{_≡_}
 use lib.IntN.{ℤ, natAbs}
 use lib.ListN.{length}
+use Rattle.choice.specs.Choice.{maxU64}
 use Rattle.rows.specs.Rows.{total, WellFormed}
 use Rattle.rows.specs.Lent.{rows, wordsOf, shiftsOf}
 use Rattle.rules.specs.declared.Checked.the-variants.{Frames}
 use Rattle.rules.specs.Records.{Table}
 use Rattle.rules.specs.Rules.{checkOf}
-use Rattle.table.specs.Layout.{wordsAt, stampsAt}
+use Rattle.rules.specs.Steps.{endedBy, Ordered}
+use Rattle.table.specs.Layout.{segmentWords, wordsAt, stampsAt}
 use Rattle.table.specs.Rows.{rowsOf}
 
 -- the frame after its last
 abbrev pub endAt : List ℕ → ℕ → ℕ
 endAt u k = wordsAt u k .out + wordsAt u k .count
+
+-- some segments, whose ends never fall: words in which a frame can be searched for
+pub record Searchable (u : List ℕ) : Type 0 where
+  pub some : 0 < length u / segmentWords
+  pub ends : Ordered (endAt u) (length u / segmentWords) maxU64
+
+-- the segment of a frame, in such words
+unfoldable pub indexIn : List ℕ → ℕ → ℕ
+indexIn u frame = min (endedBy (endAt u) (length u / segmentWords) frame) (length u / segmentWords - 1)
 
 -- its end time, of a table that is accepted: no time is negative
 abbrev pub endUsAt : List ℤ → ℕ → ℕ

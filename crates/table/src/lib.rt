@@ -24,7 +24,7 @@ ghost use Rattle.table.specs.Layout.{sourceWords, segmentWords, segmentS
 ghost use Rattle.slices.specs.Slices.{laid};
 ghost use Rattle.rows.specs.Lent.{shiftsOf};
 ghost use Rattle.table.specs.Rows.{rowOf, Rowed};
-ghost use Rattle.table.specs.Steps.{endAt, endUsAt};
+ghost use Rattle.table.specs.Steps.{endAt, endUsAt, Searchable, indexIn};
 
 // Words of a source, unsigned words of a segment, signed words of a segment.
 pub const SOURCE: usize = 10;
@@ -307,7 +307,7 @@ fn at_most(a: usize, b: usize) -> usize
 }
 
 // The frame after the last of segment k.
-fn end_at(u: &[u64], k: usize) -> u64
+pub fn end_at(u: &[u64], k: usize) -> u64
     requires { ⌜ (k * segmentWords + segmentWords ≤ length (now u)) × (endAt (now u) k ≤ maxU64) ⌝ }
     ensures { λ r. ⌜ r ≡ endAt (now (u .entry)) k ⌝ }
 {
@@ -331,6 +331,14 @@ fn ended(u: &[u64], frame: u64) -> usize
         }
     }
     lo
+}
+
+// The segment that has a frame, in words that were checked; past the last frame, the last segment.
+pub fn index_of_frame(u: &[u64], frame: u64) -> usize
+    requires { ⌜ Searchable (now u) ⌝ }
+    ensures { λ r. ⌜ r ≡ indexIn (now (u .entry)) frame ⌝ }
+{
+    at_most(ended(u, frame), u.len() / WORDS - 1)
 }
 
 // The end time of segment k.
@@ -373,7 +381,7 @@ pub fn segment_of_frame(
 {
     match check(sources, u, t, log, text) {
         Checked::Refused(n, i) => Lookup::NoIndex(n, i),
-        Checked::Frames(_) => Lookup::Index(at_most(ended(u, frame), u.len() / WORDS - 1)),
+        Checked::Frames(_) => Lookup::Index(index_of_frame(u, frame)),
     }
 }
 

@@ -225,7 +225,7 @@ uint64_t st_video_frame_times_of_moov(const uint8_t *moov, size_t moov_len, int6
                                       size_t work_b_len, uint64_t *frames, uint64_t *scale, int64_t *nominal,
                                       int64_t *end, uint64_t *index);
 
-/* ---- Tables: the check, both lookups, whether a segment continues the one before, the rows of its map. */
+/* ---- Tables: the check, both lookups and those of a list of frames, whether a segment continues the one before, the rows of its map. */
 
 /* Checks a table: its frame total.
  * Lent: a table. Writes frames, index. Refuses: 1 to 17.
@@ -241,6 +241,16 @@ uint64_t st_segment_of_frame(const uint64_t *sources, size_t sources_len, const 
                              size_t segments_len, const int64_t *times, size_t times_len, bool log,
                              const uint8_t *text, size_t text_len, uint64_t frame, uint64_t *segment,
                              uint64_t *index);
+
+/* The segment of each frame of a list, which need not be in order: what st_segment_of_frame answers of each. The table is
+ * checked once. An empty list is accepted.
+ * Lent: a table, the frames, and room for as many segments. Writes the segments, written (how many), index. Refuses: 1 to 17, 32.
+ * A null pointer only with length 0; what is written overlaps nothing else, or memory may be corrupted. */
+uint64_t st_segments_of_frames(const uint64_t *sources, size_t sources_len, const uint64_t *segments,
+                               size_t segments_len, const int64_t *times, size_t times_len, bool log,
+                               const uint8_t *text, size_t text_len, const uint64_t *frames,
+                               size_t frames_len, uint64_t *out_segments, size_t out_segments_len,
+                               uint64_t *written, uint64_t *index);
 
 /* The segment of a time in microseconds: the number of segments that end at or before it, at most the last index.
  * Lent: a table. Writes segment, index. Refuses: 1 to 17.

@@ -6,6 +6,7 @@ use Rattle.rules.specs.Absent.{stripped}
 use Rattle.rules.specs.Lookups.{segmentOfFrame, segmentOfTime, continuesAt}
 use Rattle.rules.proofs.Ignored.{check-stripped, frame-stripped, time-stripped, continues-stripped, alike}
 use Rattle.table.proofs.Alike.{rows-alike}
+use Rattle.lookups.proofs.Alike.{indices-alike}
 use Rattle.judge.specs.Video.{shownBy}
 use Rattle.judge.specs.Judge.{validateOf, checkMcraw}
 use Rattle.judge.proofs.Ignored.{validate-stripped, mcraw-stripped}
@@ -20,6 +21,7 @@ same l m e = record {
   segment-of-time-us = λ t r p. p ∙ alike (λ a. segmentOfTime a t) (time-stripped t) (table l) (table m) e;
   continues = λ k r p. p ∙ alike (λ t. continuesAt t k) (continues-stripped k) (table l) (table m) e;
   rows-of-table = λ ou ou′ os os′ r p. rows-alike (table l) (table m) e ou ou′ os os′ r p;
+  segments-of-frames = λ fs out out′ r p. indices-alike (table l) (table m) e fs out out′ r p;
   validate = λ video starts r p. p ∙ alike (λ t. validateOf t (shownBy video starts)) (validate-stripped (shownBy video starts)) (table l) (table m) e;
   check-mcraw = λ ts a b a′ b′ r p. record {
     answer = p .answer ∙ alike (λ t. checkMcraw t ts (length a) (length b)) (mcraw-stripped ts (length a) (length b)) (table l) (table m) e;

@@ -24,6 +24,7 @@ use Rattle.segment_table.proofs.recordings.st_mcraw_times as st-mcraw-times·
 use Rattle.segment_table.proofs.recordings.st_video_frame_times_of_moov as st-video-frame-times-of-moov·
 use Rattle.segment_table.proofs.tables.st_check as st-check·
 use Rattle.segment_table.proofs.tables.st_segment_of_frame as st-segment-of-frame·
+use Rattle.segment_table.proofs.tables.st_segments_of_frames as st-segments-of-frames·
 use Rattle.segment_table.proofs.tables.st_segment_of_time_us as st-segment-of-time-us·
 use Rattle.segment_table.proofs.tables.st_continues as st-continues·
 use Rattle.segment_table.proofs.tables.st_rows_of_table as st-rows-of-table·
@@ -123,6 +124,12 @@ module _ {M : Type 1} (𝓤 : URA M) (H : Heap 𝓤) (A : Atoms 𝓤) (mem : Mem
 
   pub st-segment-of-frame-quoted : (κs : Regions calls.st-segment-of-frame) (a : Given calls.st-segment-of-frame κs) → st-segment-of-frame·.clauses 𝓤 H A mem run κs a .ensures tt ≡ (λ z e. fact 𝓤 (calls.st-segment-of-frame .Learnt κs a z e))
   st-segment-of-frame-quoted κs a = refl
+
+  pub st-segments-of-frames-asks-nothing : (κs : Regions calls.st-segments-of-frames) (a : Given calls.st-segments-of-frames κs) → st-segments-of-frames·.clauses 𝓤 H A mem run κs a .requires tt ≡ emp 𝓤
+  st-segments-of-frames-asks-nothing κs a = refl
+
+  pub st-segments-of-frames-quoted : (κs : Regions calls.st-segments-of-frames) (a : Given calls.st-segments-of-frames κs) → st-segments-of-frames·.clauses 𝓤 H A mem run κs a .ensures tt ≡ (λ z e. fact 𝓤 (calls.st-segments-of-frames .Learnt κs a z e))
+  st-segments-of-frames-quoted κs a = refl
 
   pub st-segment-of-time-us-asks-nothing : (κs : Regions calls.st-segment-of-time-us) (a : Given calls.st-segment-of-time-us κs) → st-segment-of-time-us·.clauses 𝓤 H A mem run κs a .requires tt ≡ emp 𝓤
   st-segment-of-time-us-asks-nothing κs a = refl

@@ -9,6 +9,7 @@ faced = record {
   st-segment-of-time-us = λ κs a. (tt, record { the = record { result = _; last = _ }; said = refl; only = λ e p i. record { result = p i .0; last = (tt, (tt, (tt, (tt, (tt, (tt, (p i .1, (p i .2, tt)))))))) } });
   st-continues = λ κs a. (tt, record { the = record { result = _; last = _ }; said = refl; only = λ e p i. record { result = p i .0; last = (tt, (tt, (tt, (tt, (tt, (tt, (p i .1, (p i .2, tt)))))))) } });
   st-rows-of-table = λ κs a. (tt, record { the = record { result = _; last = _ }; said = record { told = refl; words = refl; shifts = refl }; only = λ e p i. record { result = p .told i .0; last = (tt, (tt, (tt, (tt, (tt, (p .words i, (p .shifts i, (p .told i .1, (p .told i .2, tt))))))))) } });
+  st-segments-of-frames = λ κs a. (tt, record { the = record { result = _; last = _ }; said = record { told = refl; indices = refl }; only = λ e p i. record { result = p .told i .0; last = (tt, (tt, (tt, (tt, (tt, (tt, (p .indices i, (p .told i .1, (p .told i .2, tt))))))))) } });
   st-validate-no-video = λ κs a. (tt, record { the = record { result = _; last = _ }; said = refl; only = λ e p i. record { result = p i .0; last = (tt, (tt, (tt, (tt, (tt, (p i .1, tt)))))) } });
   st-validate-constant = λ κs a. (tt, record { the = record { result = _; last = _ }; said = refl; only = λ e p i. record { result = p i .0; last = (tt, (tt, (tt, (tt, (tt, (tt, (tt, (tt, (p i .1, (p i .2, tt)))))))))) } });
   st-validate-times = λ κs a. (tt, record { the = record { result = _; last = _ }; said = refl; only = λ e p i. record { result = p i .0; last = (tt, (tt, (tt, (tt, (tt, (tt, (tt, (tt, (tt, (p i .1, (p i .2, tt))))))))))) } });

@@ -26,6 +26,7 @@ meant = record {
   segment-of-time-us = λ l t r. is;
   continues = λ l k r. is;
   rows-of-table = λ l ou ou′ os os′ r. is;
+  segments-of-frames = λ l fs out out′ r. is;
   validate = λ l video starts r. is;
   check-mcraw = λ l ts a b a′ b′ r. is;
   box-size = λ b remaining r. is;

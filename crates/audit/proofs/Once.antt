@@ -15,6 +15,7 @@ once = record {
   segment-of-time-us = λ κs a. (tt, record { the = record { result = _; last = _ }; said = refl; only = λ e p i. record { result = p i; last = e .last } });
   continues = λ κs a. (tt, record { the = record { result = _; last = _ }; said = refl; only = λ e p i. record { result = p i; last = e .last } });
   rows-of-table = λ κs a. (tt, record { the = record { result = _; last = _ }; said = record { answer = refl; words = refl; shifts = refl }; only = λ e p i. record { result = p .answer i; last = (tt, (tt, (tt, (tt, (tt, (p .words i, (p .shifts i, tt))))))) } });
+  segments-of-frames = λ κs a. (tt, record { the = record { result = _; last = _ }; said = record { answer = refl; indices = refl }; only = λ e p i. record { result = p .answer i; last = (tt, (tt, (tt, (tt, (tt, (tt, (p .indices i, tt))))))) } });
   validate = λ κs a. (tt, record { the = record { result = _; last = _ }; said = refl; only = λ e p i. record { result = p i; last = e .last } });
   check-mcraw = λ κs a. (tt, record { the = record { result = _; last = _ }; said = record { answer = refl; first-cleared = refl; second-cleared = refl }; only = λ e p i. record { result = p .answer i; last = (tt, (tt, (tt, (tt, (tt, (tt, (p .first-cleared i, (p .second-cleared i, tt)))))))) } });
   box-size = λ κs a. (tt, record { the = record { result = _; last = _ }; said = refl; only = λ e p i. record { result = p i; last = e .last } });

@@ -16,6 +16,7 @@ use Rattle.table.proofs.segment_of_frame as segment-of-frame·
 use Rattle.table.proofs.segment_of_time_us as segment-of-time-us·
 use Rattle.table.proofs.continues as continues·
 use Rattle.table.proofs.rows_of_table as rows-of-table·
+use Rattle.lookups.proofs.segments_of_frames as segments-of-frames·
 use Rattle.judge.proofs.validate as validate·
 use Rattle.judge.proofs.check_mcraw as check-mcraw·
 use Rattle.boxes.proofs.box_size as box-size·
@@ -76,6 +77,12 @@ module _ {M : Type 1} (𝓤 : URA M) (H : Heap 𝓤) (A : Atoms 𝓤) (mem : Mem
 
   pub rows-of-table-quoted : (κs : Regions calls.rows-of-table) (a : Given calls.rows-of-table κs) → rows-of-table·.clauses 𝓤 H A mem run κs a .ensures tt ≡ (λ z e. fact 𝓤 (calls.rows-of-table .Learnt κs a z e))
   rows-of-table-quoted κs a = refl
+
+  pub segments-of-frames-asks-nothing : (κs : Regions calls.segments-of-frames) (a : Given calls.segments-of-frames κs) → segments-of-frames·.clauses 𝓤 H A mem run κs a .requires tt ≡ emp 𝓤
+  segments-of-frames-asks-nothing κs a = refl
+
+  pub segments-of-frames-quoted : (κs : Regions calls.segments-of-frames) (a : Given calls.segments-of-frames κs) → segments-of-frames·.clauses 𝓤 H A mem run κs a .ensures tt ≡ (λ z e. fact 𝓤 (calls.segments-of-frames .Learnt κs a z e))
+  segments-of-frames-quoted κs a = refl
 
   pub validate-asks-nothing : (κs : Regions calls.validate) (a : Given calls.validate κs) → validate·.clauses 𝓤 H A mem run κs a .requires tt ≡ emp 𝓤
   validate-asks-nothing κs a = refl

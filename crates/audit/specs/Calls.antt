@@ -23,6 +23,8 @@ use Rattle.table.proofs.continues as continues·
 use Rattle.table.proofs.continues.Reads as continues·reads
 use Rattle.table.proofs.rows_of_table as rows-of-table·
 use Rattle.table.proofs.rows_of_table.Reads as rows-of-table·reads
+use Rattle.lookups.proofs.segments_of_frames as segments-of-frames·
+use Rattle.lookups.proofs.segments_of_frames.Reads as segments-of-frames·reads
 use Rattle.judge.proofs.validate as validate·
 use Rattle.judge.proofs.validate.Reads as validate·reads
 use Rattle.judge.proofs.check_mcraw as check-mcraw·
@@ -133,6 +135,17 @@ RowsOfTable sources u t log text ou os ans ou′ os′ = rows-of-table .Learnt (
 
 pub rows-of-table·anywhere : Anywhere rows-of-table (λ κs a e. RowsOfTable (now (a .0)) (now (a .1 .0)) (now (a .1 .1 .0)) (a .1 .1 .1 .0) (now (a .1 .1 .1 .1 .0)) (now (a .1 .1 .1 .1 .1 .0)) (now (a .1 .1 .1 .1 .1 .1 .0)) (e .result) (e .last .1 .1 .1 .1 .1 .0) (e .last .1 .1 .1 .1 .1 .1 .0))
 rows-of-table·anywhere κs a e = refl
+
+-- lookups::segments_of_frames
+abbrev pub segments-of-frames : Promise
+segments-of-frames = record { types = segments-of-frames·.ended; Asked = segments-of-frames·reads.Asked; Learnt = segments-of-frames·reads.Learnt }
+
+-- segments_of_frames(sources, u, t, log, text, frames, out) answers ans, and leaves out′
+abbrev pub SegmentsOfFrames : List ℕ → List ℕ → List ℤ → Bool → List ℕ → List ℕ → List ℕ → Result segments-of-frames ([], ([], ([], ([], ([], ([], tt)))))) → List ℕ → Type 0
+SegmentsOfFrames sources u t log text frames out ans out′ = segments-of-frames .Learnt ([], ([], ([], ([], ([], ([], tt)))))) (lent sources, (lent u, (lent t, (log, (lent text, (lent frames, (lent out, tt))))))) ans (lent sources, (lent u, (lent t, (log, (lent text, (lent frames, (lent out′, tt)))))))
+
+pub segments-of-frames·anywhere : Anywhere segments-of-frames (λ κs a e. SegmentsOfFrames (now (a .0)) (now (a .1 .0)) (now (a .1 .1 .0)) (a .1 .1 .1 .0) (now (a .1 .1 .1 .1 .0)) (now (a .1 .1 .1 .1 .1 .0)) (now (a .1 .1 .1 .1 .1 .1 .0)) (e .result) (e .last .1 .1 .1 .1 .1 .1 .0))
+segments-of-frames·anywhere κs a e = refl
 
 -- judge::validate
 abbrev pub validate : Promise

@@ -7,7 +7,7 @@ use mathlib.Core.List.{List, []}
 use mathlib.Core.Logic.{_↔_, _⊎_}
 use mathlib.Core.Path.{_≡_}
 use lib.IntN.{ℤ, negℤ}
-use lib.ListN.{length, take}
+use lib.ListN.{length, getD, take}
 use denote.Ref.{RefT, now}
 use Rattle.slices.specs.Slices.{All}
 use Rattle.signed.specs.Rounded.{nearest, rounded}
@@ -19,7 +19,7 @@ use Rattle.rows.specs.declared.Row.{Row}
 use Rattle.rows.specs.Rows.{total}
 use Rattle.rows.specs.Demands.{Tiles, Demands}
 use Rattle.rules.specs.declared.Checked.{Checked}
-use Rattle.rules.specs.declared.Checked.the-variants.{Frames}
+use Rattle.rules.specs.declared.Checked.the-variants.{Frames, Refused}
 use Rattle.rules.specs.declared.Lookup.{Lookup}
 use Rattle.rules.specs.declared.Lookup.the-variants.{Index}
 use Rattle.rules.specs.declared.Continued.{Continued}
@@ -33,6 +33,9 @@ use Rattle.table.specs.declared.Filled.{Filled}
 use Rattle.table.specs.declared.Filled.the-variants.{Rows}
 use Rattle.table.specs.Layout.{Uneven}
 use Rattle.table.specs.Rows.{rowOf, rowsOf, Rowed}
+use Rattle.lookups.specs.declared.Lookups.{Lookups}
+use Rattle.lookups.specs.declared.Lookups.the-variants.{Indices, NoIndices}
+use Rattle.lookups.specs.Indices.{Indexing}
 use Rattle.judge.specs.declared.Video.{Video}
 use Rattle.judge.specs.declared.Video.the-variants.{Nothing, Constant, Times as TimesOf}
 use Rattle.judge.specs.Video.{shownBy}
@@ -57,11 +60,11 @@ use Rattle.frame_times.specs.declared.FrameTimes.{FrameTimes}
 use Rattle.frame_times.specs.Times as frames
 use Rattle.mcraw.specs.declared.RecordingTimes.{RecordingTimes}
 use Rattle.mcraw.specs.Mcraw.{McrawAnswers}
-use Rattle.segment_table.specs.Told.{usTold, sizeTold, placeTold, reachedTold, checkedTold, refusalTold, lookupTold, continuedTold, filledTold, mappedTold, tracedTold, timesTold, moovTold}
+use Rattle.segment_table.specs.Told.{usTold, sizeTold, placeTold, reachedTold, checkedTold, refusalTold, lookupTold, lookupsTold, continuedTold, filledTold, mappedTold, tracedTold, timesTold, moovTold}
 use Rattle.audit.specs.Promise.{OneAnswer, OnePart}
 use Rattle.audit.specs.Calls as calls
 use Rattle.audit.specs.Face as face
-use Rattle.audit.specs.Words.{Lent, table, on, Tells, Check, SegmentOfFrame, SegmentOfTimeUs, Continues, RowsOfTable, Validate, CheckMcraw, inWords, mapWritten}
+use Rattle.audit.specs.Words.{Lent, table, on, Tells, Check, SegmentOfFrame, SegmentOfTimeUs, Continues, RowsOfTable, SegmentsOfFrames, Validate, CheckMcraw, inWords, mapWritten}
 use Rattle.audit.specs.Examples.{Holds, examples}
 
 -- 1 and 2. ONE ANSWER. No public call has a `requires`; and whatever its arguments, exactly one result, with exactly one content of each lent slice, meets its
@@ -74,6 +77,7 @@ pub record Answers : Type 0 where
   pub segment-of-time-us : OneAnswer calls.segment-of-time-us
   pub continues : OneAnswer calls.continues
   pub rows-of-table : OneAnswer calls.rows-of-table
+  pub segments-of-frames : OneAnswer calls.segments-of-frames
   pub validate : OneAnswer calls.validate
   pub check-mcraw : OneAnswer calls.check-mcraw
   pub box-size : OneAnswer calls.box-size
@@ -102,6 +106,7 @@ pub record Face : Type 0 where
   pub st-segment-of-time-us : OneAnswer face.st-segment-of-time-us
   pub st-continues : OneAnswer face.st-continues
   pub st-rows-of-table : OneAnswer face.st-rows-of-table
+  pub st-segments-of-frames : OneAnswer face.st-segments-of-frames
   pub st-validate-no-video : OneAnswer face.st-validate-no-video
   pub st-validate-constant : OneAnswer face.st-validate-constant
   pub st-validate-times : OneAnswer face.st-validate-times
@@ -135,6 +140,8 @@ pub record Telling : Type 0 where
       → on face.StContinues l k answer index r answer′ index′ ↔ Tells (Continues l k) (λ c. (r, answer′, index′) ≡ continuedTold c answer)
   pub st-rows-of-table : (l : Lent) (ou ou′ : List ℕ) (os os′ : List ℤ) (rows index r rows′ index′ : ℕ)
       → on face.StRowsOfTable l ou os rows index r ou′ os′ rows′ index′ ↔ Tells (λ c. RowsOfTable l ou os c ou′ os′) (λ c. (r, rows′, index′) ≡ filledTold c rows)
+  pub st-segments-of-frames : (l : Lent) (fs out out′ : List ℕ) (written index r written′ index′ : ℕ)
+      → on face.StSegmentsOfFrames l fs out written index r out′ written′ index′ ↔ Tells (λ c. SegmentsOfFrames l fs out c out′) (λ c. (r, written′, index′) ≡ lookupsTold c written)
   pub st-validate-no-video : (l : Lent) (index r index′ : ℕ)
       → on face.StValidateNoVideo l index r index′ ↔ Tells (Validate l Nothing []) (λ c. (r, index′) ≡ refusalTold c)
   pub st-validate-constant : (l : Lent) (count num den frames index r frames′ index′ : ℕ)
@@ -231,6 +238,7 @@ pub record Meanings : Type 0 where
   pub segment-of-time-us : (l : Lent) (t : ℤ) (r : Lookup) → SegmentOfTimeUs l t r ↔ (r ≡ segmentOfTime (table l) t)
   pub continues : (l : Lent) (k : ℕ) (r : Continued) → Continues l k r ↔ (r ≡ continuesAt (table l) k)
   pub rows-of-table : (l : Lent) (ou ou′ : List ℕ) (os os′ : List ℤ) (r : Filled) → RowsOfTable l ou os r ou′ os′ ↔ Rowed (table l) ou os r ou′ os′
+  pub segments-of-frames : (l : Lent) (fs out out′ : List ℕ) (r : Lookups) → SegmentsOfFrames l fs out r out′ ↔ Indexing (table l) fs out r out′
   pub validate : (l : Lent) (video : Video) (starts : List ℤ) (r : Checked) → Validate l video starts r ↔ (r ≡ validateOf (table l) (shownBy video starts))
   pub check-mcraw : (l : Lent) (ts a b a′ b′ : List ℤ) (r : Checked) → CheckMcraw l ts a b r a′ b′ ↔ Settled (table l) ts a b r a′ b′
   pub box-size : (b : List ℕ) (remaining : ℕ) (r : Sized) → calls.BoxSize b remaining r ↔ (r ≡ boxSize b remaining)
@@ -251,6 +259,14 @@ pub record Meanings : Type 0 where
   -- The lookup over records answers what the lookup over words answers of the words that say the same.
   pub segment-of-frame-records : (sources text : List ℕ) (rs : List TrimSegment) (log : Bool) (f : ℕ) (r : Lookup)
       → calls.SegmentOfFrameRecords sources text rs log f r ↔ SegmentOfFrame (inWords sources text rs log) f r
+
+-- THE LOOKUPS OF A LIST: whatever its order, the k-th index is what `segment_of_frame` answers of the k-th frame. The table is checked as `check` does, also where the
+-- list is empty, and room that is shorter than the list is refused after that. (Document 02, a.)
+pub record Listing : Type 0 where
+  pub each : (l : Lent) (n k : ℕ) (fs out out′ : List ℕ) → SegmentsOfFrames l fs out (Indices n) out′ → k < length fs → SegmentOfFrame l (getD fs k 0) (Index (getD out′ k 0))
+  pub all : (l : Lent) (N : ℕ) (fs out out′ : List ℕ) (r : Lookups) → Check l (Frames N) → length fs ≤ length out → SegmentsOfFrames l fs out r out′ → r ≡ Indices (length fs)
+  pub refused : (l : Lent) (n i : ℕ) (fs out out′ : List ℕ) (r : Lookups) → Check l (Refused n i) → SegmentsOfFrames l fs out r out′ → r ≡ NoIndices n i
+  pub short : (l : Lent) (N : ℕ) (fs out out′ : List ℕ) (r : Lookups) → Check l (Frames N) → length out < length fs → SegmentsOfFrames l fs out r out′ → r ≡ NoIndices 32 0
 
 -- THE WALK `children` MEETS THE BOXES, by which `child` and the other searches are defined: a box that it answers is the first of those from its offset on, and the
 -- others are those from `next` on, which lies further on in the bytes; where it answers 31 there are none, and the boxes end clean or with a bad header. So a walk
@@ -281,6 +297,7 @@ pub record SameAnswers (l m : Lent) : Type 0 where
   pub segment-of-time-us : (t : ℤ) (r : Lookup) → SegmentOfTimeUs l t r → SegmentOfTimeUs m t r
   pub continues : (k : ℕ) (r : Continued) → Continues l k r → Continues m k r
   pub rows-of-table : (ou ou′ : List ℕ) (os os′ : List ℤ) (r : Filled) → RowsOfTable l ou os r ou′ os′ → RowsOfTable m ou os r ou′ os′
+  pub segments-of-frames : (fs out out′ : List ℕ) (r : Lookups) → SegmentsOfFrames l fs out r out′ → SegmentsOfFrames m fs out r out′
   pub validate : (video : Video) (starts : List ℤ) (r : Checked) → Validate l video starts r → Validate m video starts r
   pub check-mcraw : (ts a b a′ b′ : List ℤ) (r : Checked) → CheckMcraw l ts a b r a′ b′ → CheckMcraw m ts a b r a′ b′
 
@@ -307,10 +324,11 @@ pub record Claims : Type 0 where
   pub refusals : Refusals
   -- HOW FAR TWO TABLES OF ONE VIDEO MAY DIFFER, which `validate` or `check_mcraw` accepts. (Document 02, n; differ/specs/Differ.antt has the lines.)
   pub differing : Differing table Validate CheckMcraw
+  pub listing : Listing
   pub meanings : Meanings
   pub walking : Walking
   pub rounding : Rounding
   pub ordering : Ordering
   pub ignored : Ignored
-  -- 7. THE STARRED NUMBERS of document 01, the auditor's clip, and how near tables come to the bound of document 02's n. (Demands 2 and 3.)
+  -- 7. THE STARRED NUMBERS of document 01, the auditor's clip, and those of document 02's n and a. (Demands 2 and 3.)
   pub worked : All Holds examples

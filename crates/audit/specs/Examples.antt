@@ -15,6 +15,8 @@ use Rattle.rules.specs.declared.Lookup.{Lookup}
 use Rattle.rules.specs.declared.Lookup.the-variants.{Index}
 use Rattle.table.specs.declared.Filled.{Filled}
 use Rattle.table.specs.declared.Filled.the-variants as filled
+use Rattle.lookups.specs.declared.Lookups.{Lookups}
+use Rattle.lookups.specs.declared.Lookups.the-variants.{Indices, NoIndices}
 use Rattle.judge.specs.declared.Video.{Video}
 use Rattle.judge.specs.declared.Video.the-variants.{Constant}
 use Rattle.judge.specs.Judge.{lastSegment}
@@ -31,7 +33,7 @@ use Rattle.mcraw.specs.declared.RecordingTimes.{RecordingTimes as Recording}
 use Rattle.mcraw.specs.declared.RecordingTimes.the-variants.{Timed}
 use Rattle.differ.specs.Differ.{SameFrames}
 use Rattle.audit.specs.Calls.{TicksToUs, IsUtcSecond, Cut, Join, Merge, Origin, VideoFrameTimesOfMoov, McrawTimes}
-use Rattle.audit.specs.Words.{Lent, table, Check, SegmentOfFrame, SegmentOfTimeUs, RowsOfTable, Validate, CheckMcraw, mapWritten}
+use Rattle.audit.specs.Words.{Lent, table, Check, SegmentOfFrame, SegmentOfTimeUs, RowsOfTable, SegmentsOfFrames, Validate, CheckMcraw, mapWritten}
 
 pub data Example : Type 0 where
   -- so many ticks of a scale are so many microseconds
@@ -49,6 +51,8 @@ pub data Example : Type 0 where
   -- the segment of a frame, and of a time
   frame : (l : Lent) (k : ℕ) (is : Lookup) → Example
   time : (l : Lent) (us : ℤ) (is : Lookup) → Example
+  -- the segments of a list of frames, put into this room, and what it holds then
+  list : (l : Lent) (frames room : List ℕ) (is : Lookups) (are : List ℕ) → Example
   -- the rows of a table
   map : (l : Lent) (are : List Row) → Example
   -- the frames a to b of a map are these rows
@@ -81,6 +85,7 @@ Holds (exports l m frames num den us below) =
     × (us * num + below ≡ 2 * den * 1000000 + num)
 Holds (frame l k is) = (r : Lookup) → SegmentOfFrame l k r → r ≡ is
 Holds (time l us is) = (r : Lookup) → SegmentOfTimeUs l us r → r ≡ is
+Holds (list l frames room is are) = (r : Lookups) (out : List ℕ) → SegmentsOfFrames l frames room r out → (r ≡ is) × (out ≡ are)
 Holds (map l are) =
     (r : Filled) (ou : List ℕ) (os : List ℤ) → RowsOfTable l (replicate (5 * length are) 0) (replicate (length are) (pos 0)) r ou os
     → (r ≡ filled.Rows (length are)) × (mapWritten (length are) ou os ≡ are)
@@ -285,4 +290,8 @@ examples =
     -- of one timestamp the fps decides, so that it is asked to be the same: at 25/1 a frame lasts 40,000, at 1/1 a million
     ∷ filmed (wholeSource 1 25 1 (stamps 0 40000 (pos 0))) (pos 7) (Frames 1)
     ∷ filmed (wholeSource 1 1 1 (stamps 0 1000000 (pos 0))) (pos 7) (Frames 1)
+    -- document 02, a: T's frames in any order, and what lies past them; room that is too short; a table that is refused, of a list without frames
+    ∷ list (tableT (plain 100) []) (49 ∷ 0 ∷ 30 ∷ 29 ∷ 18446744073709551615 ∷ []) (9 ∷ 9 ∷ 9 ∷ 9 ∷ 9 ∷ 9 ∷ []) (Indices 5) (1 ∷ 0 ∷ 1 ∷ 0 ∷ 1 ∷ 9 ∷ [])
+    ∷ list (tableT (plain 100) []) (29 ∷ 30 ∷ []) (9 ∷ []) (NoIndices 32 0) (9 ∷ [])
+    ∷ list (tableT (plain 0) []) [] [] (NoIndices 4 0) []
     ∷ []

@@ -38,6 +38,8 @@ use Rattle.segment_table.proofs.tables.st_check as st-check·
 use Rattle.segment_table.proofs.tables.st_check.Reads as st-check·reads
 use Rattle.segment_table.proofs.tables.st_segment_of_frame as st-segment-of-frame·
 use Rattle.segment_table.proofs.tables.st_segment_of_frame.Reads as st-segment-of-frame·reads
+use Rattle.segment_table.proofs.tables.st_segments_of_frames as st-segments-of-frames·
+use Rattle.segment_table.proofs.tables.st_segments_of_frames.Reads as st-segments-of-frames·reads
 use Rattle.segment_table.proofs.tables.st_segment_of_time_us as st-segment-of-time-us·
 use Rattle.segment_table.proofs.tables.st_segment_of_time_us.Reads as st-segment-of-time-us·reads
 use Rattle.segment_table.proofs.tables.st_continues as st-continues·
@@ -219,6 +221,17 @@ StSegmentOfFrame sources segments times log text frame segment index ans segment
 
 pub st-segment-of-frame·anywhere : Anywhere st-segment-of-frame (λ κs a e. StSegmentOfFrame (now (a .0)) (now (a .1 .0)) (now (a .1 .1 .0)) (a .1 .1 .1 .0) (now (a .1 .1 .1 .1 .0)) (a .1 .1 .1 .1 .1 .0) (now (a .1 .1 .1 .1 .1 .1 .0)) (now (a .1 .1 .1 .1 .1 .1 .1 .0)) (e .result) (e .last .1 .1 .1 .1 .1 .1 .0) (e .last .1 .1 .1 .1 .1 .1 .1 .0))
 st-segment-of-frame·anywhere κs a e = refl
+
+-- segment_table::tables::st_segments_of_frames
+abbrev pub st-segments-of-frames : Promise
+st-segments-of-frames = record { types = st-segments-of-frames·.ended; Asked = st-segments-of-frames·reads.Asked; Learnt = st-segments-of-frames·reads.Learnt }
+
+-- st_segments_of_frames(sources, segments, times, log, text, frames, out-segments, written, index) answers ans, and leaves out-segments′, written′, index′
+abbrev pub StSegmentsOfFrames : List ℕ → List ℕ → List ℤ → Bool → List ℕ → List ℕ → List ℕ → ℕ → ℕ → Result st-segments-of-frames ([], ([], ([], ([], ([], ([], ([], ([], tt)))))))) → List ℕ → ℕ → ℕ → Type 0
+StSegmentsOfFrames sources segments times log text frames out-segments written index ans out-segments′ written′ index′ = st-segments-of-frames .Learnt ([], ([], ([], ([], ([], ([], ([], ([], tt)))))))) (lent sources, (lent segments, (lent times, (log, (lent text, (lent frames, (lent out-segments, (lent written, (lent index, tt))))))))) ans (lent sources, (lent segments, (lent times, (log, (lent text, (lent frames, (lent out-segments′, (lent written′, (lent index′, tt)))))))))
+
+pub st-segments-of-frames·anywhere : Anywhere st-segments-of-frames (λ κs a e. StSegmentsOfFrames (now (a .0)) (now (a .1 .0)) (now (a .1 .1 .0)) (a .1 .1 .1 .0) (now (a .1 .1 .1 .1 .0)) (now (a .1 .1 .1 .1 .1 .0)) (now (a .1 .1 .1 .1 .1 .1 .0)) (now (a .1 .1 .1 .1 .1 .1 .1 .0)) (now (a .1 .1 .1 .1 .1 .1 .1 .1 .0)) (e .result) (e .last .1 .1 .1 .1 .1 .1 .0) (e .last .1 .1 .1 .1 .1 .1 .1 .0) (e .last .1 .1 .1 .1 .1 .1 .1 .1 .0))
+st-segments-of-frames·anywhere κs a e = refl
 
 -- segment_table::tables::st_segment_of_time_us
 abbrev pub st-segment-of-time-us : Promise

@@ -1,10 +1,11 @@
 -- What the lookups of a list answer, and that each index is the single lookup's. Assumes nothing.
 use Prim.Native.Nat.{ℕ, zero, suc, _≤_, _<_}
 use native.Mathlib.Nat.{le-of-suc-le-suc, not-suc-le-zero}
+use native.Mathlib.Omega.{arith}
 use mathlib.Core.Path.{_≡_, refl, sym, ap, _∙_}
-use mathlib.Core.Bool.{Bool, true, false}
+use mathlib.Core.Bool.{Bool}
 use mathlib.Core.List.{List, [], _∷_, map}
-use lib.ListN.{length, getD}
+use lib.ListN.{length, getD, drop, length-map, List·getD-append}
 use lib.Dec.{ltb}
 use lib.IntN.{ℤ}
 use borrow.Author.Tests.{lt-ltb, le-ltb}
@@ -12,58 +13,96 @@ use Rattle.choice.specs.declared.Refusal.{Refusal}
 use Rattle.choice.specs.declared.Refusal.the-variants.{Never, At}
 use Rattle.choice.specs.Choice.{when}
 use Rattle.choice.specs.Numbers.{noRoom}
-use Rattle.slices.specs.Slices.{laid}
+use Rattle.choice.proofs.Chains.{or-never}
+use Rattle.slices.specs.Slices.{laid, after}
 use Rattle.rules.specs.declared.Checked.the-variants.{Frames, Refused}
 use Rattle.rules.specs.declared.Lookup.the-variants.{Index}
 use Rattle.rules.specs.Records.{Table}
-use Rattle.rules.specs.Rules.{checkOf}
+use Rattle.rules.specs.Rules.{refusal, checkedOf, checkOf}
 use Rattle.rules.specs.Lookups.{ended, overBy, lookedUp, segmentOfFrame}
 use Rattle.rules.proofs.Answers.{check-first, then-rest}
 use Rattle.table.specs.Layout.{tableOf}
 use Rattle.table.specs.Steps.{indexIn}
 use Rattle.table.proofs.Asked.{index-lent}
+use Rattle.lookups.specs.declared.Lookups.{Lookups}
 use Rattle.lookups.specs.declared.Lookups.the-variants.{Indices, NoIndices}
 use Rattle.lookups.specs.Indices.{indicesOf, indicesRefusal, indexed, Indexing}
 
-map-same : (f g : ℕ → ℕ) → ((x : ℕ) → f x ≡ g x) → (l : List ℕ) → map f l ≡ map g l
+-- ---- lists
+pub map-same : (f g : ℕ → ℕ) → ((x : ℕ) → f x ≡ g x) → (l : List ℕ) → map f l ≡ map g l
 map-same f g h [] = refl
 map-same f g h (x ∷ l) = λ i. h x i ∷ map-same f g h l i
 
-module _ (s u : List ℕ) (t : List ℤ) (log : Bool) (text frames out : List ℕ) where
-  at : Refusal → Type 0
-  at r = indicesRefusal (tableOf s u t log text) (length frames) (length out) ≡ r
-
-  refused-first : {n i : ℕ} → checkOf (tableOf s u t log text) ≡ Refused n i → at (At n i)
-  unfolding at indicesRefusal
-  refused-first e = check-first _ _ e
-
-  then-room : {N : ℕ} {b : Bool} → checkOf (tableOf s u t log text) ≡ Frames N → ltb (length out) (length frames) ≡ b → at (when b (At noRoom 0) Never)
-  unfolding at indicesRefusal
-  then-room e h = then-rest _ _ e ∙ rw h
-
-  pub list-refused : {n i : ℕ} → checkOf (tableOf s u t log text) ≡ Refused n i → Indexing (tableOf s u t log text) frames out (NoIndices n i) out
-  unfolding at indexed
-  list-refused e = let q = refused-first e in record { answer = rw q; indices = rw q }
-
-  module _ {N : ℕ} (e : checkOf (tableOf s u t log text) ≡ Frames N) where
-    pub list-small : length out < length frames → Indexing (tableOf s u t log text) frames out (NoIndices noRoom 0) out
-    unfolding at indexed when
-    list-small h = let q = then-room e (lt-ltb (length out) (length frames) h) in record { answer = rw q; indices = rw q }
-
-    pub list-written : {out′ : List ℕ} → length frames ≤ length out → out′ ≡ laid (map (indexIn u) frames) out
-        → Indexing (tableOf s u t log text) frames out (Indices (length frames)) out′
-    unfolding at indexed when indicesOf
-    list-written h w =
-        let q = then-room e (le-ltb (length out) (length frames) h) in
-        record { answer = rw q; indices = rw q (w ∙ ap (λ (l : List ℕ). laid l out) (map-same _ _ (index-lent s u t log text) frames)) }
-
--- the k-th of a list's answers
 pub map-at : (f : ℕ → ℕ) (l : List ℕ) (k : ℕ) → k < length l → getD (map f l) k 0 ≡ f (getD l k 0)
 map-at f [] k h = absurd (not-suc-le-zero h)
 map-at f (x ∷ l) zero h = refl
 map-at f (x ∷ l) (suc k) h = map-at f l k (le-of-suc-le-suc h)
 
--- each index is the single lookup's
-pub each-index : (t : Table) (frames : List ℕ) (N k : ℕ) → checkOf t ≡ Frames N → k < length frames → segmentOfFrame t (getD frames k 0) ≡ Index (getD (indicesOf t frames) k 0)
-unfolding indicesOf segmentOfFrame lookedUp
-each-index t frames N k e h = rw e (ap Index (sym (map-at (λ frame. ended (overBy frame) (t .segments)) frames k h)))
+-- ---- the answer, of any table
+module _ (t : Table) (frames out : List ℕ) where
+  refused-first : {n i : ℕ} → checkOf t ≡ Refused n i → indicesRefusal t (length frames) (length out) ≡ At n i
+  unfolding indicesRefusal
+  refused-first e = check-first _ _ e
+
+  then-room : {N : ℕ} {b : Bool} → checkOf t ≡ Frames N → ltb (length out) (length frames) ≡ b → indicesRefusal t (length frames) (length out) ≡ when b (At noRoom 0) Never
+  unfolding indicesRefusal
+  then-room e h = then-rest _ _ e ∙ rw h
+
+  -- the one answer that a refusal leaves
+  module _ {r : Lookups} {out′ : List ℕ} (p : Indexing t frames out r out′) where
+    pub answer-refused : {n i : ℕ} → checkOf t ≡ Refused n i → r ≡ NoIndices n i
+    unfolding indexed
+    answer-refused e = p .answer ∙ rw (refused-first e)
+
+    pub answer-short : {N : ℕ} → checkOf t ≡ Frames N → length out < length frames → r ≡ NoIndices noRoom 0
+    unfolding indexed when
+    answer-short e h = p .answer ∙ rw (then-room e (lt-ltb _ _ h))
+
+    pub answer-all : {N : ℕ} → checkOf t ≡ Frames N → length frames ≤ length out → r ≡ Indices (length frames)
+    unfolding indexed when
+    answer-all e h = p .answer ∙ rw (then-room e (le-ltb _ _ h))
+
+  -- each index is the single lookup's
+  module _ {n : ℕ} {out′ : List ℕ} (p : Indexing t frames out (Indices n) out′) (k : ℕ) (h : k < length frames) where
+    none : indicesRefusal t (length frames) (length out) ≡ Never
+    unfolding indexed
+    none = free _ (p .answer)
+      where
+        free : (x : Refusal) → Indices n ≡ indexed x (length frames) → x ≡ Never
+        free Never e = refl
+        free (At m i) e = let z : _≡_ {A = ℕ} 0 1 = cc in absurd (omega arith)
+
+    accepted : refusal t ≡ Never
+    unfolding indicesRefusal
+    accepted = or-never (refusal t) _ none .0
+
+    written : getD out′ k 0 ≡ ended (overBy (getD frames k 0)) (t .segments)
+    unfolding indicesOf
+    written =
+        let i = indicesOf t frames in
+        let n = length-map frames (λ frame. ended (overBy frame) (t .segments)) in
+        ap (λ (l : List ℕ). getD l k 0) (p .indices ∙ ap (λ (x : Refusal). after x i out) none)
+        ∙ List·getD-append i (drop (length i) out) 0 k (omega (arith, n))
+        ∙ map-at _ frames k h
+
+    pub each-index : Index (getD out′ k 0) ≡ segmentOfFrame t (getD frames k 0)
+    unfolding segmentOfFrame checkOf checkedOf lookedUp
+    each-index = rw accepted (ap Index written)
+
+-- ---- the call, of a table that is lent
+module _ (s u : List ℕ) (t : List ℤ) (log : Bool) (text frames out : List ℕ) where
+  pub list-refused : {n i : ℕ} → checkOf (tableOf s u t log text) ≡ Refused n i → Indexing (tableOf s u t log text) frames out (NoIndices n i) out
+  unfolding indexed
+  list-refused e = let q = refused-first (tableOf s u t log text) frames out e in record { answer = rw q; indices = rw q }
+
+  module _ {N : ℕ} (e : checkOf (tableOf s u t log text) ≡ Frames N) where
+    pub list-short : length out < length frames → Indexing (tableOf s u t log text) frames out (NoIndices noRoom 0) out
+    unfolding indexed when
+    list-short h = let q = then-room (tableOf s u t log text) frames out e (lt-ltb _ _ h) in record { answer = rw q; indices = rw q }
+
+    pub list-written : {out′ : List ℕ} → length frames ≤ length out → out′ ≡ laid (map (indexIn u) frames) out
+        → Indexing (tableOf s u t log text) frames out (Indices (length frames)) out′
+    unfolding indexed when indicesOf
+    list-written h w =
+        let q = then-room (tableOf s u t log text) frames out e (le-ltb _ _ h) in
+        record { answer = rw q; indices = rw q (w ∙ ap (λ (l : List ℕ). laid l out) (map-same _ _ (index-lent s u t log text) frames)) }

@@ -41,8 +41,11 @@ module _ (u : List ℕ) (s : Searchable u) (k : ℕ) (h : k < length u / segment
   past : k + 1 ≡ length u / segmentWords → endAt u k ≤ frame → indexIn u frame ≡ k
   unfolding indexIn
   past e g =
-      omega (arith, split (endAt u) (length u / segmentWords) maxU64 frame (length u / segmentWords) (s .ends) (omega arith)
-      (λ z. subst (λ (j : ℕ). endAt u j ≤ frame) (omega arith) g) (λ z. absurd (omega arith)))
+      omega (
+        arith,
+        split (endAt u) (length u / segmentWords) maxU64 frame (length u / segmentWords) (s .ends) (omega arith)
+            (λ z. subst (λ (j : ℕ). endAt u j ≤ frame) (omega arith) g) (λ z. absurd (omega arith)),
+      )
 
   index-is : frame < endOf u k → indexIn u frame ≡ k
   unfolding when

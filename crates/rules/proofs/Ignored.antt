@@ -155,9 +155,13 @@ unfolding segmentRunsOn strippedSegment
 runs-stripped p e = rw (same-stripped (p .words .flag) (e .words .flag) (p .stamps .shift) (e .stamps .shift))
 
 -- ---- of every table: each answer is that of the stripped one
+pub over-stripped : (k : ℕ) (t : Table) → ended (overBy k) (t .segments) ≡ ended (overBy k) (stripped t .segments)
+unfolding stripped strippedSegment
+over-stripped k t = ended-stripped (overBy k) (t .segments) (λ e. refl)
+
 pub frame-stripped : (k : ℕ) (t : Table) → segmentOfFrame t k ≡ segmentOfFrame (stripped t) k
-unfolding segmentOfFrame stripped strippedSegment
-frame-stripped k t = λ i. lookedUp (check-stripped t i) (ended-stripped (overBy k) (t .segments) (λ e. refl) i)
+unfolding segmentOfFrame
+frame-stripped k t = λ i. lookedUp (check-stripped t i) (over-stripped k t i)
 
 pub time-stripped : (z : ℤ) (t : Table) → segmentOfTime t z ≡ segmentOfTime (stripped t) z
 unfolding segmentOfTime stripped strippedSegment

@@ -153,7 +153,15 @@ pub extern "C" fn st_segments_of_frames(
 ) -> u64
     ensures { λ r. ⌜ IndexedTold (tableOf (now (sources .entry)) (now (segments .entry)) (now (times .entry)) log (now (text .entry))) (now (frames .entry)) (now («out_segments» .entry)) (now (written .entry)) r (now («out_segments» .exit)) (now (written .exit)) (now (index .exit)) ⌝ }
 {
-    let found = lookups::segments_of_frames(sources, segments, times, log, text, frames, out_segments);
+    let found = lookups::segments_of_frames(
+        sources,
+        segments,
+        times,
+        log,
+        text,
+        frames,
+        out_segments,
+    );
     tell_lookups(found, written, index)
 }
 

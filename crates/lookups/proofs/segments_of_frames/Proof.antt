@@ -1,7 +1,7 @@
 use borrow.Author.Needs.{needs}
 use Rattle.choice.proofs.Tests.{called}
 use Rattle.table.proofs.Asked.{searchable}
-use Rattle.lookups.proofs.Indexed.{list-refused, list-small, list-written}
+use Rattle.lookups.proofs.Indexed.{list-refused, list-short, list-written}
 use Rattle.lookups.proofs.segments_of_frames.Statement.{statement}
 use Rattle.lookups.proofs.segments_of_frames.Tie as tie
 
@@ -9,7 +9,7 @@ returns : tie.Need-returns
 returns c = list-refused _ _ _ _ _ _ _ (called (c .before .before .before .check .ensures) (c .before .n .given .1))
 
 returns-2 : tie.Need-returns-2
-returns-2 c = list-small _ _ _ _ _ _ _ (called (c .before .before .before .check .ensures) (c .before .enum-told .given .1)) (c .if1 .taken)
+returns-2 c = list-short _ _ _ _ _ _ _ (called (c .before .before .before .check .ensures) (c .before .enum-told .given .1)) (c .if1 .taken)
 
 write-indices-requires : tie.Need-write-indices-requires
 write-indices-requires c κs = (searchable _ _ _ _ _ (called (c .before .before .before .before .check .ensures) (c .before .before .enum-told .given .1)), c .before .if1 .left)

@@ -21,7 +21,7 @@ use Rattle.maps.specs.declared.Traced.{Traced}
 use Rattle.maps.specs.Answers.{Placed}
 use Rattle.frame_times.specs.declared.FrameTimes.{FrameTimes}
 use Rattle.mcraw.specs.declared.RecordingTimes.{RecordingTimes}
-use Rattle.segment_table.specs.Told.{usTold, sizeTold, placeTold, reachedTold, checkedTold, refusalTold, lookupTold, lookupsTold, continuedTold, filledTold, mappedTold, tracedTold, timesTold, moovTold}
+use Rattle.told.specs.Told.{usTold, sizeTold, placeTold, reachedTold, checkedTold, refusalTold, lookupTold, lookupsTold, continuedTold, filledTold, mappedTold, tracedTold, timesTold, moovTold}
 use Rattle.segment_table.specs.Written.{MapTold}
 use Rattle.audit.proofs.Worked.{started}
 use Rattle.audit.specs.Words.{Tells}

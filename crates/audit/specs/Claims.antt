@@ -60,7 +60,7 @@ use Rattle.frame_times.specs.declared.FrameTimes.{FrameTimes}
 use Rattle.frame_times.specs.Times as frames
 use Rattle.mcraw.specs.declared.RecordingTimes.{RecordingTimes}
 use Rattle.mcraw.specs.Mcraw.{McrawAnswers}
-use Rattle.segment_table.specs.Told.{usTold, sizeTold, placeTold, reachedTold, checkedTold, refusalTold, lookupTold, lookupsTold, continuedTold, filledTold, mappedTold, tracedTold, timesTold, moovTold}
+use Rattle.told.specs.Told.{usTold, sizeTold, placeTold, reachedTold, checkedTold, refusalTold, lookupTold, lookupsTold, continuedTold, filledTold, mappedTold, tracedTold, timesTold, moovTold}
 use Rattle.audit.specs.Promise.{OneAnswer, OnePart}
 use Rattle.audit.specs.Calls as calls
 use Rattle.audit.specs.Face as face
@@ -127,7 +127,7 @@ pub record Face : Type 0 where
   pub st-ticks-to-us : OneAnswer face.st-ticks-to-us
 
 -- WHICH ANSWER EACH EXPORT GIVES: the call of the library that it is for answers something, and leaves the lent slices so; of that answer the number that is returned
--- and the words that are written are told (segment_table/specs/Told.antt; a primed name is what a word or slice holds afterwards). So all that is claimed of the
+-- and the words that are written are told (told/specs/Told.antt; a primed name is what a word or slice holds afterwards). So all that is claimed of the
 -- calls holds in C. (Demands 1 and 2.)
 pub record Telling : Type 0 where
   pub st-check : (l : Lent) (frames index r frames′ index′ : ℕ)

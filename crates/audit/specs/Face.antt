@@ -8,7 +8,7 @@ use denote.Ref.{RefT, now}
 use Rattle.audit.specs.Promise.{Promise, Result, Anywhere, lent}
 use Rattle.records.specs.Records.{locate}
 use Rattle.records.specs.declared.TrimSegment.{TrimSegment}
-use Rattle.segment_table.specs.Told.{lookupTold}
+use Rattle.told.specs.Told.{lookupTold}
 use Rattle.segment_table.proofs.clock.st_is_utc_second as st-is-utc-second·
 use Rattle.segment_table.proofs.clock.st_is_utc_second.Reads as st-is-utc-second·reads
 use Rattle.segment_table.proofs.clock.st_ticks_to_us as st-ticks-to-us·

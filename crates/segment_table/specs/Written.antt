@@ -17,7 +17,7 @@ use Rattle.slices.specs.Slices.{laid, after, zeros}
 use Rattle.mcraw.specs.Mcraw.{mcrawTimes, startsWritten}
 use Rattle.frame_times.specs.Times as moov
 use Rattle.judge.specs.Judge.{checkMcraw}
-use Rattle.segment_table.specs.Told.{checkedTold, filledTold, lookupsTold, mappedTold, timesTold, moovTold}
+use Rattle.told.specs.Told.{checkedTold, filledTold, lookupsTold, mappedTold, timesTold, moovTold}
 
 -- the rows of t were asked for: number, words, shifts, how many rows, index
 pub record RowedTold (t : Table) (ou : List ℕ) (os : List ℤ) (rows r : ℕ) (ou′ : List ℕ) (os′ : List ℤ) (rows′ index′ : ℕ) : Type 0 where

@@ -1,26 +1,8 @@
 // Times: the UTC rule, and ticks in microseconds.
-use ticks::Us;
 ghost use mathlib.Core.Path.{_≡_};
 ghost use Rattle.utc.specs.Utc.{utcSecond};
 ghost use Rattle.ticks.specs.Ticks.{ticksToUs};
-ghost use Rattle.segment_table.specs.Told.{usTold};
-
-// Tells a time in microseconds.
-fn tell_us(answer: Us, us: &mut i64, index: &mut u64) -> u64
-    ensures { λ r. ⌜ (r, now (us .exit), now (index .exit)) ≡ usTold answer (now (us .entry)) ⌝ }
-{
-    match answer {
-        Us::At(time) => {
-            *us = time;
-            *index = 0;
-            0
-        }
-        Us::Refused(number, i) => {
-            *index = i as u64;
-            number
-        }
-    }
-}
+ghost use Rattle.told.specs.Told.{usTold};
 
 // Whether bytes are a creation time by the UTC rule: 20 bytes, YYYY-MM-DDTHH:MM:SSZ.
 // Lent: the bytes. Writes nothing, refuses nothing.
@@ -37,5 +19,5 @@ pub extern "C" fn st_is_utc_second(bytes: &[u8]) -> bool
 pub extern "C" fn st_ticks_to_us(ticks: i64, scale: u64, us: &mut i64, index: &mut u64) -> u64
     ensures { λ r. ⌜ (r, now (us .exit), now (index .exit)) ≡ usTold (ticksToUs ticks scale) (now (us .entry)) ⌝ }
 {
-    tell_us(ticks::ticks_to_us(ticks, scale), us, index)
+    told::tell_us(ticks::ticks_to_us(ticks, scale), us, index)
 }

@@ -1,53 +1,7 @@
 // Maps: cut, join, merge, and the origin of a frame.
-use maps::Mapped;
-use maps::Traced;
 ghost use mathlib.Core.Path.{_≡_};
-ghost use Rattle.segment_table.specs.Told.{mappedTold, tracedTold};
+ghost use Rattle.told.specs.Told.{tracedTold};
 ghost use Rattle.segment_table.specs.Written.{CutTold, JoinTold, MergeTold, originOf};
-
-// Tells how many rows were written.
-fn tell_mapped(answer: Mapped, rows: &mut u64, index: &mut u64) -> u64
-    ensures { λ r. ⌜ (r, now (rows .exit), now (index .exit)) ≡ mappedTold answer (now (rows .entry)) ⌝ }
-{
-    match answer {
-        Mapped::Rows(n) => {
-            *rows = n as u64;
-            *index = 0;
-            0
-        }
-        Mapped::Refused(number, i) => {
-            *index = i as u64;
-            number
-        }
-    }
-}
-
-// Tells where a frame comes from.
-fn tell_traced(
-    answer: Traced,
-    source: &mut u64,
-    source_frame: &mut u64,
-    flag: &mut u64,
-    shift: &mut i64,
-    index: &mut u64,
-) -> u64
-    ensures { λ r. ⌜ (r, now (source .exit), now («source_frame» .exit), now (flag .exit), now (shift .exit), now (index .exit)) ≡ tracedTold answer (now (source .entry)) (now («source_frame» .entry)) (now (flag .entry)) (now (shift .entry)) ⌝ }
-{
-    match answer {
-        Traced::From(s, f, g, z) => {
-            *source = s;
-            *source_frame = f;
-            *flag = g;
-            *shift = z;
-            *index = 0;
-            0
-        }
-        Traced::Refused(number, i) => {
-            *index = i as u64;
-            number
-        }
-    }
-}
 
 // The frames a..b of a map as a map: each row's overlap, counted from a.
 // Lent: a map, and room for the rows. Writes the rows, rows (how many), index. Refuses: 51, 52, 50, 52.
@@ -65,7 +19,7 @@ pub extern "C" fn st_cut(
     ensures { λ r. ⌜ CutTold (now (words .entry)) (now (shifts .entry)) a b (now («out_words» .entry)) (now («out_shifts» .entry)) (now (rows .entry)) r (now («out_words» .exit)) (now («out_shifts» .exit)) (now (rows .exit)) (now (index .exit)) ⌝ }
 {
     let mapped = maps::cut(words, shifts, a, b, out_words, out_shifts);
-    tell_mapped(mapped, rows, index)
+    told::tell_mapped(mapped, rows, index)
 }
 
 // Two maps as one, the second after the first.
@@ -92,7 +46,7 @@ pub extern "C" fn st_join(
         out_words,
         out_shifts,
     );
-    tell_mapped(mapped, rows, index)
+    told::tell_mapped(mapped, rows, index)
 }
 
 // A map with one row of neighbours that continue: the same source, frames that run on, flag and shift equal.
@@ -109,7 +63,7 @@ pub extern "C" fn st_merge(
     ensures { λ r. ⌜ MergeTold (now (words .entry)) (now (shifts .entry)) (now («out_words» .entry)) (now («out_shifts» .entry)) (now (rows .entry)) r (now («out_words» .exit)) (now («out_shifts» .exit)) (now (rows .exit)) (now (index .exit)) ⌝ }
 {
     let mapped = maps::merge(words, shifts, out_words, out_shifts);
-    tell_mapped(mapped, rows, index)
+    told::tell_mapped(mapped, rows, index)
 }
 
 // Where a frame comes from: its source, its frame there, the shift's flag (1 present, 0 absent) and the shift.
@@ -128,5 +82,5 @@ pub extern "C" fn st_origin(
     ensures { λ r. ⌜ (r, now (source .exit), now («source_frame» .exit), now (flag .exit), now (shift .exit), now (index .exit)) ≡ tracedTold (originOf (now (words .entry)) (now (shifts .entry)) frame) (now (source .entry)) (now («source_frame» .entry)) (now (flag .entry)) (now (shift .entry)) ⌝ }
 {
     let traced = maps::origin(words, shifts, frame);
-    tell_traced(traced, source, source_frame, flag, shift, index)
+    told::tell_traced(traced, source, source_frame, flag, shift, index)
 }

@@ -1,29 +1,11 @@
 // Judging: a table against the video of its file, and against a MotionCam recording.
-use crate::tables::tell_checked;
 use judge::Video;
-use rules::Checked;
 ghost use mathlib.Core.Path.{_≡_};
 ghost use Rattle.table.specs.Layout.{tableOf};
 ghost use Rattle.judge.specs.Video.{nothing, constant, timed};
 ghost use Rattle.judge.specs.Judge.{validateOf};
-ghost use Rattle.segment_table.specs.Told.{checkedTold, refusalTold};
+ghost use Rattle.told.specs.Told.{checkedTold, refusalTold};
 ghost use Rattle.segment_table.specs.Written.{JudgedTold};
-
-// Tells a refusal alone.
-fn tell_refusal(answer: Checked, index: &mut u64) -> u64
-    ensures { λ r. ⌜ (r, now (index .exit)) ≡ refusalTold answer ⌝ }
-{
-    match answer {
-        Checked::Frames(_) => {
-            *index = 0;
-            0
-        }
-        Checked::Refused(number, i) => {
-            *index = i as u64;
-            number
-        }
-    }
-}
 
 // Judges a table where its file has no video: it is always refused.
 // Lent: a table. Writes index. Refuses: 1 to 17, 21.
@@ -47,7 +29,7 @@ pub extern "C" fn st_validate_no_video(
         Video::Nothing,
         &times[..0],
     );
-    tell_refusal(judged, index)
+    told::tell_refusal(judged, index)
 }
 
 // Judges a table by a video of video_frames frames at num / den a second: its frame total.
@@ -73,7 +55,7 @@ pub extern "C" fn st_validate_constant(
         den,
     };
     let judged = judge::validate(sources, segments, times, log, text, video, &times[..0]);
-    tell_checked(judged, frames, index)
+    told::tell_checked(judged, frames, index)
 }
 
 // Judges a table by a video's frame times, in ticks of scale a second: its frame total. The last frame ends at end.
@@ -100,7 +82,7 @@ pub extern "C" fn st_validate_times(
         nominal,
     };
     let judged = judge::validate(sources, segments, times, log, text, video, starts);
-    tell_checked(judged, frames, index)
+    told::tell_checked(judged, frames, index)
 }
 
 // Judges a table by the timestamps of a MotionCam recording's frames, in nanoseconds: its frame total. One timestamp is
@@ -132,5 +114,5 @@ pub extern "C" fn st_check_mcraw(
         work_a,
         work_b,
     );
-    tell_checked(judged, frames, index)
+    told::tell_checked(judged, frames, index)
 }

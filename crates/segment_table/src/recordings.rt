@@ -1,41 +1,6 @@
 // Frame times: of a movie's video track, and of a MotionCam recording's timestamps.
-use frame_times::FrameTimes;
-use mcraw::RecordingTimes;
 ghost use mathlib.Core.Path.{_≡_};
-ghost use Rattle.segment_table.specs.Told.{moovTold, timesTold};
 ghost use Rattle.segment_table.specs.Written.{McrawTold, MoovTold};
-
-// Tells frame count, scale, nominal and end.
-fn tell_times(
-    answer: RecordingTimes,
-    frames: &mut u64,
-    scale: &mut u64,
-    nominal: &mut i64,
-    end: &mut i64,
-    index: &mut u64,
-) -> u64
-    ensures { λ r. ⌜ (r, now (frames .exit), now (scale .exit), now (nominal .exit), now (end .exit), now (index .exit)) ≡ timesTold answer (now (frames .entry)) (now (scale .entry)) (now (nominal .entry)) (now (end .entry)) ⌝ }
-{
-    match answer {
-        RecordingTimes::Timed {
-            frames: f,
-            scale: s,
-            nominal: m,
-            end: e,
-        } => {
-            *frames = f as u64;
-            *scale = s;
-            *nominal = m;
-            *end = e;
-            *index = 0;
-            0
-        }
-        RecordingTimes::Refused(number, i) => {
-            *index = i as u64;
-            number
-        }
-    }
-}
 
 // The frame times of a MotionCam recording, of its frames' timestamps in nanoseconds: how many, their scale
 // (1,000,000,000), the nominal interval and the end; the starts count from the first timestamp.
@@ -55,39 +20,7 @@ pub extern "C" fn st_mcraw_times(
     ensures { λ r. ⌜ McrawTold (now (timestamps .entry)) (now (starts .entry)) (now (work .entry)) (now (frames .entry)) (now (scale .entry)) (now (nominal .entry)) (now (end .entry)) r (now (starts .exit)) (now (work .exit)) (now (frames .exit)) (now (scale .exit)) (now (nominal .exit)) (now (end .exit)) (now (index .exit)) ⌝ }
 {
     let times = mcraw::mcraw_times(timestamps, starts, work);
-    tell_times(times, frames, scale, nominal, end, index)
-}
-
-// Tells the same of a moov.
-fn tell_moov(
-    answer: FrameTimes,
-    frames: &mut u64,
-    scale: &mut u64,
-    nominal: &mut i64,
-    end: &mut i64,
-    index: &mut u64,
-) -> u64
-    ensures { λ r. ⌜ (r, now (frames .exit), now (scale .exit), now (nominal .exit), now (end .exit), now (index .exit)) ≡ moovTold answer (now (frames .entry)) (now (scale .entry)) (now (nominal .entry)) (now (end .entry)) ⌝ }
-{
-    match answer {
-        FrameTimes::Presented {
-            frames: f,
-            timescale: s,
-            nominal: m,
-            end: e,
-        } => {
-            *frames = f as u64;
-            *scale = s;
-            *nominal = m;
-            *end = e;
-            *index = 0;
-            0
-        }
-        FrameTimes::Refused { number, index: i } => {
-            *index = i;
-            number
-        }
-    }
+    told::tell_times(times, frames, scale, nominal, end, index)
 }
 
 // The frame times of a moov's first video track: how many, their timescale, the nominal interval and the end; the starts
@@ -110,5 +43,5 @@ pub extern "C" fn st_video_frame_times_of_moov(
     ensures { λ r. ⌜ MoovTold (now (moov .entry)) (now (starts .entry)) (now («work_a» .entry)) (now («work_b» .entry)) (now (frames .entry)) (now (scale .entry)) (now (nominal .entry)) (now (end .entry)) r (now (starts .exit)) (now («work_a» .exit)) (now («work_b» .exit)) (now (frames .exit)) (now (scale .exit)) (now (nominal .exit)) (now (end .exit)) (now (index .exit)) ⌝ }
 {
     let times = frame_times::video_frame_times_of_moov(moov, starts, work_a, work_b);
-    tell_moov(times, frames, scale, nominal, end, index)
+    told::tell_moov(times, frames, scale, nominal, end, index)
 }

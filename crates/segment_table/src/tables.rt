@@ -1,100 +1,10 @@
 // Tables: the check, both lookups and those of a list of frames, whether a segment continues the one before, the rows of its map.
-use lookups::Lookups;
-use rules::Checked;
-use rules::Continued;
-use rules::Lookup;
-use table::Filled;
 ghost use mathlib.Core.Path.{_≡_};
 ghost use Rattle.rules.specs.Rules.{checkOf};
 ghost use Rattle.rules.specs.Lookups.{segmentOfFrame, segmentOfTime, continuesAt};
 ghost use Rattle.table.specs.Layout.{tableOf};
-ghost use Rattle.segment_table.specs.Told.{checkedTold, lookupTold, lookupsTold, continuedTold, filledTold};
+ghost use Rattle.told.specs.Told.{checkedTold, lookupTold, continuedTold};
 ghost use Rattle.segment_table.specs.Written.{RowedTold, IndexedTold};
-
-// Tells a frame total.
-pub(crate) fn tell_checked(answer: Checked, frames: &mut u64, index: &mut u64) -> u64
-    ensures { λ r. ⌜ (r, now (frames .exit), now (index .exit)) ≡ checkedTold answer (now (frames .entry)) ⌝ }
-{
-    match answer {
-        Checked::Frames(n) => {
-            *frames = n;
-            *index = 0;
-            0
-        }
-        Checked::Refused(number, i) => {
-            *index = i as u64;
-            number
-        }
-    }
-}
-
-// Tells a segment.
-pub(crate) fn tell_lookup(answer: Lookup, segment: &mut u64, index: &mut u64) -> u64
-    ensures { λ r. ⌜ (r, now (segment .exit), now (index .exit)) ≡ lookupTold answer (now (segment .entry)) ⌝ }
-{
-    match answer {
-        Lookup::Index(k) => {
-            *segment = k as u64;
-            *index = 0;
-            0
-        }
-        Lookup::NoIndex(number, i) => {
-            *index = i as u64;
-            number
-        }
-    }
-}
-
-// Tells how many indices were written.
-fn tell_lookups(answer: Lookups, written: &mut u64, index: &mut u64) -> u64
-    ensures { λ r. ⌜ (r, now (written .exit), now (index .exit)) ≡ lookupsTold answer (now (written .entry)) ⌝ }
-{
-    match answer {
-        Lookups::Indices(n) => {
-            *written = n as u64;
-            *index = 0;
-            0
-        }
-        Lookups::NoIndices(number, i) => {
-            *index = i as u64;
-            number
-        }
-    }
-}
-
-// Tells whether a segment continues the one before.
-fn tell_continued(answer: Continued, yes: &mut u64, index: &mut u64) -> u64
-    ensures { λ r. ⌜ (r, now (yes .exit), now (index .exit)) ≡ continuedTold answer (now (yes .entry)) ⌝ }
-{
-    match answer {
-        Continued::Answer(b) => {
-            *yes = b as u64;
-            *index = 0;
-            0
-        }
-        Continued::NoAnswer(number, i) => {
-            *index = i as u64;
-            number
-        }
-    }
-}
-
-// Tells how many rows were written.
-fn tell_filled(answer: Filled, rows: &mut u64, index: &mut u64) -> u64
-    ensures { λ r. ⌜ (r, now (rows .exit), now (index .exit)) ≡ filledTold answer (now (rows .entry)) ⌝ }
-{
-    match answer {
-        Filled::Rows(n) => {
-            *rows = n as u64;
-            *index = 0;
-            0
-        }
-        Filled::NoRows(number, i) => {
-            *index = i as u64;
-            number
-        }
-    }
-}
 
 // Checks a table: its frame total.
 // Lent: a table. Writes frames, index. Refuses: 1 to 17.
@@ -110,7 +20,7 @@ pub extern "C" fn st_check(
 ) -> u64
     ensures { λ r. ⌜ (r, now (frames .exit), now (index .exit)) ≡ checkedTold (checkOf (tableOf (now (sources .entry)) (now (segments .entry)) (now (times .entry)) log (now (text .entry)))) (now (frames .entry)) ⌝ }
 {
-    tell_checked(
+    told::tell_checked(
         table::check(sources, segments, times, log, text),
         frames,
         index,
@@ -133,7 +43,7 @@ pub extern "C" fn st_segment_of_frame(
     ensures { λ r. ⌜ (r, now (segment .exit), now (index .exit)) ≡ lookupTold (segmentOfFrame (tableOf (now (sources .entry)) (now (segments .entry)) (now (times .entry)) log (now (text .entry))) frame) (now (segment .entry)) ⌝ }
 {
     let found = table::segment_of_frame(sources, segments, times, log, text, frame);
-    tell_lookup(found, segment, index)
+    told::tell_lookup(found, segment, index)
 }
 
 // The segment of each frame of a list, which need not be in order: what st_segment_of_frame answers of each. The table is
@@ -162,7 +72,7 @@ pub extern "C" fn st_segments_of_frames(
         frames,
         out_segments,
     );
-    tell_lookups(found, written, index)
+    told::tell_lookups(found, written, index)
 }
 
 // The segment of a time in microseconds: the number of segments that end at or before it, at most the last index.
@@ -181,7 +91,7 @@ pub extern "C" fn st_segment_of_time_us(
     ensures { λ r. ⌜ (r, now (segment .exit), now (index .exit)) ≡ lookupTold (segmentOfTime (tableOf (now (sources .entry)) (now (segments .entry)) (now (times .entry)) log (now (text .entry))) time) (now (segment .entry)) ⌝ }
 {
     let found = table::segment_of_time_us(sources, segments, times, log, text, time);
-    tell_lookup(found, segment, index)
+    told::tell_lookup(found, segment, index)
 }
 
 // Whether a segment continues the one before it: the same source, source frames that run on, equal shift. Answers 1 or
@@ -201,7 +111,7 @@ pub extern "C" fn st_continues(
     ensures { λ r. ⌜ (r, now (answer .exit), now (index .exit)) ≡ continuedTold (continuesAt (tableOf (now (sources .entry)) (now (segments .entry)) (now (times .entry)) log (now (text .entry))) segment) (now (answer .entry)) ⌝ }
 {
     let continued = table::continues(sources, segments, times, log, text, segment as usize);
-    tell_continued(continued, answer, index)
+    told::tell_continued(continued, answer, index)
 }
 
 // The map of an accepted table: one row a segment, an absent shift as 0.
@@ -221,5 +131,5 @@ pub extern "C" fn st_rows_of_table(
     ensures { λ r. ⌜ RowedTold (tableOf (now (sources .entry)) (now (segments .entry)) (now (times .entry)) log (now (text .entry))) (now («out_words» .entry)) (now («out_shifts» .entry)) (now (rows .entry)) r (now («out_words» .exit)) (now («out_shifts» .exit)) (now (rows .exit)) (now (index .exit)) ⌝ }
 {
     let filled = table::rows_of_table(sources, segments, times, log, text, out_words, out_shifts);
-    tell_filled(filled, rows, index)
+    told::tell_filled(filled, rows, index)
 }

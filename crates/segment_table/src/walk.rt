@@ -1,79 +1,8 @@
 // Boxes: sizes, the walk, the child of a type, the search in a range, the table's text.
-use boxes::Place;
-use boxes::Reached;
-use boxes::Sized;
 ghost use mathlib.Core.Path.{_≡_};
 ghost use Rattle.boxes.specs.Boxes.{boxSize, childrenAt};
 ghost use Rattle.boxes.specs.Places.{childPlace, findBoxPlace, tableTextPlace};
-ghost use Rattle.segment_table.specs.Told.{sizeTold, reachedTold, placeTold};
-
-// Tells a box's size and its header's.
-fn tell_size(answer: Sized, size: &mut u64, header: &mut u64, index: &mut u64) -> u64
-    ensures { λ r. ⌜ (r, now (size .exit), now (header .exit), now (index .exit)) ≡ sizeTold answer (now (size .entry)) (now (header .entry)) ⌝ }
-{
-    match answer {
-        Sized::Box { size: s, header: h } => {
-            *size = s;
-            *header = h;
-            *index = 0;
-            0
-        }
-        Sized::Refused(number, i) => {
-            *index = i as u64;
-            number
-        }
-    }
-}
-
-// Tells a box's type, where its payload lies, and where the next box is.
-fn tell_reached(
-    answer: Reached,
-    kind: &mut u32,
-    start: &mut u64,
-    length: &mut u64,
-    next: &mut u64,
-    index: &mut u64,
-) -> u64
-    ensures { λ r. ⌜ (r, now (kind .exit), now (start .exit), now (length .exit), now (next .exit), now (index .exit)) ≡ reachedTold answer (now (kind .entry)) (now (start .entry)) (now (length .entry)) (now (next .entry)) ⌝ }
-{
-    match answer {
-        Reached::Box {
-            kind: k,
-            start: s,
-            len: l,
-            next: n,
-        } => {
-            *kind = k;
-            *start = s as u64;
-            *length = l as u64;
-            *next = n as u64;
-            *index = 0;
-            0
-        }
-        Reached::Refused(number, i) => {
-            *index = i as u64;
-            number
-        }
-    }
-}
-
-// Tells where a part of the caller's bytes lies.
-fn tell_place(answer: Place, start: &mut u64, length: &mut u64, index: &mut u64) -> u64
-    ensures { λ r. ⌜ (r, now (start .exit), now (length .exit), now (index .exit)) ≡ placeTold answer (now (start .entry)) (now (length .entry)) ⌝ }
-{
-    match answer {
-        Place::At { start: s, len: l } => {
-            *start = s as u64;
-            *length = l as u64;
-            *index = 0;
-            0
-        }
-        Place::Refused(number, i) => {
-            *index = i as u64;
-            number
-        }
-    }
-}
+ghost use Rattle.told.specs.Told.{sizeTold, reachedTold, placeTold};
 
 // The size of the box at the start of data, and of its header, where `remaining` bytes are left of what it is in.
 // Lent: the bytes at hand. Writes size, header, index. Refuses: 30, 31.
@@ -87,7 +16,7 @@ pub extern "C" fn st_box_size(
 ) -> u64
     ensures { λ r. ⌜ (r, now (size .exit), now (header .exit), now (index .exit)) ≡ sizeTold (boxSize (now («data» .entry)) remaining) (now (size .entry)) (now (header .entry)) ⌝ }
 {
-    tell_size(boxes::box_size(data, remaining), size, header, index)
+    told::tell_size(boxes::box_size(data, remaining), size, header, index)
 }
 
 // The box at offset `at` of payload: its type (`kind`, its four bytes, big-endian), where its payload lies, and where the
@@ -107,7 +36,7 @@ pub extern "C" fn st_children(
     ensures { λ r. ⌜ (r, now (kind .exit), now (start .exit), now (length .exit), now (next .exit), now (index .exit)) ≡ reachedTold (childrenAt (now (payload .entry)) at) (now (kind .entry)) (now (start .entry)) (now (length .entry)) (now (next .entry)) ⌝ }
 {
     let reached = boxes::children(payload, at as usize);
-    tell_reached(reached, kind, start, length, next, index)
+    told::tell_reached(reached, kind, start, length, next, index)
 }
 
 // Where the payload of the first child of a type lies in payload; `kind` is the type's four bytes, big-endian.
@@ -122,7 +51,7 @@ pub extern "C" fn st_child(
 ) -> u64
     ensures { λ r. ⌜ (r, now (start .exit), now (length .exit), now (index .exit)) ≡ placeTold (childPlace (now (payload .entry)) kind) (now (start .entry)) (now (length .entry)) ⌝ }
 {
-    tell_place(boxes::child_place(payload, kind), start, length, index)
+    told::tell_place(boxes::child_place(payload, kind), start, length, index)
 }
 
 // Where the payload of the first box of a type among those of from..to lies in bytes. With text_types the search ends
@@ -142,7 +71,7 @@ pub extern "C" fn st_find_box(
     ensures { λ r. ⌜ (r, now (start .exit), now (length .exit), now (index .exit)) ≡ placeTold (findBoxPlace (now (bytes .entry)) from to kind «text_types») (now (start .entry)) (now (length .entry)) ⌝ }
 {
     let place = boxes::find_box_place(bytes, from as usize, to as usize, kind, text_types);
-    tell_place(place, start, length, index)
+    told::tell_place(place, start, length, index)
 }
 
 // Where a file's segment table has its text: the payload of the only moov/udta/MTRM box.
@@ -156,5 +85,5 @@ pub extern "C" fn st_table_text(
 ) -> u64
     ensures { λ r. ⌜ (r, now (start .exit), now (length .exit), now (index .exit)) ≡ placeTold (tableTextPlace (now (file .entry))) (now (start .entry)) (now (length .entry)) ⌝ }
 {
-    tell_place(boxes::table_text_place(file), start, length, index)
+    told::tell_place(boxes::table_text_place(file), start, length, index)
 }

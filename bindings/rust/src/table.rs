@@ -199,6 +199,35 @@ impl Table {
         segment as usize
     }
 
+    /// The index of the segment that has each frame of a list, which need not be in order: what [`Table::segment_of_frame`]
+    /// answers of each. The table is checked once.
+    ///
+    /// ```
+    /// # use segment_table::{Segment, Source, Table};
+    /// # let source = Source { frames: 100, fps: (25, 1), creation_time: None, clock: None };
+    /// # let first = Segment { src_first_frame: 10, frame_count: 30, ..Segment::default() };
+    /// # let second = Segment { src_first_frame: 5, frame_count: 20, out_first_frame: 30, ..Segment::default() };
+    /// # let table = Table::new(&[source], &[first, second], false)?;
+    /// // what a preview pane shows of two segments that join at frame 30
+    /// let visible = [28, 29, 30, 31];
+    /// assert_eq!(table.segments_of_frames(&visible), [0, 0, 1, 1]);
+    /// assert_eq!(table.segments_of_frames(&visible), visible.map(|frame| table.segment_of_frame(frame)));
+    /// # Ok::<(), segment_table::Refusal>(())
+    /// ```
+    #[must_use]
+    pub fn segments_of_frames(&self, frames: &[u64]) -> Vec<usize> {
+        let mut segments: Vec<u64> = vec![0; frames.len()];
+        let (mut written, mut index) = (0, 0);
+        let number = unsafe {
+            lent!(
+                st_segments_of_frames, self, frames.as_ptr(), frames.len(), segments.as_mut_ptr(), segments.len(),
+                &mut written, &mut index
+            )
+        };
+        debug_assert_eq!((number, written), (0, frames.len() as u64));
+        segments.into_iter().map(|segment| segment as usize).collect()
+    }
+
     /// The index of the segment that presents a time: before the first one the first, past the last one the last.
     #[must_use]
     pub fn segment_of_time_us(&self, time: i64) -> usize {

@@ -33,6 +33,7 @@ fn lookups() {
     let table = table();
     assert_eq!(table.frames(), 50);
     assert_eq!([29, 30, 50, u64::MAX].map(|f| table.segment_of_frame(f)), [0, 1, 1, 1]);
+    assert_eq!(table.segments_of_frames(&[u64::MAX, 30, 29, 50, 29]), [1, 1, 0, 1, 0]);
     assert_eq!([-5, 1_200_000, i64::MIN, i64::MAX].map(|t| table.segment_of_time_us(t)), [0, 1, 0, 1]);
     assert_eq!([0, 1, 2, usize::MAX].map(|r| table.continues(r)), [false; 4]);
 }

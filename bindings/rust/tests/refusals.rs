@@ -190,6 +190,37 @@ fn room() {
     assert_eq!((number, rows, index), (32, 7, 0));
 }
 
+/// The lookups of a list, in a table of two segments of ten frames, the second from this frame on: the number, and the
+/// words `written` and `index`, lent as 7.
+fn listed(second: u64, frames: &[u64], room: &mut [u64]) -> (u64, u64, u64) {
+    let (mut written, mut index) = (7, 7);
+    let (sources, segments, times) = ([100, 25, 1, 0, 0, 0, 0, 0, 0, 0], [0, 0, 10, 0, 0, 0, 0, 10, second, 0], [0; 14]);
+    let number = unsafe {
+        ffi::st_segments_of_frames(
+            sources.as_ptr(), 10, segments.as_ptr(), 10, times.as_ptr(), 14, false, std::ptr::null(), 0,
+            frames.as_ptr(), frames.len(), room.as_mut_ptr(), room.len(), &mut written, &mut index,
+        )
+    };
+    (number, written, index)
+}
+
+#[test]
+fn room_for_a_list() {
+    let mut room = [7; 4];
+    assert_eq!(listed(10, &[9, 10, 0], &mut room[..2]), (32, 7, 0));
+    assert_eq!(listed(10, &[9], &mut []), (32, 7, 0));
+    // the table is tested first
+    assert_eq!(listed(11, &[], &mut room), (15, 7, 1));
+    assert_eq!(listed(11, &[9, 10, 0], &mut room[..2]), (15, 7, 1));
+    assert_eq!(listed(11, &[9, 10, 0], &mut room), (15, 7, 1));
+    assert_eq!(listed(10, &[], &mut room), (0, 0, 0));
+    assert_eq!(room, [7; 4]);
+    assert_eq!(listed(10, &[10, 9], &mut room[..2]), (0, 2, 0));
+    assert_eq!(room, [1, 0, 7, 7]);
+    assert_eq!(listed(10, &[9, 10, 0], &mut room), (0, 3, 0));
+    assert_eq!(room, [0, 1, 0, 7]);
+}
+
 #[test]
 fn maps() {
     let row = |source_first, count, out_first| Row { source: 0, source_first, count, out_first, shift: None };

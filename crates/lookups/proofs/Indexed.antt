@@ -38,7 +38,7 @@ map-at f [] k h = absurd (not-suc-le-zero h)
 map-at f (x ∷ l) zero h = refl
 map-at f (x ∷ l) (suc k) h = map-at f l k (le-of-suc-le-suc h)
 
--- ---- the answer, of any table
+-- ---- the refusal
 module _ (t : Table) (frames out : List ℕ) where
   refused-first : {n i : ℕ} → checkOf t ≡ Refused n i → indicesRefusal t (length frames) (length out) ≡ At n i
   unfolding indicesRefusal
@@ -48,19 +48,39 @@ module _ (t : Table) (frames out : List ℕ) where
   unfolding indicesRefusal
   then-room e h = then-rest _ _ e ∙ rw h
 
+-- ---- the call, of a table that is lent
+module _ (s u : List ℕ) (t : List ℤ) (log : Bool) (text frames out : List ℕ) where
+  pub list-refused : {n i : ℕ} → checkOf (tableOf s u t log text) ≡ Refused n i → Indexing (tableOf s u t log text) frames out (NoIndices n i) out
+  unfolding indexed
+  list-refused e = let q = refused-first (tableOf s u t log text) frames out e in record { answer = rw q; indices = rw q }
+
+  module _ {N : ℕ} (e : checkOf (tableOf s u t log text) ≡ Frames N) where
+    pub list-short : length out < length frames → Indexing (tableOf s u t log text) frames out (NoIndices noRoom 0) out
+    unfolding indexed when
+    list-short h = let q = then-room (tableOf s u t log text) frames out e (lt-ltb _ _ h) in record { answer = rw q; indices = rw q }
+
+    pub list-written : {out′ : List ℕ} → length frames ≤ length out → out′ ≡ laid (map (indexIn u) frames) out
+        → Indexing (tableOf s u t log text) frames out (Indices (length frames)) out′
+    unfolding indexed when indicesOf
+    list-written {out′} h w =
+        let q = then-room (tableOf s u t log text) frames out e (le-ltb _ _ h) in
+        record { answer = rw q; indices = rw q (w ∙ ap (λ (l : List ℕ). laid l out) (map-same _ _ (index-lent s u t log text) frames)) }
+
+-- ---- what the promise says, of any table
+module _ (t : Table) (frames out : List ℕ) where
   -- the one answer that a refusal leaves
   module _ {r : Lookups} {out′ : List ℕ} (p : Indexing t frames out r out′) where
     pub answer-refused : {n i : ℕ} → checkOf t ≡ Refused n i → r ≡ NoIndices n i
     unfolding indexed
-    answer-refused e = p .answer ∙ rw (refused-first e)
+    answer-refused e = p .answer ∙ rw (refused-first t frames out e)
 
     pub answer-short : {N : ℕ} → checkOf t ≡ Frames N → length out < length frames → r ≡ NoIndices noRoom 0
     unfolding indexed when
-    answer-short e h = p .answer ∙ rw (then-room e (lt-ltb _ _ h))
+    answer-short e h = p .answer ∙ rw (then-room t frames out e (lt-ltb _ _ h))
 
     pub answer-all : {N : ℕ} → checkOf t ≡ Frames N → length frames ≤ length out → r ≡ Indices (length frames)
     unfolding indexed when
-    answer-all e h = p .answer ∙ rw (then-room e (le-ltb _ _ h))
+    answer-all e h = p .answer ∙ rw (then-room t frames out e (le-ltb _ _ h))
 
   -- each index is the single lookup's
   module _ {n : ℕ} {out′ : List ℕ} (p : Indexing t frames out (Indices n) out′) (k : ℕ) (h : k < length frames) where
@@ -88,21 +108,3 @@ module _ (t : Table) (frames out : List ℕ) where
     pub each-index : Index (getD out′ k 0) ≡ segmentOfFrame t (getD frames k 0)
     unfolding segmentOfFrame checkOf checkedOf lookedUp
     each-index = rw accepted (ap Index written)
-
--- ---- the call, of a table that is lent
-module _ (s u : List ℕ) (t : List ℤ) (log : Bool) (text frames out : List ℕ) where
-  pub list-refused : {n i : ℕ} → checkOf (tableOf s u t log text) ≡ Refused n i → Indexing (tableOf s u t log text) frames out (NoIndices n i) out
-  unfolding indexed
-  list-refused e = let q = refused-first (tableOf s u t log text) frames out e in record { answer = rw q; indices = rw q }
-
-  module _ {N : ℕ} (e : checkOf (tableOf s u t log text) ≡ Frames N) where
-    pub list-short : length out < length frames → Indexing (tableOf s u t log text) frames out (NoIndices noRoom 0) out
-    unfolding indexed when
-    list-short h = let q = then-room (tableOf s u t log text) frames out e (lt-ltb _ _ h) in record { answer = rw q; indices = rw q }
-
-    pub list-written : {out′ : List ℕ} → length frames ≤ length out → out′ ≡ laid (map (indexIn u) frames) out
-        → Indexing (tableOf s u t log text) frames out (Indices (length frames)) out′
-    unfolding indexed when indicesOf
-    list-written h w =
-        let q = then-room (tableOf s u t log text) frames out e (le-ltb _ _ h) in
-        record { answer = rw q; indices = rw q (w ∙ ap (λ (l : List ℕ). laid l out) (map-same _ _ (index-lent s u t log text) frames)) }

@@ -1,6 +1,7 @@
 // The check of tables, their lookups and their rows on stored cases: stdin has the cases, stdout the answers (compare/README.md).
 mod found;
 mod listed;
+mod many;
 
 use cases::lent;
 use cases::lines;
@@ -162,6 +163,8 @@ fn answer_to(
         segment_of_frame(line, c, sources, u, t, log, text);
     } else if read::is(line, b"segment_of_frame_records") {
         listed::segment_of_frame_records(line, c, sources, u, t, log, text);
+    } else if read::is(line, b"segments_of_frames") {
+        many::segments_of_frames(line, c, sources, u, t, log, text);
     } else if read::is(line, b"segment_of_time_us") {
         segment_of_time_us(line, c, sources, u, t, log, text);
     } else if read::is(line, b"continues") {

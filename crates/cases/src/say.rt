@@ -43,7 +43,7 @@ pub fn long(z: i64) {
 }
 
 // The first n of a list of numbers.
-fn words(u: &[u64], n: usize) {
+pub fn words(u: &[u64], n: usize) {
     let mut i = 0;
     while i < u.len() {
         if i == n {

@@ -8,25 +8,13 @@ use lookups::Lookups;
 // The most elements of lent room.
 const ROOM: usize = 64;
 
-// The first n of the indices.
-fn say_indices(out: &[u64], n: usize) {
-    let mut i = 0;
-    while i < out.len() {
-        if i == n {
-            return;
-        }
-        say::value(out[i]);
-        i += 1;
-    }
-}
-
 // The line of indices that were written over lent room.
-fn say_all(answer: Lookups, out: &[u64]) {
+fn say_indices(answer: Lookups, out: &[u64]) {
     match answer {
         Lookups::Indices(n) => {
             say::accepted();
             say::value(n as u64);
-            say_indices(out, n);
+            say::words(out, n);
             say::end(lent::kept_words(out, n));
         }
         Lookups::NoIndices(number, index) => {
@@ -47,7 +35,7 @@ fn indices_over(
     out: &mut [u64],
 ) {
     let answer = lookups::segments_of_frames(sources, u, t, log, text, frames, out);
-    say_all(answer, out);
+    say_indices(answer, out);
 }
 
 // segments_of_frames TABLE FRAMES ROOM

@@ -7,7 +7,7 @@ use mathlib.Core.List.{List, []}
 use mathlib.Core.Logic.{_↔_, _⊎_}
 use mathlib.Core.Path.{_≡_}
 use lib.IntN.{ℤ, negℤ}
-use lib.ListN.{length, getD, take}
+use lib.ListN.{length, getD, take, drop}
 use denote.Ref.{RefT, now}
 use Rattle.slices.specs.Slices.{All}
 use Rattle.signed.specs.Rounded.{nearest, rounded}
@@ -264,6 +264,10 @@ pub record Meanings : Type 0 where
 -- list is empty, and room that is shorter than the list is refused after that. (Document 02, a.)
 pub record Listing : Type 0 where
   pub each : (l : Lent) (n k : ℕ) (fs out out′ : List ℕ) → SegmentsOfFrames l fs out (Indices n) out′ → k < length fs → SegmentOfFrame l (getD fs k 0) (Index (getD out′ k 0))
+  -- What lies past the list stays as lent, and on a refusal all.
+  pub past : (l : Lent) (n : ℕ) (fs out out′ : List ℕ) → SegmentsOfFrames l fs out (Indices n) out′ → drop (length fs) out′ ≡ drop (length fs) out
+  pub kept : (l : Lent) (n i : ℕ) (fs out out′ : List ℕ) → SegmentsOfFrames l fs out (NoIndices n i) out′ → out′ ≡ out
+  -- Which answer it is.
   pub all : (l : Lent) (N : ℕ) (fs out out′ : List ℕ) (r : Lookups) → Check l (Frames N) → length fs ≤ length out → SegmentsOfFrames l fs out r out′ → r ≡ Indices (length fs)
   pub refused : (l : Lent) (n i : ℕ) (fs out out′ : List ℕ) (r : Lookups) → Check l (Refused n i) → SegmentsOfFrames l fs out r out′ → r ≡ NoIndices n i
   pub short : (l : Lent) (N : ℕ) (fs out out′ : List ℕ) (r : Lookups) → Check l (Frames N) → length out < length fs → SegmentsOfFrames l fs out r out′ → r ≡ NoIndices 32 0

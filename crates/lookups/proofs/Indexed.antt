@@ -6,6 +6,7 @@ use mathlib.Core.Path.{_≡_, refl, sym, ap, _∙_}
 use mathlib.Core.Bool.{Bool}
 use mathlib.Core.List.{List, [], _∷_, map}
 use lib.ListN.{length, getD, drop, length-map, List·getD-append}
+use lib.Seq.{drop-at}
 use lib.Dec.{ltb}
 use lib.IntN.{ℤ}
 use borrow.Author.Tests.{lt-ltb, le-ltb}
@@ -82,8 +83,8 @@ module _ (t : Table) (frames out : List ℕ) where
     unfolding indexed when
     answer-all e h = p .answer ∙ rw (then-room t frames out e (le-ltb _ _ h))
 
-  -- each index is the single lookup's
-  module _ {n : ℕ} {out′ : List ℕ} (p : Indexing t frames out (Indices n) out′) (k : ℕ) (h : k < length frames) where
+  -- what was written
+  module _ {n : ℕ} {out′ : List ℕ} (p : Indexing t frames out (Indices n) out′) where
     none : indicesRefusal t (length frames) (length out) ≡ Never
     unfolding indexed
     none = free _ (p .answer)
@@ -92,19 +93,33 @@ module _ (t : Table) (frames out : List ℕ) where
         free Never e = refl
         free (At m i) e = let z : _≡_ {A = ℕ} 0 1 = cc in absurd (omega arith)
 
+    over : out′ ≡ laid (indicesOf t frames) out
+    over = p .indices ∙ ap (λ (x : Refusal). after x (indicesOf t frames) out) none
+
+    many : length (indicesOf t frames) ≡ length frames
+    unfolding indicesOf
+    many = length-map frames _
+
+    pub past-kept : drop (length frames) out′ ≡ drop (length frames) out
+    past-kept = ap (drop (length frames)) over ∙ drop-at (indicesOf t frames) _ (length frames) many ∙ ap (λ (k : ℕ). drop k out) many
+
     accepted : refusal t ≡ Never
     unfolding indicesRefusal
     accepted = or-never (refusal t) _ none .0
 
-    written : getD out′ k 0 ≡ ended (overBy (getD frames k 0)) (t .segments)
-    unfolding indicesOf
-    written =
+    -- each index is the single lookup's
+    pub each-index : (k : ℕ) → k < length frames → Index (getD out′ k 0) ≡ segmentOfFrame t (getD frames k 0)
+    unfolding segmentOfFrame checkOf checkedOf lookedUp indicesOf
+    each-index k h =
         let i = indicesOf t frames in
-        let n = length-map frames (λ frame. ended (overBy frame) (t .segments)) in
-        ap (λ (l : List ℕ). getD l k 0) (p .indices ∙ ap (λ (x : Refusal). after x i out) none)
-        ∙ List·getD-append i (drop (length i) out) 0 k (omega (arith, n))
-        ∙ map-at _ frames k h
+        rw accepted (ap Index
+        (ap (λ (l : List ℕ). getD l k 0) over ∙ List·getD-append i (drop (length i) out) 0 k (omega (arith, many)) ∙ map-at _ frames k h))
 
-    pub each-index : Index (getD out′ k 0) ≡ segmentOfFrame t (getD frames k 0)
-    unfolding segmentOfFrame checkOf checkedOf lookedUp
-    each-index = rw accepted (ap Index written)
+  -- a refusal leaves all as lent
+  pub all-kept : {n i : ℕ} {out′ : List ℕ} → Indexing t frames out (NoIndices n i) out′ → out′ ≡ out
+  unfolding indexed
+  all-kept {n} {i} p = p .indices ∙ so (indicesRefusal t (length frames) (length out)) (p .answer)
+    where
+      so : (x : Refusal) → NoIndices n i ≡ indexed x (length frames) → after x (indicesOf t frames) out ≡ out
+      so Never e = let z : _≡_ {A = ℕ} 0 1 = cc in absurd (omega arith)
+      so (At m j) e = refl

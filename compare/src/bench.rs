@@ -1,5 +1,7 @@
 //! How long each call takes beside the Rust, on the same input in one run.
 
+mod lookups;
+
 use std::hint::black_box;
 use released::segment_table::{ SegmentTable, TrimSegment, VideoFrameTimes, VideoFrames, reach };
 use crate::{ case::{ Call, Case, Lent, Map, Row, Table }, generate::{ boxes::{ Form, boxed }, moovs::{ Edits, Head, Moov } }, ours, plain, random::Random, reference, rust };
@@ -15,16 +17,18 @@ struct Line {
     input: String,
     /// The median of the library's runs, in microseconds
     library: f64,
+    /// The median of the runs' ratios, the library's time by the Rust's
+    ratio: f64,
     accepted: bool,
 }
 
-/// Measures all, and prints a table; whether every input is accepted, and the lookup over records is fast enough
+/// Measures all, and prints a table; whether every input is accepted, and the lookups over records and of lists are fast enough
 pub fn run(runs: usize) -> bool {
     println!("| call | input | the Rust, µs | library, µs | library / Rust |\n|---|---|---:|---:|---:|");
-    let inputs = small().into_iter().chain(tables()).chain(maps());
+    let inputs = small().into_iter().chain(tables()).chain(lookups::lists()).chain(maps());
     let lines: Vec<Line> = inputs.chain(moovs()).chain(recordings()).chain(slow()).map(|(input, case)| measured(input, &case, runs)).collect();
     for line in lines.iter().filter(|line| !line.accepted) { eprintln!("compare: {}, {}: not accepted", line.call.name(), line.input); }
-    let fast = !ours::LINKED || records(&lines);
+    let fast = !ours::LINKED || records(&lines) & lookups::fast(&lines, runs);
     fast && lines.iter().all(|line| line.accepted)
 }
 
@@ -55,10 +59,10 @@ fn measured(input: String, case: &Case, runs: usize) -> Line {
         ours.push(b);
         ratios.push(b / a);
     }
-    let (call, rust, library) = (case.call(), median(&mut theirs), median(&mut ours));
-    let said = if ours::LINKED { format!("{library:.3} | {:.2}", median(&mut ratios)) } else { " | ".into() };
+    let (call, rust, library, ratio) = (case.call(), median(&mut theirs), median(&mut ours), median(&mut ratios));
+    let said = if ours::LINKED { format!("{library:.3} | {ratio:.2}") } else { " | ".into() };
     println!("| `{}` | {input} | {rust:.3} | {said} |", call.name());
-    Line { call, input, library, accepted }
+    Line { call, input, library, ratio, accepted }
 }
 
 /// How many turns a measurement has
@@ -91,8 +95,8 @@ fn median(times: &mut [f64]) -> f64 {
 
 type Work<'a> = Box<dyn FnMut() -> u64 + 'a>;
 
-/// The Rust's work for a case. The library checks a table before it looks anything up, so the Rust is made to; maps, and the
-/// rows of a table, are plain Rust of our own
+/// The Rust's work for a case. The library checks a table before it looks anything up, so the Rust is made to, except for a list
+/// of frames; maps, and the rows of a table, are plain Rust of our own
 fn rust_side(case: &Case) -> Work<'_> {
     let parsed = |table: &Lent| SegmentTable::parse(rust::json(&table.table).unwrap().as_bytes()).unwrap();
     let checked = |table: &SegmentTable| assert!(reach::check(black_box(table)));
@@ -101,6 +105,7 @@ fn rust_side(case: &Case) -> Work<'_> {
         Case::TicksToUs { ticks, scale } => Box::new(|| reach::ticks_to_us(black_box(*ticks), black_box(*scale)).unwrap() as u64),
         Case::Check { table } => { let t = parsed(table); Box::new(move || { checked(&t); 0 }) }
         Case::SegmentOfFrame { table, frame } | Case::SegmentOfFrameRecords { table, frame } => { let t = parsed(table); Box::new(move || { checked(&t); t.segment_of_frame(*frame) as u64 }) }
+        Case::SegmentsOfFrames { table, frames, .. } => lookups::rust_side(parsed(table), frames),
         Case::SegmentOfTimeUs { table, time } => { let t = parsed(table); Box::new(move || { checked(&t); t.segment_of_time_us(*time) as u64 }) }
         Case::Continues { table, segment } => { let t = parsed(table); Box::new(move || { checked(&t); t.continues(*segment as usize) as u64 }) }
         Case::ValidateConstant { table, frames, num, den } => {
@@ -192,21 +197,24 @@ fn small() -> Inputs {
     ]
 }
 
-/// A table of `n` segments of 10 frames at 25/1, from three sources without clocks
-fn table(n: u64) -> Table {
+/// A table of `n` segments of `each` frames at 25/1, from three sources without clocks
+fn table(n: u64, each: u64) -> Table {
     let us = |frame: u64| (frame * 40_000) as i64;
     Table {
-        sources: [[n * 10, 25, 1, 0, 0, 0, 0, 0, 0, 0]; 3].concat(),
-        segments: (0..n).flat_map(|k| [k % 3, k, 10, k * 10, 0]).collect(),
-        times: (0..n).flat_map(|k| [us(k), us(k * 10), us(10), us(k), us(k * 10), us(10), 0]).collect(),
+        sources: [[n * each, 25, 1, 0, 0, 0, 0, 0, 0, 0]; 3].concat(),
+        segments: (0..n).flat_map(|k| [k % 3, k, each, k * each, 0]).collect(),
+        times: (0..n).flat_map(|k| [us(k), us(k * each), us(each), us(k), us(k * each), us(each), 0]).collect(),
         ..Table::default()
     }
 }
 
+/// So many segments, in words
+fn segments(n: u64) -> String { if n == 1 { "1 segment".into() } else { format!("{n} segments") } }
+
 fn tables() -> Inputs {
     let mut inputs = Inputs::new();
     for n in [1, 32, 512] {
-        let table = Lent::new(table(n));
+        let table = Lent::new(table(n, 10));
         let (frames, room) = (n * 10, [n as usize * 5, n as usize]);
         let starts: Vec<i64> = (0..frames as i64).map(|k| k * 3600).collect();
         let all = [
@@ -219,8 +227,7 @@ fn tables() -> Inputs {
             Case::ValidateConstant { table: table.clone(), frames, num: 25, den: 1 },
             Case::ValidateTimes { table, scale: 90000, starts, end: frames as i64 * 3600, nominal: 3600 },
         ];
-        let input = if n == 1 { "1 segment".into() } else { format!("{n} segments") };
-        inputs.extend(all.map(|case| (input.clone(), case)));
+        inputs.extend(all.map(|case| (segments(n), case)));
     }
     inputs
 }

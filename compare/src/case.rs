@@ -1,5 +1,5 @@
-//! A case is a call with its arguments; an answer is what document 01 says of it; an outcome is the answer together with
-//! every lent word and slice afterwards.
+//! A case is a call with its arguments; an answer is what document 01 says of it, or for a list of frames document 02; an
+//! outcome is the answer together with every lent word and slice afterwards.
 
 use std::{ cell::OnceCell, hash::{ DefaultHasher, Hash, Hasher }, rc::Rc };
 use oracle::segment_table::SegmentTable;
@@ -9,15 +9,16 @@ use oracle::segment_table::SegmentTable;
 pub enum Call {
     IsUtcSecond, TicksToUs, Check, SegmentOfFrame, SegmentOfFrameRecords, SegmentOfTimeUs, Continues, RowsOfTable,
     ValidateNoVideo, ValidateConstant, ValidateTimes, BoxSize, Child, FindBox, TableText, VideoFrameTimesOfMoov,
-    McrawTimes, CheckMcraw, Cut, Join, Merge, Origin, Children,
+    McrawTimes, CheckMcraw, Cut, Join, Merge, Origin, Children, SegmentsOfFrames,
 }
 
 impl Call {
-    pub const ALL: [Call; 23] = [
+    pub const ALL: [Call; 24] = [
         Call::IsUtcSecond, Call::TicksToUs, Call::Check, Call::SegmentOfFrame, Call::SegmentOfFrameRecords,
         Call::SegmentOfTimeUs, Call::Continues, Call::RowsOfTable, Call::ValidateNoVideo, Call::ValidateConstant,
         Call::ValidateTimes, Call::BoxSize, Call::Child, Call::FindBox, Call::TableText, Call::VideoFrameTimesOfMoov,
         Call::McrawTimes, Call::CheckMcraw, Call::Cut, Call::Join, Call::Merge, Call::Origin, Call::Children,
+        Call::SegmentsOfFrames,
     ];
 
     /// The name of the call, without the library's prefix
@@ -28,6 +29,7 @@ impl Call {
             Call::Check => "check",
             Call::SegmentOfFrame => "segment_of_frame",
             Call::SegmentOfFrameRecords => "segment_of_frame_records",
+            Call::SegmentsOfFrames => "segments_of_frames",
             Call::SegmentOfTimeUs => "segment_of_time_us",
             Call::Continues => "continues",
             Call::RowsOfTable => "rows_of_table",
@@ -140,6 +142,7 @@ pub enum Case {
     Check { table: Rc<Lent> },
     SegmentOfFrame { table: Rc<Lent>, frame: u64 },
     SegmentOfFrameRecords { table: Rc<Lent>, frame: u64 },
+    SegmentsOfFrames { table: Rc<Lent>, frames: Vec<u64>, room: usize },
     SegmentOfTimeUs { table: Rc<Lent>, time: i64 },
     Continues { table: Rc<Lent>, segment: u64 },
     RowsOfTable { table: Rc<Lent>, room: [usize; 2] },
@@ -168,6 +171,7 @@ pub enum Part<'a> {
     Room(&'a mut usize),
     Flag(&'a mut bool),
     Bytes(&'a mut Vec<u8>),
+    Words(&'a mut Vec<u64>),
     Longs(&'a mut Vec<i64>),
     Table(&'a mut Rc<Lent>),
     Map(&'a mut Map),
@@ -188,6 +192,7 @@ impl Case {
             Case::Check { .. } => Call::Check,
             Case::SegmentOfFrame { .. } => Call::SegmentOfFrame,
             Case::SegmentOfFrameRecords { .. } => Call::SegmentOfFrameRecords,
+            Case::SegmentsOfFrames { .. } => Call::SegmentsOfFrames,
             Case::SegmentOfTimeUs { .. } => Call::SegmentOfTimeUs,
             Case::Continues { .. } => Call::Continues,
             Case::RowsOfTable { .. } => Call::RowsOfTable,
@@ -218,6 +223,7 @@ impl Case {
             Call::Check => Case::Check { table },
             Call::SegmentOfFrame => Case::SegmentOfFrame { table, frame: 0 },
             Call::SegmentOfFrameRecords => Case::SegmentOfFrameRecords { table, frame: 0 },
+            Call::SegmentsOfFrames => Case::SegmentsOfFrames { table, frames: vec![], room: 0 },
             Call::SegmentOfTimeUs => Case::SegmentOfTimeUs { table, time: 0 },
             Call::Continues => Case::Continues { table, segment: 0 },
             Call::RowsOfTable => Case::RowsOfTable { table, room: [0; 2] },
@@ -248,6 +254,7 @@ impl Case {
             Case::TicksToUs { ticks, scale } => { parts.extend([Long(ticks), Word(scale)]); &mut [] }
             Case::Check { table } | Case::ValidateNoVideo { table } => { parts.push(Table(table)); &mut [] }
             Case::SegmentOfFrame { table, frame } | Case::SegmentOfFrameRecords { table, frame } => { parts.extend([Table(table), Word(frame)]); &mut [] }
+            Case::SegmentsOfFrames { table, frames, room } => { parts.extend([Table(table), Words(frames)]); std::slice::from_mut(room) }
             Case::SegmentOfTimeUs { table, time } => { parts.extend([Table(table), Long(time)]); &mut [] }
             Case::Continues { table, segment } => { parts.extend([Table(table), Word(segment)]); &mut [] }
             Case::RowsOfTable { table, room } => { parts.push(Table(table)); room }
@@ -283,7 +290,7 @@ pub struct Answer {
     pub number: u64,
     pub index: u64,
     pub values: [i128; 4],
-    /// The words of the rows written
+    /// The words of the rows written, or the segments
     pub words: Vec<u64>,
     /// The starts, or the shifts of the rows written
     pub longs: Vec<i64>,
@@ -332,6 +339,10 @@ pub fn outcome(case: &Case, answer: &Answer) -> Outcome {
             after.longs[0] = lent_longs(room[1]);
             after.words[..answer.words.len()].copy_from_slice(&answer.words);
             after.longs[0][..answer.longs.len()].copy_from_slice(&answer.longs);
+        }
+        Case::SegmentsOfFrames { room, .. } => {
+            after.words = lent_words(*room);
+            after.words[..answer.words.len()].copy_from_slice(&answer.words);
         }
         Case::VideoFrameTimesOfMoov { room, .. } => starts_and_work(&mut after, answer, room),
         Case::McrawTimes { room, .. } => starts_and_work(&mut after, answer, room),

@@ -1,6 +1,6 @@
 //! The comparison of a case, and its count.
 
-use std::{ collections::BTreeMap, time::{ Duration, Instant } };
+use std::{ collections::BTreeMap, ops::RangeInclusive, time::{ Duration, Instant } };
 use crate::{ case::{ Answer, Call, Case, Outcome, outcome }, generate, ours, random::Random, reference::{ self, MOST_BYTES }, rust::{ self, Said }, shrink, text };
 
 /// How a case differs
@@ -22,12 +22,15 @@ type Child = (i128, i128, i128);
 /// Numbers outside the domain of demand 2, the room for an answer aside
 const OUTSIDE: [u64; 6] = [1, 2, 20, 30, 34, 42];
 
+/// Numbers of a table's own refusals, which come before the room
+const OF_TABLES: RangeInclusive<u64> = 1..=17;
+
 /// Compares one case; what is expected, or the difference
 pub fn compare(case: &Case) -> Result<Answer, Difference> {
     let reading = reference::answer(case);
     let rust = rust::says(case);
     let agrees = match &rust {
-        Said::Answer(answer) => *answer == reading || reading.number == 32,
+        Said::Answer(answer) => *answer == reading || reading.number == 32 && !OF_TABLES.contains(&answer.number),
         Said::Panicked => reading.number == 33 || reading.number == 32,
         Said::Outside => OUTSIDE.contains(&reading.number),
         Said::Silent => true,

@@ -1,5 +1,5 @@
-//! The numbers that document 01 works out, and those of docs/AUDIT.md and crates/audit/specs/Examples.antt, each with its
-//! answer in the form of `text`.
+//! The numbers that document 01 works out, those of docs/AUDIT.md and crates/audit/specs/Examples.antt, and lists of frames by
+//! request a of document 02, each with its answer in the form of `text`.
 
 use std::rc::Rc;
 use crate::{ case::{ Case, Lent, Map, Table }, comparison, generate::{ moovs, tables, videos }, text };
@@ -17,7 +17,7 @@ pub fn holds() -> bool {
 }
 
 /// All of them
-pub fn worked() -> Vec<Worked> { [numbers(), table(), maps(), times(), clip(), clip_maps(), exports()].concat() }
+pub fn worked() -> Vec<Worked> { [numbers(), table(), lists(), maps(), times(), clip(), clip_maps(), exports()].concat() }
 
 /// Ticks, ends that are near, and days
 fn numbers() -> Vec<Worked> {
@@ -66,6 +66,24 @@ fn table() -> Vec<Worked> {
 /// A frame's segment, looked up over words and over records
 fn looked_up(table: &Rc<Lent>, frame: u64, answer: &'static str) -> [Worked; 2] {
     [(Case::SegmentOfFrame { table: table.clone(), frame }, answer), (Case::SegmentOfFrameRecords { table: table.clone(), frame }, answer)]
+}
+
+/// Lists of frames of table T, in order and backwards, empty, and with room one short; and of T with a gap before its second segment
+fn lists() -> Vec<Worked> {
+    let frames = vec![0, 29, 30, 49, 50, u64::MAX];
+    let backwards = frames.iter().rev().copied().collect();
+    let (t, mut gap) = (Lent::new(tables::t()), tables::t());
+    gap.segments[8] = 31;
+    let gap = Lent::new(gap);
+    let of = |table: &Rc<Lent>, frames, room| Case::SegmentsOfFrames { table: table.clone(), frames, room };
+    vec![
+        (of(&t, frames.clone(), 6), "0 0 6 0 0 1 1 1 1"),
+        (of(&t, backwards, 6), "0 0 6 1 1 1 1 0 0"),
+        (of(&t, vec![], 0), "0 0 0"),
+        (of(&t, frames.clone(), 5), "32 0"),
+        (of(&gap, vec![], 0), "15 1"),
+        (of(&gap, frames, 5), "15 1"),
+    ]
 }
 
 /// A row as docs/AUDIT.md shows it: source, first frame there, frames, first frame of the map, shift

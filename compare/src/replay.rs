@@ -6,7 +6,7 @@ use crate::{ case::{ Call, Case, Part }, comparison, document, generate::{ self,
 /// The programs, and the calls that each of them is given
 const PROGRAMS: [(&str, &[Call]); 6] = [
     ("replay_numbers", &[Call::IsUtcSecond, Call::TicksToUs]),
-    ("replay_table", &[Call::Check, Call::SegmentOfFrame, Call::SegmentOfTimeUs, Call::Continues, Call::RowsOfTable, Call::SegmentOfFrameRecords]),
+    ("replay_table", &[Call::Check, Call::SegmentOfFrame, Call::SegmentOfTimeUs, Call::Continues, Call::RowsOfTable, Call::SegmentOfFrameRecords, Call::SegmentsOfFrames]),
     ("replay_judge", &[Call::ValidateNoVideo, Call::ValidateConstant, Call::ValidateTimes, Call::CheckMcraw]),
     ("replay_boxes", &[Call::BoxSize, Call::Child, Call::FindBox, Call::TableText, Call::Children]),
     ("replay_times", &[Call::VideoFrameTimesOfMoov, Call::McrawTimes]),
@@ -38,6 +38,7 @@ fn fits(case: &Case) -> bool {
     case.clone().parts().iter().all(|part| match part {
         Part::Room(room) => **room <= WORDS,
         Part::Bytes(bytes) => bytes.len() <= BYTES,
+        Part::Words(list) => list.len() <= WORDS,
         Part::Longs(longs) => longs.len() <= WORDS,
         Part::Map(map) => map.words.len() <= WORDS && map.shifts.len() <= WORDS,
         Part::Table(lent) => {

@@ -46,6 +46,7 @@ fn said(case: &Case) -> Said {
         },
         Case::Check { table } => of_table(table, |t| one(t.segments.last().unwrap().out_end_frame())),
         Case::SegmentOfFrame { table, frame } | Case::SegmentOfFrameRecords { table, frame } => of_table(table, |t| one(t.segment_of_frame(*frame) as u64)),
+        Case::SegmentsOfFrames { table, frames, .. } => of_table(table, |t| segments(t, frames)),
         Case::SegmentOfTimeUs { table, time } => of_table(table, |t| one(t.segment_of_time_us(*time) as u64)),
         Case::Continues { table, segment } => of_table(table, |t| one(t.continues(*segment as usize) as u64)),
         Case::RowsOfTable { table, .. } => of_table(table, |_| Said::Silent),
@@ -229,6 +230,12 @@ fn refusal(message: &str) -> Refusal {
 fn leading(text: &str) -> (u64, &str) {
     let digits = text.bytes().take_while(u8::is_ascii_digit).count();
     (text[..digits].parse().unwrap_or_else(|_| panic!("no number in {text}")), &text[digits..])
+}
+
+/// What its lookup says of each frame
+fn segments(table: &SegmentTable, frames: &[u64]) -> Said {
+    let words = frames.iter().map(|frame| table.segment_of_frame(*frame) as u64).collect();
+    Said::Answer(Answer { words, ..Answer::of(&[frames.len() as i128]) })
 }
 
 fn constant(table: &SegmentTable, frames: u64, rate: (u64, u64)) -> Said {

@@ -48,6 +48,7 @@ fn of_part(case: &Case, k: usize) -> Smaller<'_, Case> {
         Part::Flag(flag) => Box::new(flag.then(|| with(case, k, |p| if let Part::Flag(p) = p { *p = false })).into_iter()),
         Part::Kind(_) => Box::new(std::iter::empty()),
         Part::Bytes(bytes) => Box::new(byte_strings(bytes.clone()).map(move |v| with(case, k, |p| if let Part::Bytes(p) = p { *p = v }))),
+        Part::Words(list) => Box::new(lists(list.clone(), words).map(move |v| with(case, k, |p| if let Part::Words(p) = p { *p = v }))),
         Part::Longs(list) => Box::new(lists(list.clone(), longs).map(move |v| with(case, k, |p| if let Part::Longs(p) = p { *p = v }))),
         Part::Map(map) => Box::new(maps(map.clone()).map(move |v| with(case, k, |p| if let Part::Map(p) = p { *p = v }))),
         Part::Table(lent) => Box::new(tables(lent.table.clone()).map(move |v| with(case, k, |p| if let Part::Table(p) = p { *p = Lent::new(v) }))),

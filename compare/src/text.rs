@@ -13,6 +13,7 @@ pub fn case_line(case: &Case) -> String {
             Part::Room(room) => words.push(room.to_string()),
             Part::Flag(flag) => words.push((*flag as u8).to_string()),
             Part::Bytes(bytes) => push_bytes(&mut words, bytes),
+            Part::Words(list) => push_list(&mut words, list),
             Part::Longs(longs) => push_list(&mut words, longs),
             Part::Map(map) => { push_list(&mut words, &map.words); push_list(&mut words, &map.shifts); }
             Part::Table(lent) => push_table(&mut words, &lent.table),
@@ -63,6 +64,7 @@ pub fn read_case(line: &str) -> Option<Case> {
             Part::Room(room) => *room = words.next()?.parse().ok()?,
             Part::Flag(flag) => *flag = words.next()? == "1",
             Part::Bytes(bytes) => *bytes = read_bytes(&mut words)?,
+            Part::Words(list) => *list = read_list(&mut words)?,
             Part::Longs(longs) => *longs = read_list(&mut words)?,
             Part::Map(map) => *map = Map { words: read_list(&mut words)?, shifts: read_list(&mut words)? },
             Part::Table(lent) => *lent = Lent::new(read_table(&mut words)?),

@@ -3,6 +3,7 @@
 
 pub mod boxes;
 mod limit;
+mod lists;
 pub mod maps;
 pub mod moovs;
 pub mod numbers;
@@ -26,7 +27,7 @@ pub fn fixed(call: Call, emit: Emit) {
         Call::VideoFrameTimesOfMoov => moovs::fixed(emit),
         Call::McrawTimes => recordings::fixed(emit),
         Call::Check | Call::SegmentOfFrame | Call::SegmentOfFrameRecords | Call::SegmentOfTimeUs | Call::Continues
-            | Call::RowsOfTable | Call::ValidateNoVideo => tables::fixed(call, emit),
+            | Call::RowsOfTable | Call::ValidateNoVideo | Call::SegmentsOfFrames => tables::fixed(call, emit),
         Call::ValidateConstant => videos::near_in_the_document(emit),
         Call::Cut | Call::Join | Call::Merge | Call::Origin => maps::fixed(call, emit),
         Call::TableText | Call::ValidateTimes | Call::CheckMcraw => {}
@@ -50,7 +51,7 @@ pub fn random(call: Call, r: &mut Random, emit: Emit) {
         Call::ValidateConstant => videos::constant(r, emit),
         Call::ValidateTimes => videos::times(r, emit),
         Call::Check | Call::SegmentOfFrame | Call::SegmentOfFrameRecords | Call::SegmentOfTimeUs | Call::Continues
-            | Call::RowsOfTable | Call::ValidateNoVideo => tables::cases(call, r, emit),
+            | Call::RowsOfTable | Call::ValidateNoVideo | Call::SegmentsOfFrames => tables::cases(call, r, emit),
         Call::Cut | Call::Join | Call::Merge | Call::Origin => maps::cases(call, r, emit),
     }
 }

@@ -1,7 +1,7 @@
 //! Tables: good ones, each refusal alone and in pairs, random ones near validity; and the calls that check first.
 
 use std::rc::Rc;
-use super::{ Emit, numbers, room };
+use super::{ Emit, lists, numbers, room };
 use crate::{ case::{ Call, Case, Lent, Table }, random::Random };
 
 /// A run of frames in the output: what the other words of a segment are made around
@@ -255,6 +255,7 @@ pub fn cases(call: Call, r: &mut Random, emit: Emit) {
 /// One question to a table, about its segment k
 fn asked(call: Call, r: &mut Random, lent: &Rc<Lent>, k: usize, emit: Emit) {
     if call == Call::SegmentOfFrameRecords && !lent.table.has_records() { return; }
+    if call == Call::SegmentsOfFrames { return lists::asked(r, lent, k, emit); }
     let (words, times) = (lent.table.segments.get(k * 5..k * 5 + 5), lent.table.times.get(k * 7..k * 7 + 7));
     let table = lent.clone();
     let segments = lent.table.segments.len() / 5;
@@ -274,12 +275,12 @@ fn asked(call: Call, r: &mut Random, lent: &Rc<Lent>, k: usize, emit: Emit) {
 
 /// A table of a source too many, once
 pub fn too_many_sources(call: Call, emit: Emit) {
-    if matches!(call, Call::Check | Call::SegmentOfFrame | Call::SegmentOfFrameRecords | Call::Continues | Call::ValidateNoVideo) {
+    if matches!(call, Call::Check | Call::SegmentOfFrame | Call::SegmentOfFrameRecords | Call::Continues | Call::ValidateNoVideo | Call::SegmentsOfFrames) {
         once(call, &mut Random::new(3), with_sources(65), emit);
     }
 }
 
-/// Every pair of refusals, many times; the limits; every question to table T of document 01
+/// Every pair of refusals, many times; the limits; every question to table T of document 01, or the lists of frames
 pub fn fixed(call: Call, emit: Emit) {
     let mut r = Random::new(1);
     for (first, second) in (1..=17).flat_map(|a| (0..=17).map(move |b| (a, b))) {
@@ -293,7 +294,7 @@ pub fn fixed(call: Call, emit: Emit) {
     for n in [63, 64, 65, 66] { once(call, &mut r, with_sources(n), emit); }
     for n in [511, 512, 513, 1024] { once(call, &mut r, with_segments(n), emit); }
     once(call, &mut r, Table::default(), emit);
-    every_question(call, emit);
+    if call == Call::SegmentsOfFrames { lists::fixed(emit); } else { every_question(call, emit); }
 }
 
 fn once(call: Call, r: &mut Random, t: Table, emit: Emit) {
@@ -323,7 +324,7 @@ fn with_sources(n: usize) -> Table {
 }
 
 /// Segments of one frame each
-fn with_segments(n: usize) -> Table {
+pub fn with_segments(n: usize) -> Table {
     Table {
         segments: (0..n as u64).flat_map(|k| [0, k % 100, 1, k, 0]).collect(),
         times: (0..n as i64).flat_map(|k| [0, k, 1, 0, 0, 0, 0]).collect(),

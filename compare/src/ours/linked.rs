@@ -71,6 +71,7 @@ impl Lent {
                 lent.words = lent_words(room[0]);
                 &room[1..]
             }
+            Case::SegmentsOfFrames { room, .. } => { lent.words = lent_words(*room); &[] }
             Case::McrawTimes { room, .. } | Case::CheckMcraw { room, .. } => room,
             Case::VideoFrameTimesOfMoov { room, .. } => room,
             _ => &[],
@@ -87,7 +88,7 @@ impl Lent {
     pub fn ready<'a>(&'a mut self, case: &'a Case) -> Ready<'a> {
         match case {
             Case::Check { .. } | Case::SegmentOfFrame { .. } | Case::SegmentOfFrameRecords { .. } | Case::SegmentOfTimeUs { .. }
-                | Case::Continues { .. } | Case::RowsOfTable { .. } => self.of_table(case),
+                | Case::Continues { .. } | Case::RowsOfTable { .. } | Case::SegmentsOfFrames { .. } => self.of_table(case),
             Case::ValidateNoVideo { .. } | Case::ValidateConstant { .. } | Case::ValidateTimes { .. } | Case::CheckMcraw { .. } => self.of_judge(case),
             Case::Cut { .. } | Case::Join { .. } | Case::Merge { .. } | Case::Origin { .. } => self.of_maps(case),
             _ => self.of_the_rest(case),
@@ -103,6 +104,7 @@ impl Lent {
             Case::SegmentOfTimeUs { table, time } => Box::new(move || with_table!(st_segment_of_time_us, table, *time, value, index)),
             Case::Continues { table, segment } => Box::new(move || with_table!(st_continues, table, *segment, value, index)),
             Case::RowsOfTable { table, .. } => Box::new(move || with_table!(st_rows_of_table, table, mut_ptr(words), words.len(), mut_ptr(shifts), shifts.len(), value, index)),
+            Case::SegmentsOfFrames { table, frames, .. } => Box::new(move || with_table!(st_segments_of_frames, table, ptr(frames), frames.len(), mut_ptr(words), words.len(), value, index)),
             Case::SegmentOfFrameRecords { table, frame } => {
                 let (t, records) = (&table.table, &self.records);
                 Box::new(move || unsafe {

@@ -1,5 +1,5 @@
-//! A plain reading of document 01, call by call, for every input. It is written from the document's words alone, so that
-//! where it and the unchanged Rust agree, the document says what the Rust does.
+//! A plain reading of document 01, and of request a of document 02, call by call, for every input. It is written from the
+//! documents' words alone, so that where it and the unchanged Rust agree, they say what the Rust does.
 
 pub mod boxes;
 pub mod frame_times;
@@ -33,6 +33,7 @@ fn answered(case: &Case) -> Result<Answer, Refusal> {
         Case::TicksToUs { ticks, scale } => Answer::of(&[numbers::ticks_to_us(*ticks, *scale)? as i128]),
         Case::Check { table } => one(Table::checked(&table.table)?.frames),
         Case::SegmentOfFrame { table, frame } | Case::SegmentOfFrameRecords { table, frame } => one(Table::checked(&table.table)?.segment_of_frame(*frame)),
+        Case::SegmentsOfFrames { table, frames, room } => Table::checked(&table.table)?.segments_of_frames(frames, *room)?,
         Case::SegmentOfTimeUs { table, time } => one(Table::checked(&table.table)?.segment_of_time_us(*time)),
         Case::Continues { table, segment } => one(Table::checked(&table.table)?.continues(*segment) as u64),
         Case::RowsOfTable { table, room } => maps::write(Table::checked(&table.table)?.rows(), room, 32)?,

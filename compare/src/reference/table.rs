@@ -1,7 +1,7 @@
 //! A lent table: refusals 1 to 17, the lookups, `continues`, and its rows.
 
 use super::{ Refusal, numbers::is_utc_second };
-use crate::case::{ self, Row };
+use crate::case::{ self, Answer, Row };
 
 const MOST_SOURCES: usize = 64;
 const MOST_SEGMENTS: usize = 512;
@@ -88,6 +88,13 @@ impl Table {
     pub fn segment_of_time_us(&self, time: i64) -> u64 {
         let ended = self.segments.iter().filter(|s| s.out_end() <= time).count();
         ended.min(self.segments.len() - 1) as u64
+    }
+
+    /// A list of frames in and a list of indices out, each index the single lookup's; 32 if the output is shorter than the list
+    pub fn segments_of_frames(&self, frames: &[u64], room: usize) -> Result<Answer, Refusal> {
+        if room < frames.len() { return Err((32, 0)); }
+        let words = frames.iter().map(|frame| self.segment_of_frame(*frame)).collect();
+        Ok(Answer { words, ..Answer::of(&[frames.len() as i128]) })
     }
 
     /// r >= 1, r exists, same source, source frames run on, equal shift (both absent counts as equal)

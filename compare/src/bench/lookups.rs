@@ -1,0 +1,77 @@
+//! The segments of a list of frames, beside the Rust's lookups and beside single calls.
+
+use std::{ hint::black_box, rc::Rc };
+use released::segment_table::SegmentTable;
+use super::{ Inputs, Line, Work, median, segments, table, timed, turns };
+use crate::{ case::{ Call, Case, Lent }, ours, random::Random };
+
+/// How many frames a list has
+const FRAMES: u64 = 4096;
+/// How many frames each segment has, so that a window lies in one
+const EACH: u64 = 5000;
+/// The numbers of segments
+const SEGMENTS: [u64; 3] = [1, 32, MOST_SEGMENTS];
+const MOST_SEGMENTS: u64 = 512;
+/// A list that ascends takes at most this many times as long as the Rust's lookups
+const MOST_OF_THE_RUST: f64 = 1.2;
+/// With the most segments, such a list is at least this many times as fast as single calls
+const LEAST_OF_SINGLE: f64 = 50.0;
+
+const ASCENDING: &str = "ascending";
+
+fn input(n: u64, order: &str) -> String { format!("{}, {FRAMES} frames {order}", segments(n)) }
+
+/// Frames spread evenly over the whole table
+fn ascending(n: u64) -> Vec<u64> { (0..FRAMES).map(|k| k * n * EACH / FRAMES).collect() }
+
+/// Lists that ascend over the whole table, lie in a window in its middle, and have no order
+pub fn lists() -> Inputs {
+    let mut inputs = Inputs::new();
+    let mut r = Random::new(6);
+    for n in SEGMENTS {
+        let table = Lent::new(table(n, EACH));
+        let window = n / 2 * EACH + (EACH - FRAMES) / 2;
+        let all = [
+            (ASCENDING, ascending(n)),
+            ("in a window", (window..window + FRAMES).collect()),
+            ("at random", (0..FRAMES).map(|_| r.below(n * EACH)).collect()),
+        ];
+        inputs.extend(all.map(|(order, frames)| (input(n, order), Case::SegmentsOfFrames { table: table.clone(), frames, room: FRAMES as usize })));
+    }
+    inputs
+}
+
+/// The Rust's lookup of each frame, into a vector that is used again. Unlike everywhere else it doesn't check the table first: who
+/// calls it checks once, and looks up as often as they like
+pub fn rust_side(table: SegmentTable, frames: &[u64]) -> Work<'_> {
+    let mut out = Vec::with_capacity(frames.len());
+    Box::new(move || {
+        out.clear();
+        out.extend(black_box(frames).iter().map(|frame| table.segment_of_frame(*frame) as u64));
+        black_box(&out).len() as u64
+    })
+}
+
+/// Prints how the lists that ascend stand beside single calls and beside the Rust's lookups; whether they are fast enough
+pub fn fast(lines: &[Line], runs: usize) -> bool {
+    println!();
+    SEGMENTS.into_iter().fold(true, |all, n| {
+        let input = input(n, ASCENDING);
+        let line = lines.iter().find(|line| line.call == Call::SegmentsOfFrames && line.input == input).unwrap();
+        let times = single(n, runs) / line.library;
+        println!("{input}: one call is {times:.1} times as fast as {FRAMES} single calls, and takes {:.2} times as long as the Rust's lookups without a check", line.ratio);
+        all && line.ratio <= MOST_OF_THE_RUST && (n < MOST_SEGMENTS || times >= LEAST_OF_SINGLE)
+    })
+}
+
+/// The microseconds that single calls take for the frames that ascend
+fn single(n: u64, runs: usize) -> f64 {
+    let table = Lent::new(table(n, EACH));
+    let cases: Vec<Case> = ascending(n).into_iter().map(|frame| Case::SegmentOfFrame { table: Rc::clone(&table), frame }).collect();
+    let mut lent: Vec<ours::Lent> = cases.iter().filter_map(ours::Lent::of).collect();
+    let mut calls: Vec<Work> = lent.iter_mut().zip(&cases).map(|(lent, case)| lent.ready(case)).collect();
+    let mut all: Work = Box::new(move || calls.iter_mut().map(|call| call()).sum());
+    assert_eq!(all(), 0, "a single call isn't accepted");
+    let turns = turns(&mut all);
+    median(&mut (0..runs).map(|_| timed(turns, &mut all)).collect::<Vec<f64>>())
+}

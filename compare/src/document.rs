@@ -68,21 +68,26 @@ fn looked_up(table: &Rc<Lent>, frame: u64, answer: &'static str) -> [Worked; 2] 
     [(Case::SegmentOfFrame { table: table.clone(), frame }, answer), (Case::SegmentOfFrameRecords { table: table.clone(), frame }, answer)]
 }
 
-/// Lists of frames of table T, in order and backwards, empty, and with room one short; and of T with a gap before its second segment
+/// Lists of frames of table T, in order, backwards and in no order, empty, and with room one short; of T with a gap before its
+/// second segment, and of T whose source A has no frames
 fn lists() -> Vec<Worked> {
     let frames = vec![0, 29, 30, 49, 50, u64::MAX];
     let backwards = frames.iter().rev().copied().collect();
-    let (t, mut gap) = (Lent::new(tables::t()), tables::t());
+    let (t, mut gap, mut empty) = (Lent::new(tables::t()), tables::t(), tables::t());
     gap.segments[8] = 31;
-    let gap = Lent::new(gap);
+    empty.sources[0] = 0;
+    let (gap, empty) = (Lent::new(gap), Lent::new(empty));
     let of = |table: &Rc<Lent>, frames, room| Case::SegmentsOfFrames { table: table.clone(), frames, room };
     vec![
         (of(&t, frames.clone(), 6), "0 0 6 0 0 1 1 1 1"),
         (of(&t, backwards, 6), "0 0 6 1 1 1 1 0 0"),
+        (of(&t, vec![49, 0, 30, 29, u64::MAX], 6), "0 0 5 1 0 1 0 1"),
         (of(&t, vec![], 0), "0 0 0"),
+        (of(&t, vec![29, 30], 1), "32 0"),
         (of(&t, frames.clone(), 5), "32 0"),
         (of(&gap, vec![], 0), "15 1"),
         (of(&gap, frames, 5), "15 1"),
+        (of(&empty, vec![], 0), "4 0"),
     ]
 }
 

@@ -7,7 +7,7 @@ use crate::{ case::{ Call, Case, Lent }, ours, random::Random };
 
 /// How many frames a list has
 const FRAMES: u64 = 4096;
-/// How many frames each segment has, so that a window lies in one
+/// How many frames each segment has, more than a list
 const EACH: u64 = 5000;
 /// The numbers of segments
 const SEGMENTS: [u64; 3] = [1, 32, MOST_SEGMENTS];
@@ -24,13 +24,13 @@ fn input(n: u64, order: &str) -> String { format!("{}, {FRAMES} frames {order}",
 /// Frames spread evenly over the whole table
 fn ascending(n: u64) -> Vec<u64> { (0..FRAMES).map(|k| k * n * EACH / FRAMES).collect() }
 
-/// Lists that ascend over the whole table, lie in a window in its middle, and have no order
+/// Lists that ascend over the whole table, lie in a window in its middle, where there is a join unless there is but one segment, and have no order
 pub fn lists() -> Inputs {
     let mut inputs = Inputs::new();
     let mut r = Random::new(6);
     for n in SEGMENTS {
         let table = Lent::new(table(n, EACH));
-        let window = n / 2 * EACH + (EACH - FRAMES) / 2;
+        let window = (n * EACH - FRAMES) / 2;
         let all = [
             (ASCENDING, ascending(n)),
             ("in a window", (window..window + FRAMES).collect()),

@@ -1,4 +1,5 @@
-// The segments of a list of frames, of a table that is checked once. The list need not be in order; while it is, nothing is searched for.
+// The segments of a list of frames, of a table that is checked once. The list may have any order; a frame in the segment of the one before it,
+// or in the next one, need not be searched for.
 use choice::MAX_U64;
 use rules::Checked;
 use table::WORDS;

@@ -242,9 +242,10 @@ uint64_t st_segment_of_frame(const uint64_t *sources, size_t sources_len, const 
                              const uint8_t *text, size_t text_len, uint64_t frame, uint64_t *segment,
                              uint64_t *index);
 
-/* The segment of each frame of a list, which need not be in order: what st_segment_of_frame answers of each. The table is
- * checked once. An empty list is accepted.
- * Lent: a table, the frames, and room for as many segments. Writes the segments, written (how many), index. Refuses: 1 to 17, 32.
+/* The segment of each frame of a list, in any order: what st_segment_of_frame answers of it. The table is checked once, also
+ * for an empty list. The frames and out_segments may not be one array.
+ * Lent: a table, the frames, and room for one index a frame. Writes out_segments, written (how many), index. Refuses: 1 to
+ * 17, 32.
  * A null pointer only with length 0; what is written overlaps nothing else, or memory may be corrupted. */
 uint64_t st_segments_of_frames(const uint64_t *sources, size_t sources_len, const uint64_t *segments,
                                size_t segments_len, const int64_t *times, size_t times_len, bool log,

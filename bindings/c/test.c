@@ -159,14 +159,14 @@ static bool as_lent(const uint64_t *a, size_t count) {
 static void list_calls(void) {
     const uint64_t across[4] = {28, 29, 30, 31}, any[6] = {MOST, 0, 49, 29, 29, 30};
     uint64_t up[60], down[60], found[61];
-#define LISTED(frames, count, room) st_segments_of_frames(T, frames, count, found, room, &x, &at)
+#define OF_FRAMES(frames, count, room) st_segments_of_frames(T, frames, count, found, room, &x, &at)
     for (size_t k = 0; k < 61; k++) found[k] = LENT;
-    REFUSED_AT(32, 0, LISTED(across, 4, 3));
-    REFUSED_AT(32, 0, LISTED(across, 1, 0));
+    REFUSED_AT(32, 0, OF_FRAMES(across, 4, 3));
+    REFUSED_AT(32, 0, OF_FRAMES(across, 1, 0));
     REFUSED_AT(32, 0, st_segments_of_frames(T, across, 4, NULL, 0, &x, &at));
     ACCEPTED(st_segments_of_frames(T, NULL, 0, NULL, 0, &x, &at));
     IS(x == 0);
-    ACCEPTED(LISTED(NULL, 0, 61));
+    ACCEPTED(OF_FRAMES(NULL, 0, 61));
     IS(x == 0);
 
     /* the table is tested first */
@@ -174,20 +174,20 @@ static void list_calls(void) {
     REFUSED_AT(1, 0, st_segments_of_frames(sources, 19, segments, 10, times, 14, false, NULL, 0, across, 4, found, 3, &x, &at));
     segments[8] = 31;
     REFUSED_AT(15, 1, st_segments_of_frames(T, NULL, 0, NULL, 0, &x, &at));
-    REFUSED_AT(15, 1, LISTED(across, 4, 3));
-    REFUSED_AT(15, 1, LISTED(across, 4, 61));
+    REFUSED_AT(15, 1, OF_FRAMES(across, 4, 3));
+    REFUSED_AT(15, 1, OF_FRAMES(across, 4, 61));
     segments[8] = 30;
     IS(as_lent(found, 61));
 
-    ACCEPTED(LISTED(across, 4, 4));
+    ACCEPTED(OF_FRAMES(across, 4, 4));
     IS(x == 4 && found[0] == 0 && found[1] == 0 && found[2] == 1 && found[3] == 1 && as_lent(found + 4, 57));
-    ACCEPTED(LISTED(any, 6, 61));
+    ACCEPTED(OF_FRAMES(any, 6, 61));
     IS(x == 6 && found[0] == 1 && found[1] == 0 && found[2] == 1 && found[3] == 0 && found[4] == 0 && found[5] == 1);
     IS(as_lent(found + 6, 55));
     for (uint64_t k = 0; k < 60; k++) up[k] = k, down[k] = 59 - k;
     for (int turn = 0; turn < 2; turn++) {
         const uint64_t *frames = turn ? down : up;
-        ACCEPTED(LISTED(frames, 60, 61));
+        ACCEPTED(OF_FRAMES(frames, 60, 61));
         IS(x == 60 && found[60] == LENT);
         for (size_t k = 0; k < 60; k++) {
             ACCEPTED(st_segment_of_frame(T, frames[k], &x, &at));

@@ -115,9 +115,10 @@ extern "C" {
     /// A null pointer only with length 0.
     pub fn st_segment_of_frame(sources: *const u64, sources_len: usize, segments: *const u64, segments_len: usize, times: *const i64, times_len: usize, log: bool, text: *const u8, text_len: usize, frame: u64, segment: *mut u64, index: *mut u64) -> u64;
 
-    /// The segment of each frame of a list, which need not be in order: what st_segment_of_frame answers of each. The table is
-    /// checked once. An empty list is accepted.
-    /// Lent: a table, the frames, and room for as many segments. Writes the segments, written (how many), index. Refuses: 1 to 17, 32.
+    /// The segment of each frame of a list, in any order: what st_segment_of_frame answers of it. The table is checked once, also
+    /// for an empty list. The frames and out_segments may not be one array.
+    /// Lent: a table, the frames, and room for one index a frame. Writes out_segments, written (how many), index. Refuses: 1 to
+    /// 17, 32.
     /// A null pointer only with length 0; what is written overlaps nothing else, or memory may be corrupted.
     pub fn st_segments_of_frames(sources: *const u64, sources_len: usize, segments: *const u64, segments_len: usize, times: *const i64, times_len: usize, log: bool, text: *const u8, text_len: usize, frames: *const u64, frames_len: usize, out_segments: *mut u64, out_segments_len: usize, written: *mut u64, index: *mut u64) -> u64;
 

@@ -199,8 +199,8 @@ impl Table {
         segment as usize
     }
 
-    /// The index of the segment that has each frame of a list, which need not be in order: what [`Table::segment_of_frame`]
-    /// answers of each. The table is checked once.
+    /// The index of the segment that has each frame of a list, in any order; past the last frame, of the last one. It is what
+    /// [`Table::segment_of_frame`] answers of each, but the library tests the table once for the list, not once a frame.
     ///
     /// ```
     /// # use segment_table::{Segment, Source, Table};

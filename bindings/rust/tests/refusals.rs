@@ -192,7 +192,7 @@ fn room() {
 
 /// The lookups of a list, in a table of two segments of ten frames, the second from this frame on: the number, and the
 /// words `written` and `index`, lent as 7.
-fn listed(second: u64, frames: &[u64], room: &mut [u64]) -> (u64, u64, u64) {
+fn looked_up(second: u64, frames: &[u64], room: &mut [u64]) -> (u64, u64, u64) {
     let (mut written, mut index) = (7, 7);
     let (sources, segments, times) = ([100, 25, 1, 0, 0, 0, 0, 0, 0, 0], [0, 0, 10, 0, 0, 0, 0, 10, second, 0], [0; 14]);
     let number = unsafe {
@@ -207,17 +207,17 @@ fn listed(second: u64, frames: &[u64], room: &mut [u64]) -> (u64, u64, u64) {
 #[test]
 fn room_for_a_list() {
     let mut room = [7; 4];
-    assert_eq!(listed(10, &[9, 10, 0], &mut room[..2]), (32, 7, 0));
-    assert_eq!(listed(10, &[9], &mut []), (32, 7, 0));
+    assert_eq!(looked_up(10, &[9, 10, 0], &mut room[..2]), (32, 7, 0));
+    assert_eq!(looked_up(10, &[9], &mut []), (32, 7, 0));
     // the table is tested first
-    assert_eq!(listed(11, &[], &mut room), (15, 7, 1));
-    assert_eq!(listed(11, &[9, 10, 0], &mut room[..2]), (15, 7, 1));
-    assert_eq!(listed(11, &[9, 10, 0], &mut room), (15, 7, 1));
-    assert_eq!(listed(10, &[], &mut room), (0, 0, 0));
+    assert_eq!(looked_up(11, &[], &mut room), (15, 7, 1));
+    assert_eq!(looked_up(11, &[9, 10, 0], &mut room[..2]), (15, 7, 1));
+    assert_eq!(looked_up(11, &[9, 10, 0], &mut room), (15, 7, 1));
+    assert_eq!(looked_up(10, &[], &mut room), (0, 0, 0));
     assert_eq!(room, [7; 4]);
-    assert_eq!(listed(10, &[10, 9], &mut room[..2]), (0, 2, 0));
+    assert_eq!(looked_up(10, &[10, 9], &mut room[..2]), (0, 2, 0));
     assert_eq!(room, [1, 0, 7, 7]);
-    assert_eq!(listed(10, &[9, 10, 0], &mut room), (0, 3, 0));
+    assert_eq!(looked_up(10, &[9, 10, 0], &mut room), (0, 3, 0));
     assert_eq!(room, [0, 1, 0, 7]);
 }
 

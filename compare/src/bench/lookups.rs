@@ -12,31 +12,26 @@ const EACH: u64 = 5000;
 /// The numbers of segments
 const SEGMENTS: [u64; 3] = [1, 32, MOST_SEGMENTS];
 const MOST_SEGMENTS: u64 = 512;
-/// A list that ascends takes at most this many times as long as the Rust's lookups
+/// A list in order takes at most this many times as long as the Rust's lookups
 const MOST_OF_THE_RUST: f64 = 1.2;
-/// With the most segments, such a list is at least this many times as fast as single calls
+/// With the most segments, it is at least this many times as fast as single calls
 const LEAST_OF_SINGLE: f64 = 50.0;
 
-const ASCENDING: &str = "ascending";
-
-fn input(n: u64, order: &str) -> String { format!("{}, {FRAMES} frames {order}", segments(n)) }
-
-/// Frames spread evenly over the whole table
-fn ascending(n: u64) -> Vec<u64> { (0..FRAMES).map(|k| k * n * EACH / FRAMES).collect() }
-
-/// Lists that ascend over the whole table, lie in a window in its middle, where there is a join unless there is but one segment, and have no order
+/// Lists that ascend over the whole table, lie in a window in its middle, across a join where there are several segments, and have no order
 pub fn lists() -> Inputs {
     let mut inputs = Inputs::new();
     let mut r = Random::new(6);
     for n in SEGMENTS {
         let table = Lent::new(table(n, EACH));
         let window = (n * EACH - FRAMES) / 2;
-        let all = [
-            (ASCENDING, ascending(n)),
+        let all: [(&str, Vec<u64>); 3] = [
+            ("ascending", (0..FRAMES).map(|k| k * n * EACH / FRAMES).collect()),
             ("in a window", (window..window + FRAMES).collect()),
             ("at random", (0..FRAMES).map(|_| r.below(n * EACH)).collect()),
         ];
-        inputs.extend(all.map(|(order, frames)| (input(n, order), Case::SegmentsOfFrames { table: table.clone(), frames, room: FRAMES as usize })));
+        for (order, frames) in all {
+            inputs.push((format!("{}, {FRAMES} frames {order}", segments(n)), Case::SegmentsOfFrames { table: table.clone(), frames, room: FRAMES as usize }));
+        }
     }
     inputs
 }
@@ -52,22 +47,22 @@ pub fn rust_side(table: SegmentTable, frames: &[u64]) -> Work<'_> {
     })
 }
 
-/// Prints how the lists that ascend stand beside single calls and beside the Rust's lookups; whether they are fast enough
+/// Prints how each list stands beside single calls and beside the Rust's lookups; whether it is fast enough
 pub fn fast(lines: &[Line], runs: usize) -> bool {
     println!();
-    SEGMENTS.into_iter().fold(true, |all, n| {
-        let input = input(n, ASCENDING);
-        let line = lines.iter().find(|line| line.call == Call::SegmentsOfFrames && line.input == input).unwrap();
-        let times = single(n, runs) / line.library;
+    let lines = lines.iter().filter(|line| line.call == Call::SegmentsOfFrames);
+    lists().iter().zip(lines).fold(true, |all, ((input, case), line)| {
+        let Case::SegmentsOfFrames { table, frames, .. } = case else { unreachable!() };
+        let times = single(table, frames, runs) / line.library;
         println!("{input}: one call is {times:.1} times as fast as {FRAMES} single calls, and takes {:.2} times as long as the Rust's lookups without a check", line.ratio);
-        all && line.ratio <= MOST_OF_THE_RUST && (n < MOST_SEGMENTS || times >= LEAST_OF_SINGLE)
+        let most = table.table.segments.len() as u64 == 5 * MOST_SEGMENTS;
+        all && (!frames.is_sorted() || line.ratio <= MOST_OF_THE_RUST) && (!most || times >= LEAST_OF_SINGLE)
     })
 }
 
-/// The microseconds that single calls take for the frames that ascend
-fn single(n: u64, runs: usize) -> f64 {
-    let table = Lent::new(table(n, EACH));
-    let cases: Vec<Case> = ascending(n).into_iter().map(|frame| Case::SegmentOfFrame { table: Rc::clone(&table), frame }).collect();
+/// The microseconds that single calls take for these frames
+fn single(table: &Rc<Lent>, frames: &[u64], runs: usize) -> f64 {
+    let cases: Vec<Case> = frames.iter().map(|frame| Case::SegmentOfFrame { table: Rc::clone(table), frame: *frame }).collect();
     let mut lent: Vec<ours::Lent> = cases.iter().filter_map(ours::Lent::of).collect();
     let mut calls: Vec<Work> = lent.iter_mut().zip(&cases).map(|(lent, case)| lent.ready(case)).collect();
     let mut all: Work = Box::new(move || calls.iter_mut().map(|call| call()).sum());

@@ -10,11 +10,11 @@ use Rattle.audit.proofs.Telling.{telling}
 use Rattle.audit.proofs.Tiled.{tiled}
 use Rattle.audit.proofs.Refused.{right}
 use Rattle.audit.proofs.Meant.{meant}
-use Rattle.audit.proofs.Listed.{listed}
+use Rattle.audit.proofs.EachFrame.{each-frame}
 use Rattle.audit.proofs.Walked.{walked}
 use Rattle.audit.proofs.Rounded.{rounding, ordering}
 use Rattle.audit.proofs.Absent.{absent}
 use Rattle.audit.proofs.Worked.{all-hold}
 
 pub audited : Claims
-audited = record { answers = once; face = faced; telling = telling; origins = tiled; laws = lawful; demands = demanded; refusals = right; differing = differing table Validate CheckMcraw (λ l video starts r. meant .validate l video starts r .0) (λ l ts a b a′ b′ r p. meant .check-mcraw l ts a b a′ b′ r .0 p .answer); listing = listed; meanings = meant; walking = walked; rounding = rounding; ordering = ordering; ignored = absent; worked = all-hold }
+audited = record { answers = once; face = faced; telling = telling; origins = tiled; laws = lawful; demands = demanded; refusals = right; differing = differing table Validate CheckMcraw (λ l video starts r. meant .validate l video starts r .0) (λ l ts a b a′ b′ r p. meant .check-mcraw l ts a b a′ b′ r .0 p .answer); each-frame = each-frame; meanings = meant; walking = walked; rounding = rounding; ordering = ordering; ignored = absent; worked = all-hold }

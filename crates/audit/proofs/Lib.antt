@@ -4,7 +4,7 @@ pub mod Once
 pub mod Faced
 pub mod Telling
 pub mod Meant
-pub mod Listed
+pub mod EachFrame
 pub mod Walked
 pub mod Refused
 pub mod Tiled

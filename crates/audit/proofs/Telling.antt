@@ -14,14 +14,14 @@ use Rattle.rules.specs.declared.Checked.{Checked}
 use Rattle.rules.specs.declared.Lookup.{Lookup}
 use Rattle.rules.specs.declared.Continued.{Continued}
 use Rattle.table.specs.declared.Filled.{Filled}
-use Rattle.lookups.specs.declared.Lookups.{Lookups}
+use Rattle.lookups.specs.declared.Indexed.{Indexed}
 use Rattle.judge.specs.Video.{shownBy}
 use Rattle.maps.specs.declared.Mapped.{Mapped}
 use Rattle.maps.specs.declared.Traced.{Traced}
 use Rattle.maps.specs.Answers.{Placed}
 use Rattle.frame_times.specs.declared.FrameTimes.{FrameTimes}
 use Rattle.mcraw.specs.declared.RecordingTimes.{RecordingTimes}
-use Rattle.told.specs.Told.{usTold, sizeTold, placeTold, reachedTold, checkedTold, refusalTold, lookupTold, lookupsTold, continuedTold, filledTold, mappedTold, tracedTold, timesTold, moovTold}
+use Rattle.told.specs.Told.{usTold, sizeTold, placeTold, reachedTold, checkedTold, refusalTold, lookupTold, indexedTold, continuedTold, filledTold, mappedTold, tracedTold, timesTold, moovTold}
 use Rattle.segment_table.specs.Written.{MapTold}
 use Rattle.audit.proofs.Worked.{started}
 use Rattle.audit.specs.Words.{Tells}
@@ -52,7 +52,7 @@ telling = record {
   );
   st-segments-of-frames = λ l fs out out′ written index r written′ index′. (
     λ p. record { answer = _; given = record { answer = refl; indices = p .indices }; told = p .told },
-    λ q. record { told = q .told ∙ ap (λ (c : Lookups). lookupsTold c written) (q .given .answer); indices = q .given .indices },
+    λ q. record { told = q .told ∙ ap (λ (c : Indexed). indexedTold c written) (q .given .answer); indices = q .given .indices },
   );
   st-validate-no-video = λ l index r index′. one refusalTold;
   st-validate-constant = λ l count num den frames index r frames′ index′. one (λ (c : Checked). checkedTold c frames);

@@ -13,7 +13,6 @@ use borrow.Author.Tests.{le-ltb}
 use Rattle.choice.specs.declared.Refusal.{Refusal}
 use Rattle.choice.specs.declared.Refusal.the-variants.{Never, At}
 use Rattle.choice.specs.Choice.{when}
-use Rattle.choice.specs.Records.{orRefused}
 use Rattle.choice.proofs.Runs.{getD-run}
 use Rattle.slices.specs.Slices.{after}
 use Rattle.rows.specs.declared.Row.{Row}

@@ -33,8 +33,8 @@ use Rattle.table.specs.declared.Filled.{Filled}
 use Rattle.table.specs.declared.Filled.the-variants.{Rows}
 use Rattle.table.specs.Layout.{Uneven}
 use Rattle.table.specs.Rows.{rowOf, rowsOf, Rowed}
-use Rattle.lookups.specs.declared.Lookups.{Lookups}
-use Rattle.lookups.specs.declared.Lookups.the-variants.{Indices, NoIndices}
+use Rattle.lookups.specs.declared.Indexed.{Indexed}
+use Rattle.lookups.specs.declared.Indexed.the-variants.{Indices, NoIndices}
 use Rattle.lookups.specs.Indices.{Indexing}
 use Rattle.judge.specs.declared.Video.{Video}
 use Rattle.judge.specs.declared.Video.the-variants.{Nothing, Constant, Times as TimesOf}
@@ -60,7 +60,7 @@ use Rattle.frame_times.specs.declared.FrameTimes.{FrameTimes}
 use Rattle.frame_times.specs.Times as frames
 use Rattle.mcraw.specs.declared.RecordingTimes.{RecordingTimes}
 use Rattle.mcraw.specs.Mcraw.{McrawAnswers}
-use Rattle.told.specs.Told.{usTold, sizeTold, placeTold, reachedTold, checkedTold, refusalTold, lookupTold, lookupsTold, continuedTold, filledTold, mappedTold, tracedTold, timesTold, moovTold}
+use Rattle.told.specs.Told.{usTold, sizeTold, placeTold, reachedTold, checkedTold, refusalTold, lookupTold, indexedTold, continuedTold, filledTold, mappedTold, tracedTold, timesTold, moovTold}
 use Rattle.audit.specs.Promise.{OneAnswer, OnePart}
 use Rattle.audit.specs.Calls as calls
 use Rattle.audit.specs.Face as face
@@ -141,7 +141,7 @@ pub record Telling : Type 0 where
   pub st-rows-of-table : (l : Lent) (ou ou′ : List ℕ) (os os′ : List ℤ) (rows index r rows′ index′ : ℕ)
       → on face.StRowsOfTable l ou os rows index r ou′ os′ rows′ index′ ↔ Tells (λ c. RowsOfTable l ou os c ou′ os′) (λ c. (r, rows′, index′) ≡ filledTold c rows)
   pub st-segments-of-frames : (l : Lent) (fs out out′ : List ℕ) (written index r written′ index′ : ℕ)
-      → on face.StSegmentsOfFrames l fs out written index r out′ written′ index′ ↔ Tells (λ c. SegmentsOfFrames l fs out c out′) (λ c. (r, written′, index′) ≡ lookupsTold c written)
+      → on face.StSegmentsOfFrames l fs out written index r out′ written′ index′ ↔ Tells (λ c. SegmentsOfFrames l fs out c out′) (λ c. (r, written′, index′) ≡ indexedTold c written)
   pub st-validate-no-video : (l : Lent) (index r index′ : ℕ)
       → on face.StValidateNoVideo l index r index′ ↔ Tells (Validate l Nothing []) (λ c. (r, index′) ≡ refusalTold c)
   pub st-validate-constant : (l : Lent) (count num den frames index r frames′ index′ : ℕ)
@@ -238,7 +238,7 @@ pub record Meanings : Type 0 where
   pub segment-of-time-us : (l : Lent) (t : ℤ) (r : Lookup) → SegmentOfTimeUs l t r ↔ (r ≡ segmentOfTime (table l) t)
   pub continues : (l : Lent) (k : ℕ) (r : Continued) → Continues l k r ↔ (r ≡ continuesAt (table l) k)
   pub rows-of-table : (l : Lent) (ou ou′ : List ℕ) (os os′ : List ℤ) (r : Filled) → RowsOfTable l ou os r ou′ os′ ↔ Rowed (table l) ou os r ou′ os′
-  pub segments-of-frames : (l : Lent) (fs out out′ : List ℕ) (r : Lookups) → SegmentsOfFrames l fs out r out′ ↔ Indexing (table l) fs out r out′
+  pub segments-of-frames : (l : Lent) (fs out out′ : List ℕ) (r : Indexed) → SegmentsOfFrames l fs out r out′ ↔ Indexing (table l) fs out r out′
   pub validate : (l : Lent) (video : Video) (starts : List ℤ) (r : Checked) → Validate l video starts r ↔ (r ≡ validateOf (table l) (shownBy video starts))
   pub check-mcraw : (l : Lent) (ts a b a′ b′ : List ℤ) (r : Checked) → CheckMcraw l ts a b r a′ b′ ↔ Settled (table l) ts a b r a′ b′
   pub box-size : (b : List ℕ) (remaining : ℕ) (r : Sized) → calls.BoxSize b remaining r ↔ (r ≡ boxSize b remaining)
@@ -262,15 +262,16 @@ pub record Meanings : Type 0 where
 
 -- THE LOOKUPS OF A LIST: whatever its order, the k-th index is what `segment_of_frame` answers of the k-th frame. The table is checked as `check` does, also where the
 -- list is empty, and room that is shorter than the list is refused after that. (Document 02, a.)
-pub record Listing : Type 0 where
+pub record EachFrame : Type 0 where
   pub each : (l : Lent) (n k : ℕ) (fs out out′ : List ℕ) → SegmentsOfFrames l fs out (Indices n) out′ → k < length fs → SegmentOfFrame l (getD fs k 0) (Index (getD out′ k 0))
-  -- What lies past the list stays as lent, and on a refusal all.
-  pub past : (l : Lent) (n : ℕ) (fs out out′ : List ℕ) → SegmentsOfFrames l fs out (Indices n) out′ → drop (length fs) out′ ≡ drop (length fs) out
+  -- What lies past the list stays as lent, and on a refusal all; the room stays as long as it was.
+  pub rest : (l : Lent) (n : ℕ) (fs out out′ : List ℕ) → SegmentsOfFrames l fs out (Indices n) out′ → drop (length fs) out′ ≡ drop (length fs) out
   pub kept : (l : Lent) (n i : ℕ) (fs out out′ : List ℕ) → SegmentsOfFrames l fs out (NoIndices n i) out′ → out′ ≡ out
+  pub long : (l : Lent) (fs out out′ : List ℕ) (r : Indexed) → SegmentsOfFrames l fs out r out′ → length out′ ≡ length out
   -- Which answer it is.
-  pub all : (l : Lent) (N : ℕ) (fs out out′ : List ℕ) (r : Lookups) → Check l (Frames N) → length fs ≤ length out → SegmentsOfFrames l fs out r out′ → r ≡ Indices (length fs)
-  pub refused : (l : Lent) (n i : ℕ) (fs out out′ : List ℕ) (r : Lookups) → Check l (Refused n i) → SegmentsOfFrames l fs out r out′ → r ≡ NoIndices n i
-  pub short : (l : Lent) (N : ℕ) (fs out out′ : List ℕ) (r : Lookups) → Check l (Frames N) → length out < length fs → SegmentsOfFrames l fs out r out′ → r ≡ NoIndices 32 0
+  pub all : (l : Lent) (N : ℕ) (fs out out′ : List ℕ) (r : Indexed) → Check l (Frames N) → length fs ≤ length out → SegmentsOfFrames l fs out r out′ → r ≡ Indices (length fs)
+  pub refused : (l : Lent) (n i : ℕ) (fs out out′ : List ℕ) (r : Indexed) → Check l (Refused n i) → SegmentsOfFrames l fs out r out′ → r ≡ NoIndices n i
+  pub short : (l : Lent) (N : ℕ) (fs out out′ : List ℕ) (r : Indexed) → Check l (Frames N) → length out < length fs → SegmentsOfFrames l fs out r out′ → r ≡ NoIndices 32 0
 
 -- THE WALK `children` MEETS THE BOXES, by which `child` and the other searches are defined: a box that it answers is the first of those from its offset on, and the
 -- others are those from `next` on, which lies further on in the bytes; where it answers 31 there are none, and the boxes end clean or with a bad header. So a walk
@@ -301,7 +302,7 @@ pub record SameAnswers (l m : Lent) : Type 0 where
   pub segment-of-time-us : (t : ℤ) (r : Lookup) → SegmentOfTimeUs l t r → SegmentOfTimeUs m t r
   pub continues : (k : ℕ) (r : Continued) → Continues l k r → Continues m k r
   pub rows-of-table : (ou ou′ : List ℕ) (os os′ : List ℤ) (r : Filled) → RowsOfTable l ou os r ou′ os′ → RowsOfTable m ou os r ou′ os′
-  pub segments-of-frames : (fs out out′ : List ℕ) (r : Lookups) → SegmentsOfFrames l fs out r out′ → SegmentsOfFrames m fs out r out′
+  pub segments-of-frames : (fs out out′ : List ℕ) (r : Indexed) → SegmentsOfFrames l fs out r out′ → SegmentsOfFrames m fs out r out′
   pub validate : (video : Video) (starts : List ℤ) (r : Checked) → Validate l video starts r → Validate m video starts r
   pub check-mcraw : (ts a b a′ b′ : List ℤ) (r : Checked) → CheckMcraw l ts a b r a′ b′ → CheckMcraw m ts a b r a′ b′
 
@@ -328,7 +329,7 @@ pub record Claims : Type 0 where
   pub refusals : Refusals
   -- HOW FAR TWO TABLES OF ONE VIDEO MAY DIFFER, which `validate` or `check_mcraw` accepts. (Document 02, n; differ/specs/Differ.antt has the lines.)
   pub differing : Differing table Validate CheckMcraw
-  pub listing : Listing
+  pub each-frame : EachFrame
   pub meanings : Meanings
   pub walking : Walking
   pub rounding : Rounding

@@ -15,8 +15,8 @@ use Rattle.rules.specs.declared.Lookup.{Lookup}
 use Rattle.rules.specs.declared.Lookup.the-variants.{Index}
 use Rattle.table.specs.declared.Filled.{Filled}
 use Rattle.table.specs.declared.Filled.the-variants as filled
-use Rattle.lookups.specs.declared.Lookups.{Lookups}
-use Rattle.lookups.specs.declared.Lookups.the-variants.{Indices, NoIndices}
+use Rattle.lookups.specs.declared.Indexed.{Indexed}
+use Rattle.lookups.specs.declared.Indexed.the-variants.{Indices, NoIndices}
 use Rattle.judge.specs.declared.Video.{Video}
 use Rattle.judge.specs.declared.Video.the-variants.{Constant}
 use Rattle.judge.specs.Judge.{lastSegment}
@@ -52,7 +52,7 @@ pub data Example : Type 0 where
   frame : (l : Lent) (k : ℕ) (is : Lookup) → Example
   time : (l : Lent) (us : ℤ) (is : Lookup) → Example
   -- the segments of a list of frames, put into this room, and what it holds then
-  list : (l : Lent) (frames room : List ℕ) (is : Lookups) (are : List ℕ) → Example
+  list : (l : Lent) (frames room : List ℕ) (is : Indexed) (are : List ℕ) → Example
   -- the rows of a table
   map : (l : Lent) (are : List Row) → Example
   -- the frames a to b of a map are these rows
@@ -85,7 +85,7 @@ Holds (exports l m frames num den us below) =
     × (us * num + below ≡ 2 * den * 1000000 + num)
 Holds (frame l k is) = (r : Lookup) → SegmentOfFrame l k r → r ≡ is
 Holds (time l us is) = (r : Lookup) → SegmentOfTimeUs l us r → r ≡ is
-Holds (list l frames room is are) = (r : Lookups) (out : List ℕ) → SegmentsOfFrames l frames room r out → (r ≡ is) × (out ≡ are)
+Holds (list l frames room is are) = (r : Indexed) (out : List ℕ) → SegmentsOfFrames l frames room r out → (r ≡ is) × (out ≡ are)
 Holds (map l are) =
     (r : Filled) (ou : List ℕ) (os : List ℤ) → RowsOfTable l (replicate (5 * length are) 0) (replicate (length are) (pos 0)) r ou os
     → (r ≡ filled.Rows (length are)) × (mapWritten (length are) ou os ≡ are)

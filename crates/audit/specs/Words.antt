@@ -12,7 +12,7 @@ use Rattle.rules.specs.declared.Continued.{Continued}
 use Rattle.rules.specs.Records.{Table}
 use Rattle.table.specs.declared.Filled.{Filled}
 use Rattle.table.specs.Layout.{tableOf}
-use Rattle.lookups.specs.declared.Lookups.{Lookups}
+use Rattle.lookups.specs.declared.Indexed.{Indexed}
 use Rattle.judge.specs.declared.Video.{Video}
 use Rattle.records.specs.declared.TrimSegment.{TrimSegment}
 use Rattle.records.specs.Records.{allUnsigned, allSigned}
@@ -51,7 +51,7 @@ abbrev pub RowsOfTable : Lent → List ℕ → List ℤ → Filled → List ℕ 
 RowsOfTable l ou os r ou′ os′ = on calls.RowsOfTable l ou os r ou′ os′
 
 -- segments_of_frames of that table, of a list of frames and the room for their segments, answers r and leaves out′
-abbrev pub SegmentsOfFrames : Lent → List ℕ → List ℕ → Lookups → List ℕ → Type 0
+abbrev pub SegmentsOfFrames : Lent → List ℕ → List ℕ → Indexed → List ℕ → Type 0
 SegmentsOfFrames l frames out r out′ = on calls.SegmentsOfFrames l frames out r out′
 
 -- validate of that table, of a video and the starts that are lent beside it, answers r; check_mcraw, of timestamps and two working slices, answers r and leaves a′ and b′

@@ -1,3 +1,3 @@
 pub mod Pieces
-pub mod Indexed
+pub mod Answers
 pub mod Alike

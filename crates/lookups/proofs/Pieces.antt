@@ -10,11 +10,11 @@ use borrow.Author.Tests.{ne-eqb, eqb-true, leb-true, ltb-true, ltb-false}
 use Rattle.choice.specs.Choice.{when, maxU64}
 use Rattle.choice.proofs.Tests.{decide, and-left, and-right}
 use Rattle.rules.specs.Steps.{endedBy, Ordered}
-use Rattle.rules.proofs.Search.{Bracket, bracket-end}
+use Rattle.rules.proofs.Search.{bracket-end}
 use Rattle.table.specs.Layout.{segmentWords}
 use Rattle.table.specs.Steps.{endAt, Searchable, indexIn}
 use Rattle.lookups.specs.declared.Piece.{Piece}
-use Rattle.lookups.specs.Steps.{fromOf, endOf, pieceAt, Covers}
+use Rattle.lookups.specs.Steps.{pieceFrom, pieceEnd, pieceAt, Covers}
 
 -- ends up to the c-th are at most v, and the others, if any, aren't: c of them have ended
 split : (e : ℕ → ℕ) (n top v c : ℕ) → Ordered e n top → c ≤ n → (0 < c → e (c - 1) ≤ v) → (c < n → v < e c) → c ≡ endedBy e n v
@@ -28,7 +28,7 @@ split e n top v c o h below above =
     })
     (omega arith)
 
-module _ (u : List ℕ) (s : Searchable u) (k : ℕ) (h : k < length u / segmentWords) (frame : ℕ) (f : fromOf u k ≤ frame) where
+module _ (u : List ℕ) (s : Searchable u) (k : ℕ) (h : k < length u / segmentWords) (frame : ℕ) (f : pieceFrom u k ≤ frame) where
   -- the segments before k have ended
   begun : 0 < k → endAt u (k - 1) ≤ frame
   unfolding when
@@ -38,20 +38,20 @@ module _ (u : List ℕ) (s : Searchable u) (k : ℕ) (h : k < length u / segment
   unfolding indexIn
   inside g = omega (arith, split (endAt u) (length u / segmentWords) maxU64 frame k (s .ends) (omega arith) begun (λ _. g))
 
-  past : k + 1 ≡ length u / segmentWords → endAt u k ≤ frame → indexIn u frame ≡ k
+  beyond : k + 1 ≡ length u / segmentWords → endAt u k ≤ frame → indexIn u frame ≡ k
   unfolding indexIn
-  past e g =
+  beyond e g =
       omega (
         arith,
         split (endAt u) (length u / segmentWords) maxU64 frame (length u / segmentWords) (s .ends) (omega arith)
             (λ z. subst (λ (j : ℕ). endAt u j ≤ frame) (omega arith) g) (λ z. absurd (omega arith)),
       )
 
-  index-is : frame < endOf u k → indexIn u frame ≡ k
+  index-is : frame < pieceEnd u k → indexIn u frame ≡ k
   unfolding when
   index-is g =
       decide (eqb (k + 1) (length u / segmentWords))
-      (λ e. decide (ltb frame (endAt u k)) (λ l. inside (ltb-true _ _ l)) (λ l. past (eqb-true _ _ e) (ltb-false _ _ l)))
+      (λ e. decide (ltb frame (endAt u k)) (λ l. inside (ltb-true _ _ l)) (λ l. beyond (eqb-true _ _ e) (ltb-false _ _ l)))
       (λ e. inside (rw e at g))
 
 pub covers : (u : List ℕ) → Searchable u → (k : ℕ) → k < length u / segmentWords → Covers u (pieceAt u k)

@@ -13,8 +13,8 @@ use Rattle.slices.specs.Slices.{after}
 use Rattle.rules.specs.Records.{Table}
 use Rattle.rules.specs.Rules.{refusal}
 use Rattle.rules.specs.Lookups.{ended, overBy}
-use Rattle.lookups.specs.declared.Lookups.{Lookups}
-use Rattle.lookups.specs.declared.Lookups.the-variants.{Indices, NoIndices}
+use Rattle.lookups.specs.declared.Indexed.{Indexed}
+use Rattle.lookups.specs.declared.Indexed.the-variants.{Indices, NoIndices}
 
 -- of each frame, what the single lookup answers: the number of segments that have ended, at most the last index
 unfoldable pub indicesOf : Table → List ℕ → List ℕ
@@ -25,11 +25,11 @@ unfoldable pub indicesRefusal : Table → ℕ → ℕ → Refusal
 indicesRefusal t n room = orRefused (refusal t) (when (ltb room n) (At noRoom 0) Never)
 
 -- the number of indices, or the refusal
-unfoldable pub indexed : Refusal → ℕ → Lookups
+unfoldable pub indexed : Refusal → ℕ → Indexed
 indexed Never n = Indices n
 indexed (At n i) _ = NoIndices n i
 
 -- the segments of these frames were asked for: the answer r, and the room lent for their indices, before and afterwards
-pub record Indexing (t : Table) (frames out : List ℕ) (r : Lookups) (out′ : List ℕ) : Type 0 where
+pub record Indexing (t : Table) (frames out : List ℕ) (r : Indexed) (out′ : List ℕ) : Type 0 where
   pub answer : r ≡ indexed (indicesRefusal t (length frames) (length out)) (length frames)
   pub indices : out′ ≡ after (indicesRefusal t (length frames) (length out)) (indicesOf t frames) out

@@ -10,15 +10,15 @@ use Rattle.table.specs.Steps.{endAt, indexIn}
 use Rattle.lookups.specs.declared.Piece.{Piece}
 
 -- where the frames of segment k begin: where the one before it ends
-abbrev pub fromOf : List ℕ → ℕ → ℕ
-fromOf u k = when (eqb k 0) 0 (endAt u (k - 1))
+abbrev pub pieceFrom : List ℕ → ℕ → ℕ
+pieceFrom u k = when (eqb k 0) 0 (endAt u (k - 1))
 
--- where they end: those of the last segment, to which all frames past it go, never but for the largest number
-abbrev pub endOf : List ℕ → ℕ → ℕ
-endOf u k = when (eqb (k + 1) (length u / segmentWords)) maxU64 (endAt u k)
+-- where they end: the last segment has all frames past it too, of which the largest number alone is left to the search
+abbrev pub pieceEnd : List ℕ → ℕ → ℕ
+pieceEnd u k = when (eqb (k + 1) (length u / segmentWords)) maxU64 (endAt u k)
 
 abbrev pub pieceAt : List ℕ → ℕ → Piece
-pieceAt u k = record { index = k; from = fromOf u k; end = endOf u k }
+pieceAt u k = record { index = k; from = pieceFrom u k; end = pieceEnd u k }
 
 -- each frame of a piece has its index
 pub record Covers (u : List ℕ) (p : Piece) : Type 0 where

@@ -13,10 +13,10 @@ ghost use Rattle.slices.specs.Slices.{laid};
 ghost use Rattle.table.specs.Layout.{segmentWords, tableOf};
 ghost use Rattle.table.specs.Steps.{Searchable, indexIn};
 ghost use Rattle.lookups.specs.Indices.{Indexing};
-ghost use Rattle.lookups.specs.Steps.{fromOf, endOf, pieceAt, Covers};
+ghost use Rattle.lookups.specs.Steps.{pieceFrom, pieceEnd, pieceAt, Covers};
 
 // What `segments_of_frames` answers: how many indices it wrote, or a refusal's number and index.
-pub enum Lookups {
+pub enum Indexed {
     Indices(usize),
     NoIndices(u64, usize),
 }
@@ -29,9 +29,9 @@ pub struct Piece {
 }
 
 // Where the frames of segment k begin.
-fn from_of(u: &[u64], k: usize) -> u64
+fn piece_from(u: &[u64], k: usize) -> u64
     requires { ⌜ Searchable (now u) × (k < length (now u) / segmentWords) ⌝ }
-    ensures { λ r. ⌜ r ≡ fromOf (now (u .entry)) k ⌝ }
+    ensures { λ r. ⌜ r ≡ pieceFrom (now (u .entry)) k ⌝ }
 {
     if k == 0 {
         return 0;
@@ -40,9 +40,9 @@ fn from_of(u: &[u64], k: usize) -> u64
 }
 
 // Where they end. All frames past the table go to the last segment.
-fn end_of(u: &[u64], k: usize) -> u64
+fn piece_end(u: &[u64], k: usize) -> u64
     requires { ⌜ Searchable (now u) × (k < length (now u) / segmentWords) ⌝ }
-    ensures { λ r. ⌜ r ≡ endOf (now (u .entry)) k ⌝ }
+    ensures { λ r. ⌜ r ≡ pieceEnd (now (u .entry)) k ⌝ }
 {
     if k + 1 == u.len() / WORDS {
         return MAX_U64;
@@ -57,8 +57,8 @@ fn piece_at(u: &[u64], k: usize) -> Piece
 {
     Piece {
         index: k,
-        from: from_of(u, k),
-        end: end_of(u, k),
+        from: piece_from(u, k),
+        end: piece_end(u, k),
     }
 }
 
@@ -117,16 +117,16 @@ pub fn segments_of_frames(
     text: &[u8],
     frames: &[u64],
     out: &mut [u64],
-) -> Lookups
+) -> Indexed
     ensures { λ r. ⌜ Indexing (tableOf (now (sources .entry)) (now (u .entry)) (now (t .entry)) log (now (text .entry))) (now (frames .entry)) (now (out .entry)) r (now (out .exit)) ⌝ }
 {
     match table::check(sources, u, t, log, text) {
-        Checked::Refused(n, i) => return Lookups::NoIndices(n, i),
+        Checked::Refused(n, i) => return Indexed::NoIndices(n, i),
         Checked::Frames(_) => {}
     }
     if out.len() < frames.len() {
-        return Lookups::NoIndices(32, 0);
+        return Indexed::NoIndices(32, 0);
     }
     write_indices(u, frames, out);
-    Lookups::Indices(frames.len())
+    Indexed::Indices(frames.len())
 }

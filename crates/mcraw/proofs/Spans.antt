@@ -1,9 +1,8 @@
 -- Timestamps that ascend, and whose span an i64 holds: so it holds every interval and every start. Over ℤ, whatever the timestamps. Assumes nothing.
 use mathlib.Core.Path.{_≡_, refl, sym, ap, _∙_, subst}
 use mathlib.Core.Bool.{true, false}
-use mathlib.Core.List.{List, [], _∷_, map}
-use Prim.Native.Nat.{ℕ, zero, suc, _+_, _-_, _≤_, _<_, _^_}
-use native.Mathlib.Nat.{not-suc-le-zero, le-of-suc-le-suc}
+use mathlib.Core.List.{List}
+use Prim.Native.Nat.{ℕ, _+_, _-_, _≤_, _<_, _^_}
 use native.Mathlib.Omega.{arith}
 use lib.IntN.{ℤ, pos, negsuc, negℤ, natAbs, _+ℤ_, _-ℤ_, +ℤ-assoc, -ℤ-+ℤ-cancel}
 use lib.ListN.{length, getD, length-map}
@@ -13,6 +12,7 @@ use Rattle.choice.proofs.Tests.{decide, tf}
 use Rattle.signed.proofs.Order.{lt-not-le}
 use Rattle.slices.specs.Slices.{All}
 use Rattle.slices.proofs.Every.{all-at, all-of}
+use Rattle.slices.proofs.Lists.{map-at}
 use Rattle.order.specs.Order.{Asc}
 use Rattle.order.proofs.Sorted.{asc-le}
 use Rattle.mcraw.specs.Mcraw.{gaps, first, last, startsOf, span}
@@ -50,12 +50,7 @@ length-starts ts = length-map ts (λ t. t -ℤ first ts)
 
 pub start-at : (ts : List ℤ) (i : ℕ) → i < length ts → getD (startsOf ts) i (pos 0) ≡ getD ts i (pos 0) -ℤ first ts
 unfolding startsOf
-start-at ts i h = mapped (λ t. t -ℤ first ts) ts i h
-  where
-    mapped : (f : ℤ → ℤ) (l : List ℤ) (i : ℕ) → i < length l → getD (map f l) i (pos 0) ≡ f (getD l i (pos 0))
-    mapped f [] i h = absurd (not-suc-le-zero h)
-    mapped f (x ∷ l) zero h = refl
-    mapped f (x ∷ l) (suc i) h = mapped f l i (le-of-suc-le-suc h)
+start-at ts i h = map-at (λ t. t -ℤ first ts) ts i (pos 0) (pos 0) h
 
 pub start-fits : (ts : List ℤ) (i : ℕ) → i < length ts → All I64 (startsOf ts) → I64 (getD ts i (pos 0) -ℤ first ts)
 start-fits ts i h all = rw (start-at ts i h) at (all-at I64 (startsOf ts) i (pos 0) all (omega (arith, length-starts ts)))

@@ -3,21 +3,21 @@ use cases::lent;
 use cases::read;
 use cases::read::Cursor;
 use cases::say;
-use lookups::Lookups;
+use lookups::Indexed;
 
 // The most elements of lent room.
 const ROOM: usize = 64;
 
 // The line of indices that were written over lent room.
-fn say_indices(answer: Lookups, out: &[u64]) {
+fn say_indices(answer: Indexed, out: &[u64]) {
     match answer {
-        Lookups::Indices(n) => {
+        Indexed::Indices(n) => {
             say::accepted();
             say::value(n as u64);
             say::words(out, n);
             say::end(lent::kept_words(out, n));
         }
-        Lookups::NoIndices(number, index) => {
+        Indexed::NoIndices(number, index) => {
             say::refused(number, index);
             say::end(lent::kept_words(out, 0));
         }

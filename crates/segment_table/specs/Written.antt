@@ -17,7 +17,7 @@ use Rattle.slices.specs.Slices.{laid, after, zeros}
 use Rattle.mcraw.specs.Mcraw.{mcrawTimes, startsWritten}
 use Rattle.frame_times.specs.Times as moov
 use Rattle.judge.specs.Judge.{checkMcraw}
-use Rattle.told.specs.Told.{checkedTold, filledTold, lookupsTold, mappedTold, timesTold, moovTold}
+use Rattle.told.specs.Told.{checkedTold, filledTold, indexedTold, mappedTold, timesTold, moovTold}
 
 -- the rows of t were asked for: number, words, shifts, how many rows, index
 pub record RowedTold (t : Table) (ou : List ℕ) (os : List ℤ) (rows r : ℕ) (ou′ : List ℕ) (os′ : List ℤ) (rows′ index′ : ℕ) : Type 0 where
@@ -26,8 +26,8 @@ pub record RowedTold (t : Table) (ou : List ℕ) (os : List ℤ) (rows r : ℕ) 
   pub shifts : os′ ≡ after (table.rowsRefusal t (length ou) (length os)) (shiftsOf (table.rowsOf t)) os
 
 -- the segments of frames were asked for: number, indices, how many, index
-pub record IndexedTold (t : Table) (frames out : List ℕ) (written r : ℕ) (out′ : List ℕ) (written′ index′ : ℕ) : Type 0 where
-  pub told : (r, written′, index′) ≡ lookupsTold (indexed (indicesRefusal t (length frames) (length out)) (length frames)) written
+pub record IndexingTold (t : Table) (frames out : List ℕ) (written r : ℕ) (out′ : List ℕ) (written′ index′ : ℕ) : Type 0 where
+  pub told : (r, written′, index′) ≡ indexedTold (indexed (indicesRefusal t (length frames) (length out)) (length frames)) written
   pub indices : out′ ≡ after (indicesRefusal t (length frames) (length out)) (indicesOf t frames) out
 
 -- the rows m were asked for, or refused

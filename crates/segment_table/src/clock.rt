@@ -19,5 +19,5 @@ pub extern "C" fn st_is_utc_second(bytes: &[u8]) -> bool
 pub extern "C" fn st_ticks_to_us(ticks: i64, scale: u64, us: &mut i64, index: &mut u64) -> u64
     ensures { λ r. ⌜ (r, now (us .exit), now (index .exit)) ≡ usTold (ticksToUs ticks scale) (now (us .entry)) ⌝ }
 {
-    told::tell_us(ticks::ticks_to_us(ticks, scale), us, index)
+    told::clock::tell_us(ticks::ticks_to_us(ticks, scale), us, index)
 }

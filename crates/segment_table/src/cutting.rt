@@ -19,7 +19,7 @@ pub extern "C" fn st_cut(
     ensures { λ r. ⌜ CutTold (now (words .entry)) (now (shifts .entry)) a b (now («out_words» .entry)) (now («out_shifts» .entry)) (now (rows .entry)) r (now («out_words» .exit)) (now («out_shifts» .exit)) (now (rows .exit)) (now (index .exit)) ⌝ }
 {
     let mapped = maps::cut(words, shifts, a, b, out_words, out_shifts);
-    told::tell_mapped(mapped, rows, index)
+    told::cutting::tell_mapped(mapped, rows, index)
 }
 
 // Two maps as one, the second after the first.
@@ -46,7 +46,7 @@ pub extern "C" fn st_join(
         out_words,
         out_shifts,
     );
-    told::tell_mapped(mapped, rows, index)
+    told::cutting::tell_mapped(mapped, rows, index)
 }
 
 // A map with one row of neighbours that continue: the same source, frames that run on, flag and shift equal.
@@ -63,7 +63,7 @@ pub extern "C" fn st_merge(
     ensures { λ r. ⌜ MergeTold (now (words .entry)) (now (shifts .entry)) (now («out_words» .entry)) (now («out_shifts» .entry)) (now (rows .entry)) r (now («out_words» .exit)) (now («out_shifts» .exit)) (now (rows .exit)) (now (index .exit)) ⌝ }
 {
     let mapped = maps::merge(words, shifts, out_words, out_shifts);
-    told::tell_mapped(mapped, rows, index)
+    told::cutting::tell_mapped(mapped, rows, index)
 }
 
 // Where a frame comes from: its source, its frame there, the shift's flag (1 present, 0 absent) and the shift.
@@ -82,5 +82,5 @@ pub extern "C" fn st_origin(
     ensures { λ r. ⌜ (r, now (source .exit), now («source_frame» .exit), now (flag .exit), now (shift .exit), now (index .exit)) ≡ tracedTold (originOf (now (words .entry)) (now (shifts .entry)) frame) (now (source .entry)) (now («source_frame» .entry)) (now (flag .entry)) (now (shift .entry)) ⌝ }
 {
     let traced = maps::origin(words, shifts, frame);
-    told::tell_traced(traced, source, source_frame, flag, shift, index)
+    told::cutting::tell_traced(traced, source, source_frame, flag, shift, index)
 }

@@ -29,7 +29,7 @@ pub extern "C" fn st_validate_no_video(
         Video::Nothing,
         &times[..0],
     );
-    told::tell_refusal(judged, index)
+    told::judging::tell_refusal(judged, index)
 }
 
 // Judges a table by a video of video_frames frames at num / den a second: its frame total.
@@ -55,7 +55,7 @@ pub extern "C" fn st_validate_constant(
         den,
     };
     let judged = judge::validate(sources, segments, times, log, text, video, &times[..0]);
-    told::tell_checked(judged, frames, index)
+    told::tables::tell_checked(judged, frames, index)
 }
 
 // Judges a table by a video's frame times, in ticks of scale a second: its frame total. The last frame ends at end.
@@ -82,7 +82,7 @@ pub extern "C" fn st_validate_times(
         nominal,
     };
     let judged = judge::validate(sources, segments, times, log, text, video, starts);
-    told::tell_checked(judged, frames, index)
+    told::tables::tell_checked(judged, frames, index)
 }
 
 // Judges a table by the timestamps of a MotionCam recording's frames, in nanoseconds: its frame total. One timestamp is
@@ -114,5 +114,5 @@ pub extern "C" fn st_check_mcraw(
         work_a,
         work_b,
     );
-    told::tell_checked(judged, frames, index)
+    told::tables::tell_checked(judged, frames, index)
 }

@@ -19,5 +19,5 @@ pub extern "C" fn st_segment_of_frame_records(
     ensures { λ r. ⌜ (r, now (segment .exit), now (index .exit)) ≡ lookupTold (locate (now (sources .entry)) (now (text .entry)) (now (records .entry)) log frame) (now (segment .entry)) ⌝ }
 {
     let found = records::segment_of_frame_records(sources, text, records, log, frame);
-    told::tell_lookup(found, segment, index)
+    told::tables::tell_lookup(found, segment, index)
 }

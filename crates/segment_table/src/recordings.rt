@@ -20,7 +20,7 @@ pub extern "C" fn st_mcraw_times(
     ensures { λ r. ⌜ McrawTold (now (timestamps .entry)) (now (starts .entry)) (now (work .entry)) (now (frames .entry)) (now (scale .entry)) (now (nominal .entry)) (now (end .entry)) r (now (starts .exit)) (now (work .exit)) (now (frames .exit)) (now (scale .exit)) (now (nominal .exit)) (now (end .exit)) (now (index .exit)) ⌝ }
 {
     let times = mcraw::mcraw_times(timestamps, starts, work);
-    told::tell_times(times, frames, scale, nominal, end, index)
+    told::recordings::tell_times(times, frames, scale, nominal, end, index)
 }
 
 // The frame times of a moov's first video track: how many, their timescale, the nominal interval and the end; the starts
@@ -43,5 +43,5 @@ pub extern "C" fn st_video_frame_times_of_moov(
     ensures { λ r. ⌜ MoovTold (now (moov .entry)) (now (starts .entry)) (now («work_a» .entry)) (now («work_b» .entry)) (now (frames .entry)) (now (scale .entry)) (now (nominal .entry)) (now (end .entry)) r (now (starts .exit)) (now («work_a» .exit)) (now («work_b» .exit)) (now (frames .exit)) (now (scale .exit)) (now (nominal .exit)) (now (end .exit)) (now (index .exit)) ⌝ }
 {
     let times = frame_times::video_frame_times_of_moov(moov, starts, work_a, work_b);
-    told::tell_moov(times, frames, scale, nominal, end, index)
+    told::recordings::tell_moov(times, frames, scale, nominal, end, index)
 }

@@ -4,7 +4,7 @@ ghost use Rattle.rules.specs.Rules.{checkOf};
 ghost use Rattle.rules.specs.Lookups.{segmentOfFrame, segmentOfTime, continuesAt};
 ghost use Rattle.table.specs.Layout.{tableOf};
 ghost use Rattle.told.specs.Told.{checkedTold, lookupTold, continuedTold};
-ghost use Rattle.segment_table.specs.Written.{RowedTold, IndexedTold};
+ghost use Rattle.segment_table.specs.Written.{RowedTold, IndexingTold};
 
 // Checks a table: its frame total.
 // Lent: a table. Writes frames, index. Refuses: 1 to 17.
@@ -20,7 +20,7 @@ pub extern "C" fn st_check(
 ) -> u64
     ensures { λ r. ⌜ (r, now (frames .exit), now (index .exit)) ≡ checkedTold (checkOf (tableOf (now (sources .entry)) (now (segments .entry)) (now (times .entry)) log (now (text .entry)))) (now (frames .entry)) ⌝ }
 {
-    told::tell_checked(
+    told::tables::tell_checked(
         table::check(sources, segments, times, log, text),
         frames,
         index,
@@ -43,12 +43,13 @@ pub extern "C" fn st_segment_of_frame(
     ensures { λ r. ⌜ (r, now (segment .exit), now (index .exit)) ≡ lookupTold (segmentOfFrame (tableOf (now (sources .entry)) (now (segments .entry)) (now (times .entry)) log (now (text .entry))) frame) (now (segment .entry)) ⌝ }
 {
     let found = table::segment_of_frame(sources, segments, times, log, text, frame);
-    told::tell_lookup(found, segment, index)
+    told::tables::tell_lookup(found, segment, index)
 }
 
-// The segment of each frame of a list, which need not be in order: what st_segment_of_frame answers of each. The table is
-// checked once. An empty list is accepted.
-// Lent: a table, the frames, and room for as many segments. Writes the segments, written (how many), index. Refuses: 1 to 17, 32.
+// The segment of each frame of a list, in any order: what st_segment_of_frame answers of it. The table is checked once, also
+// for an empty list. The frames and out_segments may not be one array.
+// Lent: a table, the frames, and room for one index a frame. Writes out_segments, written (how many), index. Refuses: 1 to
+// 17, 32.
 #[no_mangle]
 pub extern "C" fn st_segments_of_frames(
     sources: &[u64],
@@ -61,7 +62,7 @@ pub extern "C" fn st_segments_of_frames(
     written: &mut u64,
     index: &mut u64,
 ) -> u64
-    ensures { λ r. ⌜ IndexedTold (tableOf (now (sources .entry)) (now (segments .entry)) (now (times .entry)) log (now (text .entry))) (now (frames .entry)) (now («out_segments» .entry)) (now (written .entry)) r (now («out_segments» .exit)) (now (written .exit)) (now (index .exit)) ⌝ }
+    ensures { λ r. ⌜ IndexingTold (tableOf (now (sources .entry)) (now (segments .entry)) (now (times .entry)) log (now (text .entry))) (now (frames .entry)) (now («out_segments» .entry)) (now (written .entry)) r (now («out_segments» .exit)) (now (written .exit)) (now (index .exit)) ⌝ }
 {
     let found = lookups::segments_of_frames(
         sources,
@@ -72,7 +73,7 @@ pub extern "C" fn st_segments_of_frames(
         frames,
         out_segments,
     );
-    told::tell_lookups(found, written, index)
+    told::tables::tell_indexed(found, written, index)
 }
 
 // The segment of a time in microseconds: the number of segments that end at or before it, at most the last index.
@@ -91,7 +92,7 @@ pub extern "C" fn st_segment_of_time_us(
     ensures { λ r. ⌜ (r, now (segment .exit), now (index .exit)) ≡ lookupTold (segmentOfTime (tableOf (now (sources .entry)) (now (segments .entry)) (now (times .entry)) log (now (text .entry))) time) (now (segment .entry)) ⌝ }
 {
     let found = table::segment_of_time_us(sources, segments, times, log, text, time);
-    told::tell_lookup(found, segment, index)
+    told::tables::tell_lookup(found, segment, index)
 }
 
 // Whether a segment continues the one before it: the same source, source frames that run on, equal shift. Answers 1 or
@@ -111,7 +112,7 @@ pub extern "C" fn st_continues(
     ensures { λ r. ⌜ (r, now (answer .exit), now (index .exit)) ≡ continuedTold (continuesAt (tableOf (now (sources .entry)) (now (segments .entry)) (now (times .entry)) log (now (text .entry))) segment) (now (answer .entry)) ⌝ }
 {
     let continued = table::continues(sources, segments, times, log, text, segment as usize);
-    told::tell_continued(continued, answer, index)
+    told::tables::tell_continued(continued, answer, index)
 }
 
 // The map of an accepted table: one row a segment, an absent shift as 0.
@@ -131,5 +132,5 @@ pub extern "C" fn st_rows_of_table(
     ensures { λ r. ⌜ RowedTold (tableOf (now (sources .entry)) (now (segments .entry)) (now (times .entry)) log (now (text .entry))) (now («out_words» .entry)) (now («out_shifts» .entry)) (now (rows .entry)) r (now («out_words» .exit)) (now («out_shifts» .exit)) (now (rows .exit)) (now (index .exit)) ⌝ }
 {
     let filled = table::rows_of_table(sources, segments, times, log, text, out_words, out_shifts);
-    told::tell_filled(filled, rows, index)
+    told::tables::tell_filled(filled, rows, index)
 }

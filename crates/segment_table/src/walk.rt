@@ -16,7 +16,7 @@ pub extern "C" fn st_box_size(
 ) -> u64
     ensures { λ r. ⌜ (r, now (size .exit), now (header .exit), now (index .exit)) ≡ sizeTold (boxSize (now («data» .entry)) remaining) (now (size .entry)) (now (header .entry)) ⌝ }
 {
-    told::tell_size(boxes::box_size(data, remaining), size, header, index)
+    told::walk::tell_size(boxes::box_size(data, remaining), size, header, index)
 }
 
 // The box at offset `at` of payload: its type (`kind`, its four bytes, big-endian), where its payload lies, and where the
@@ -36,7 +36,7 @@ pub extern "C" fn st_children(
     ensures { λ r. ⌜ (r, now (kind .exit), now (start .exit), now (length .exit), now (next .exit), now (index .exit)) ≡ reachedTold (childrenAt (now (payload .entry)) at) (now (kind .entry)) (now (start .entry)) (now (length .entry)) (now (next .entry)) ⌝ }
 {
     let reached = boxes::children(payload, at as usize);
-    told::tell_reached(reached, kind, start, length, next, index)
+    told::walk::tell_reached(reached, kind, start, length, next, index)
 }
 
 // Where the payload of the first child of a type lies in payload; `kind` is the type's four bytes, big-endian.
@@ -51,7 +51,7 @@ pub extern "C" fn st_child(
 ) -> u64
     ensures { λ r. ⌜ (r, now (start .exit), now (length .exit), now (index .exit)) ≡ placeTold (childPlace (now (payload .entry)) kind) (now (start .entry)) (now (length .entry)) ⌝ }
 {
-    told::tell_place(boxes::child_place(payload, kind), start, length, index)
+    told::walk::tell_place(boxes::child_place(payload, kind), start, length, index)
 }
 
 // Where the payload of the first box of a type among those of from..to lies in bytes. With text_types the search ends
@@ -71,7 +71,7 @@ pub extern "C" fn st_find_box(
     ensures { λ r. ⌜ (r, now (start .exit), now (length .exit), now (index .exit)) ≡ placeTold (findBoxPlace (now (bytes .entry)) from to kind «text_types») (now (start .entry)) (now (length .entry)) ⌝ }
 {
     let place = boxes::find_box_place(bytes, from as usize, to as usize, kind, text_types);
-    told::tell_place(place, start, length, index)
+    told::walk::tell_place(place, start, length, index)
 }
 
 // Where a file's segment table has its text: the payload of the only moov/udta/MTRM box.
@@ -85,5 +85,5 @@ pub extern "C" fn st_table_text(
 ) -> u64
     ensures { λ r. ⌜ (r, now (start .exit), now (length .exit), now (index .exit)) ≡ placeTold (tableTextPlace (now (file .entry))) (now (start .entry)) (now (length .entry)) ⌝ }
 {
-    told::tell_place(boxes::table_text_place(file), start, length, index)
+    told::walk::tell_place(boxes::table_text_place(file), start, length, index)
 }

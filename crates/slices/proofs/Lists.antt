@@ -1,7 +1,8 @@
 -- Loops that write a slice from its start, over any element type, at the code's `i + 1`. Assumes nothing.
 --     fill-, copy-     a store after i stores, and the end, where a slice is filled or copied over
+--     map-             what a map has at k, and maps of functions that agree
 use mathlib.Core.Path.{_≡_, refl, ap}
-use mathlib.Core.List.{List, [], _∷_, _++_, append-nil}
+use mathlib.Core.List.{List, [], _∷_, _++_, append-nil, map}
 use Prim.Native.Nat.{ℕ, zero, suc, _+_, _<_}
 use native.Mathlib.Nat.{not-suc-le-zero, le-of-suc-le-suc}
 use native.Mathlib.Numerals.{add-one}
@@ -33,3 +34,12 @@ copy-more src dst i d h k = rw add-one (store-suc src dst i d h k)
 
 pub copy-all : {A : Type 0} (src dst : List A) (i : ℕ) → i ≡ length src → take i src ++ drop i dst ≡ src ++ drop (length src) dst
 copy-all src dst i e = rw (e, take-all (length src) src (native.Mathlib.Nat.le-refl (length src)))
+
+pub map-at : {A B : Type 0} (f : A → B) (l : List A) (k : ℕ) (d : B) (e : A) → k < length l → getD (map f l) k d ≡ f (getD l k e)
+map-at f [] k d e h = absurd (not-suc-le-zero h)
+map-at f (x ∷ l) zero d e h = refl
+map-at f (x ∷ l) (suc k) d e h = map-at f l k d e (le-of-suc-le-suc h)
+
+pub map-same : {A B : Type 0} (f g : A → B) → ((x : A) → f x ≡ g x) → (l : List A) → map f l ≡ map g l
+map-same f g h [] = refl
+map-same f g h (x ∷ l) = λ i. h x i ∷ map-same f g h l i

@@ -19,7 +19,7 @@ use Rattle.rules.specs.declared.Continued.the-variants.{Answer, NoAnswer}
 use Rattle.rules.specs.Limits.{maxI64}
 use Rattle.rules.specs.Records.{Segment, noSegment, segment, outEnd, outEndUs}
 use Rattle.rules.specs.Rules.{negative, checkOf}
-use Rattle.rules.specs.Lookups.{countSuch, ended, overBy, overByUs, lookedUp, segmentOfFrame, segmentOfTime, segmentRunsOn, continued, continuesAt}
+use Rattle.rules.specs.Lookups.{ended, overBy, overByUs, lookedUp, segmentOfFrame, segmentOfTime, segmentRunsOn, continued, continuesAt}
 use Rattle.rules.specs.Steps.{endedBy, Ordered}
 use Rattle.rules.proofs.Accepted.{Accepted, accepted}
 use Rattle.rules.proofs.Search.{count-none, count-ended, ordered-same, frames-ordered, times-ordered}

@@ -18,8 +18,8 @@ use Rattle.rules.specs.declared.Continued.{Continued}
 use Rattle.rules.specs.declared.Continued.the-variants as continued
 use Rattle.table.specs.declared.Filled.{Filled}
 use Rattle.table.specs.declared.Filled.the-variants as filled
-use Rattle.lookups.specs.declared.Lookups.{Lookups}
-use Rattle.lookups.specs.declared.Lookups.the-variants as lookups
+use Rattle.lookups.specs.declared.Indexed.{Indexed}
+use Rattle.lookups.specs.declared.Indexed.the-variants as indexed
 use Rattle.frame_times.specs.declared.FrameTimes.{FrameTimes}
 use Rattle.frame_times.specs.declared.FrameTimes.the-variants as moov
 use Rattle.mcraw.specs.declared.RecordingTimes.{RecordingTimes}
@@ -75,9 +75,9 @@ filledTold (filled.Rows k) rows = (0, k, 0)
 filledTold (filled.NoRows n i) rows = (n, rows, i)
 
 -- how many indices
-unfoldable pub lookupsTold : Lookups → ℕ → ℕ × ℕ × ℕ
-lookupsTold (lookups.Indices k) written = (0, k, 0)
-lookupsTold (lookups.NoIndices n i) written = (n, written, i)
+unfoldable pub indexedTold : Indexed → ℕ → ℕ × ℕ × ℕ
+indexedTold (indexed.Indices k) written = (0, k, 0)
+indexedTold (indexed.NoIndices n i) written = (n, written, i)
 
 unfoldable pub mappedTold : Mapped → ℕ → ℕ × ℕ × ℕ
 mappedTold (mapped.Rows k) rows = (0, k, 0)

@@ -4,7 +4,7 @@ use Rattle.lookups.proofs.piece_at.Statement.{statement}
 use Rattle.lookups.proofs.piece_at.Tie as tie
 
 returns : tie.Need-returns
-returns c = rw (c .end-of .ensures, c .before .from-of .ensures) refl
+returns c = rw (c .piece-end .ensures, c .before .piece-from .ensures) refl
 
 pub piece-at-spec : {M : Type 1} → statement M
 piece-at-spec = tie.close (tie.spec (λ c κs. search needs) (λ c κs. search needs) returns)

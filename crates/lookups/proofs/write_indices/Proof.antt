@@ -1,13 +1,12 @@
-use Prim.Native.Nat.{ℕ, _-_, _≤_, zero-le}
+use Prim.Native.Nat.{_-_, _≤_, zero-le}
 use mathlib.Core.List.{_++_, map}
 use mathlib.Core.Path.{_≡_, refl, sym, _∙_}
 use native.Mathlib.Omega.{arith}
 use lib.ListN.{length, getD, set, take, drop, length-set, length-map}
-use Rattle.slices.proofs.Lists.{copy-more, copy-all}
+use Rattle.slices.proofs.Lists.{copy-more, copy-all, map-at}
 use Rattle.table.specs.Steps.{indexIn}
 use Rattle.lookups.specs.Steps.{Covers}
 use Rattle.lookups.proofs.Pieces.{covers}
-use Rattle.lookups.proofs.Indexed.{map-at}
 use Rattle.lookups.proofs.write_indices.Statement.{statement}
 use Rattle.lookups.proofs.write_indices.Tie as tie
 
@@ -33,7 +32,7 @@ loop-again c =
     let v = c .before .before .before .before .before .before .before .before in
     let answers = map (indexIn (v .args .u .now)) (v .args .frames .now) in
     let n = length-map (v .args .frames .now) (indexIn (v .args .u .now)) in
-    let is : c .piece-of .result .index ≡ getD answers (l .k) 0 = c .piece-of .ensures .1 ∙ sym (map-at (indexIn (v .args .u .now)) (v .args .frames .now) (l .k) (c .before .before .loop-test .taken)) in (
+    let is : c .piece-of .result .index ≡ getD answers (l .k) 0 = c .piece-of .ensures .1 ∙ sym (map-at (indexIn (v .args .u .now)) (v .args .frames .now) (l .k) 0 0 (c .before .before .loop-test .taken)) in (
       omega arith,
       length-set (l .out) (l .k) (c .piece-of .result .index) ∙ l .inv .1,
       (λ i. set (l .inv .2 i) (l .k) (is i)) ∙ copy-more answers (v .args .out .now) (l .k) 0 (omega (arith, n)) (omega (arith, v .pre .1)),

@@ -53,10 +53,10 @@ use Rattle.records.proofs.segment_of_frame_records.Symbol as lookup-def
 use Rattle.records.proofs.segment_of_frame_records.Symbol.{name as #lookup}
 use Rattle.records.proofs.segment_of_frame_records.Met as lookup-thm
 use Rattle.told.specs.Told.{lookupTold}
-use Rattle.told.proofs.tell_lookup as tell
-use Rattle.told.proofs.tell_lookup.Symbol as tell-def
-use Rattle.told.proofs.tell_lookup.Symbol.{name as #tell}
-use Rattle.told.proofs.tell_lookup.Met as tell-thm
+use Rattle.told.proofs.tables.tell_lookup as tell
+use Rattle.told.proofs.tables.tell_lookup.Symbol as tell-def
+use Rattle.told.proofs.tables.tell_lookup.Symbol.{name as #tell}
+use Rattle.told.proofs.tables.tell_lookup.Met as tell-thm
 use Rattle.segment_table.proofs.listed.st_segment_of_frame_records.Key.{name as #listed}
 use Rattle.segment_table.proofs.listed.st_segment_of_frame_records as f
 use Rattle.segment_table.proofs.listed.st_segment_of_frame_records.Statement as stated
@@ -217,4 +217,4 @@ st-segment-of-frame-records-spec 𝓤 H 𝓜 𝓖 𝓡 =
     (tables 𝓤 H 𝓜 𝓡 code.env .C) (tables 𝓤 H 𝓜 𝓡 code.env .Λ) #listed code.function (code.unfolded 𝓤 H 𝓜 𝓡)
     (listed-meets 𝓤 H (𝓖 .A) (givenOf 𝓤 H 𝓜 𝓖) (𝓜 .mem) (𝓡 .run) (tablesOf 𝓤 H 𝓜 (tables 𝓤 H 𝓜 𝓡 code.env))
     (cited 𝓤 H (Look 𝓤 H (𝓖 .A) (𝓜 .mem) (𝓡 .run)) 𝓜 𝓡 code.env #lookup lookup-def.routine code.calls-records·segment-of-frame-records (lookup-thm.met 𝓤 H 𝓜 𝓖 𝓡))
-    (cited 𝓤 H (Tell 𝓤 H (𝓖 .A) (𝓜 .mem) (𝓡 .run)) 𝓜 𝓡 code.env #tell tell-def.routine code.calls-told·tell-lookup (tell-thm.met 𝓤 H 𝓜 𝓖 𝓡)))
+    (cited 𝓤 H (Tell 𝓤 H (𝓖 .A) (𝓜 .mem) (𝓡 .run)) 𝓜 𝓡 code.env #tell tell-def.routine code.calls-told·tables·tell-lookup (tell-thm.met 𝓤 H 𝓜 𝓖 𝓡)))

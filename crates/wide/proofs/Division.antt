@@ -15,19 +15,10 @@ divided rest digit d hr hl hd = record {
   small = div-lt-iff-lt-mul {k = d} {x = rest * 4294967296 + digit} {y = 4294967296} (omega arith) .1 (omega arith);
 }
 
--- four steps, in any base P
-four : (P h₁ h₀ l₁ l₀ d q₃ r₃ q₂ r₂ q₁ r₁ q₀ r₀ : ℕ) → q₃ * d + r₃ ≡ h₁ → q₂ * d + r₂ ≡ r₃ * P + h₀ → q₁ * d + r₁ ≡ r₂ * P + l₁ → q₀ * d + r₀ ≡ r₁ * P + l₀ →
-    (h₁ * P + h₀) * (P * P) + (l₁ * P + l₀) ≡ ((q₃ * P + q₂) * (P * P) + (q₁ * P + q₀)) * d + r₀
-four P h₁ h₀ l₁ l₀ d q₃ r₃ q₂ r₂ q₁ r₁ q₀ r₀ e₃ e₂ e₁ e₀ =
-    omega (arith, ap (λ (x : ℕ). x * (P * P * P)) e₃, ap (λ (x : ℕ). x * (P * P)) e₂, ap (λ (x : ℕ). x * P) e₁)
+-- a word after nothing and a word after its remainder, in any base P
+pub both-words : (P hi lo d q₁ r₁ q₀ r₀ : ℕ) → q₁ * d + r₁ ≡ 0 * P + hi → q₀ * d + r₀ ≡ r₁ * P + lo → (q₁ * P + q₀) * d + r₀ ≡ hi * P + lo
+both-words P hi lo d q₁ r₁ q₀ r₀ e₁ e₀ = omega (arith, ap (λ (x : ℕ). x * P) e₁)
 
--- the four digits make up the quotient
-pub quotient-is : (hi lo d : ℕ) {a b c e : Digit} → Divided 0 (hi / 4294967296) d a → Divided (a .rest) (hi % 4294967296) d b → Divided (b .rest) (lo / 4294967296) d c → Divided (c .rest) (lo % 4294967296) d e →
-    (a .quotient * 4294967296 + b .quotient) * 2 ^ 64 + (c .quotient * 4294967296 + e .quotient) ≡ (hi * 2 ^ 64 + lo) / d
-quotient-is hi lo d {a} {b} {c} {e} A B C E =
-    let q = (a .quotient * 4294967296 + b .quotient) * 2 ^ 64 + (c .quotient * 4294967296 + e .quotient) in
-    let n : hi * 2 ^ 64 + lo ≡ q * d + e .rest =
-    sym (λ i. div-add-mod' hi 4294967296 i * 2 ^ 64 + div-add-mod' lo 4294967296 i)
-    ∙ four 4294967296 (hi / 4294967296) (hi % 4294967296) (lo / 4294967296) (lo % 4294967296) d (a .quotient) (a .rest) (b .quotient) (b .rest) (c .quotient) (c .rest) (e .quotient) (e .rest)
-    (omega (arith, A .is)) (B .is) (C .is) (E .is) in
-    sym (ap (λ (n : ℕ). n / d) n ∙ digits-div q {m = d} {r = e .rest} (E .left))
+-- what a remainder below d is left of is the quotient
+pub quotient-is : {n d : ℕ} (q r : ℕ) → q * d + r ≡ n → r < d → q ≡ n / d
+quotient-is {n} {d} q r e h = sym (ap (λ (m : ℕ). m / d) (sym e) ∙ digits-div q {m = d} {r = r} h)

@@ -94,17 +94,35 @@ fn next_digit(rest: u64, digit: u64, d: u64) -> Digit
     }
 }
 
-// w / d, by long division with digits of 32 bits and one running remainder.
+// The same with a whole word after the remainder, in two steps.
+fn next_word(rest: u64, word: u64, d: u64) -> Digit
+    requires { ⌜ (rest < d) × (d < 2 ^ 32) ⌝ }
+    ensures { λ r. ⌜ (r .quotient * d + r .rest ≡ rest * 2 ^ 64 + word) × (r .rest < d) ⌝ }
+{
+    let q1 = next_digit(rest, word / 0x1_0000_0000, d);
+    let q0 = next_digit(q1.rest, word % 0x1_0000_0000, d);
+    Digit {
+        quotient: q1.quotient * 0x1_0000_0000 + q0.quotient,
+        rest: q0.rest,
+    }
+}
+
+// w / d, by long division with digits of 32 bits and one running remainder. An upper word below d is that remainder already.
 pub fn quotient(w: Wide, d: u64) -> Wide
     requires { ⌜ (0 < d) × (d < 2 ^ 32) ⌝ }
     ensures { λ r. ⌜ value r ≡ value w / d ⌝ }
 {
-    let q3 = next_digit(0, w.hi / 0x1_0000_0000, d);
-    let q2 = next_digit(q3.rest, w.hi % 0x1_0000_0000, d);
-    let q1 = next_digit(q2.rest, w.lo / 0x1_0000_0000, d);
-    let q0 = next_digit(q1.rest, w.lo % 0x1_0000_0000, d);
+    if w.hi < d {
+        let only = next_word(w.hi, w.lo, d);
+        return Wide {
+            hi: 0,
+            lo: only.quotient,
+        };
+    }
+    let upper = next_word(0, w.hi, d);
+    let lower = next_word(upper.rest, w.lo, d);
     Wide {
-        hi: q3.quotient * 0x1_0000_0000 + q2.quotient,
-        lo: q1.quotient * 0x1_0000_0000 + q0.quotient,
+        hi: upper.quotient,
+        lo: lower.quotient,
     }
 }

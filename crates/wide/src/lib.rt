@@ -82,12 +82,18 @@ pub fn at_most(a: Wide, b: Wide) -> bool
     }
 }
 
-// One step of a long division by d: the remainder so far and the next digit of 32 bits fit one word.
+// One step of a long division by d: the remainder so far and the next digit of 32 bits fit one word. Below d nothing need be divided.
 fn next_digit(rest: u64, digit: u64, d: u64) -> Digit
     requires { ⌜ (rest < d) × (digit < 2 ^ 32) × (d < 2 ^ 32) ⌝ }
     ensures { λ r. ⌜ Divided rest digit d r ⌝ }
 {
     let n = rest * 0x1_0000_0000 + digit;
+    if n < d {
+        return Digit {
+            quotient: 0,
+            rest: n,
+        };
+    }
     Digit {
         quotient: n / d,
         rest: n % d,

@@ -17,7 +17,7 @@ pub struct Big {
     pub mag: Wide,
 }
 
-// A digit of a quotient, and the remainder after it.
+// A digit of a quotient, or the two that fill a word, and the remainder after it.
 pub struct Digit {
     pub quotient: u64,
     pub rest: u64,

@@ -68,12 +68,12 @@ const SCALES: [u64; 28] = [
     2_147_483_648, GREATEST_SCALE - 1, GREATEST_SCALE, GREATEST_SCALE + 1, 1 << 63, u64::MAX,
 ];
 
-/// Every pair of an edge of i64, of the range of µs, of a quotient of one word, or of a half, and a scale
+/// Every pair of an edge of i64, of the range of µs, of a quotient of one digit or of one word, or of a half, and a scale
 pub fn every_edge(emit: Emit) {
     for scale in SCALES {
         let ticks_of = |us: i128| (us.saturating_mul(scale as i128) / 1_000_000).min(i64::MAX as i128) as i64;
-        let (most, word) = (ticks_of(i64::MAX as i128), ticks_of(1 << 64));
-        for middle in [0, 1001, i64::MAX, i64::MIN, most, -most, word, -word, scale as i64, scale as i64 / 2, i64::MAX / 1_000_000, i64::MIN / 1_000_000] {
+        let (most, digit, word) = (ticks_of(i64::MAX as i128), ticks_of(1 << 32), ticks_of(1 << 64));
+        for middle in [0, 1001, i64::MAX, i64::MIN, most, -most, digit, -digit, word, -word, scale as i64, scale as i64 / 2, i64::MAX / 1_000_000, i64::MIN / 1_000_000] {
             for step in -50..=50 { emit(Case::TicksToUs { ticks: middle.saturating_add(step), scale }); }
         }
     }

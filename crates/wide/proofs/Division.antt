@@ -15,10 +15,10 @@ divided rest digit d hr hl hd = record {
   small = div-lt-iff-lt-mul {k = d} {x = rest * 4294967296 + digit} {y = 4294967296} (omega arith) .1 (omega arith);
 }
 
--- a word after nothing and a word after its remainder, in any base P
+-- the upper word, then the lower one after its remainder, in any base P
 pub both-words : (P hi lo d q₁ r₁ q₀ r₀ : ℕ) → q₁ * d + r₁ ≡ 0 * P + hi → q₀ * d + r₀ ≡ r₁ * P + lo → (q₁ * P + q₀) * d + r₀ ≡ hi * P + lo
 both-words P hi lo d q₁ r₁ q₀ r₀ e₁ e₀ = omega (arith, ap (λ (x : ℕ). x * P) e₁)
 
--- what a remainder below d is left of is the quotient
+-- where q times d leaves less than d, q is the quotient
 pub quotient-is : {n d : ℕ} (q r : ℕ) → q * d + r ≡ n → r < d → q ≡ n / d
 quotient-is {n} {d} q r e h = sym (ap (λ (m : ℕ). m / d) (sym e) ∙ digits-div q {m = d} {r = r} h)

@@ -10,6 +10,6 @@ pub record Divided (rest digit d : ℕ) (r : Digit) : Type 0 where
   pub left : r .rest < d
   pub small : r .quotient < 2 ^ 32
 
--- so a remainder of at most 32 bits goes on, and one word holds it with the next digit
+-- where d has at most 32 bits, so has the remainder, and one word holds it with the next digit
 pub one-word : (rest digit d : ℕ) → rest < d → digit < 2 ^ 32 → d < 2 ^ 32 → rest * 2 ^ 32 + digit < 2 ^ 64
 one-word rest digit d hr hl hd = omega arith

@@ -17,7 +17,7 @@ pub struct Big {
     pub mag: Wide,
 }
 
-// A digit of a quotient, or the two that fill a word, and the remainder after it.
+// A digit of a quotient, in base 2^32 or in base 2^64, and the remainder after it.
 pub struct Digit {
     pub quotient: u64,
     pub rest: u64,
@@ -82,7 +82,8 @@ pub fn at_most(a: Wide, b: Wide) -> bool
     }
 }
 
-// One step of a long division by d: the remainder so far and the next digit of 32 bits fit one word. Below d nothing need be divided.
+// One step of a long division by d: the remainder so far and the next digit of 32 bits fit one word. A word below d is the
+// remainder again, and nothing is divided.
 fn next_digit(rest: u64, digit: u64, d: u64) -> Digit
     requires { ⌜ (rest < d) × (digit < 2 ^ 32) × (d < 2 ^ 32) ⌝ }
     ensures { λ r. ⌜ Divided rest digit d r ⌝ }
@@ -100,7 +101,7 @@ fn next_digit(rest: u64, digit: u64, d: u64) -> Digit
     }
 }
 
-// The same with a whole word after the remainder, in two steps.
+// The same with a word for the next digit, in two steps of 32 bits.
 fn next_word(rest: u64, word: u64, d: u64) -> Digit
     requires { ⌜ (rest < d) × (d < 2 ^ 32) ⌝ }
     ensures { λ r. ⌜ (r .quotient * d + r .rest ≡ rest * 2 ^ 64 + word) × (r .rest < d) ⌝ }

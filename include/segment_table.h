@@ -32,9 +32,10 @@
  * smallest; of a recording the middle interval, the lower of two.
  *
  * Refusals. The index is the source in 4 to 7, the segment in 9 to 17, 23 and 24, the later timestamp of the first falling
- * pair in 34, the row in 51 (0 for slice lengths or no rows, which are tested first), else 0. Each call names its refusals
- * in the order of its tests: 4 to 7 source by source, 9 to 17 and 23 with 24 segment by segment, a join's 51 of its first
- * map and then of its second.
+ * pair in 34, the range in 50 of st_cuts (a last one without its end is tested first), the row in 51 (0 for slice lengths or
+ * no rows, which are tested first), else 0. Each call names its refusals in the order of its tests: 4 to 7 source by
+ * source, 9 to 17 and 23 with 24 segment by segment, 50 of st_cuts range by range, a join's 51 of its first map and then of
+ * its second.
  *  1 a slice length isn't a multiple of its record, the two segment slices disagree, a flag or kind is outside its set,
  *    or a present creation time's range leaves the text
  *  2 over 64 sources or 512 segments
@@ -70,9 +71,9 @@
  * 40 no MTRM box: no moov, no udta in it, or none in that
  * 41 more than one MTRM box
  * 42 a search range outside the bytes, or starting past its end; an offset past the bytes
- * 50 cut range: a >= b, or b past the map
+ * 50 cut range: a >= b, or b past the map; of st_cuts also an odd number of words
  * 51 map rows malformed, slice lengths that disagree, or no rows
- * 52 over 1,024 rows in or out, or lent room too small
+ * 52 over 1,024 rows in or out (all cuts of st_cuts together may have more), or lent room too small
  * 53 joined frames pass 2^64 - 1
  * 54 frame past the map */
 #ifndef SEGMENT_TABLE_H
@@ -97,7 +98,7 @@ bool st_is_utc_second(const uint8_t *bytes, size_t bytes_len);
  * Lent: nothing. Writes us, index. Refuses: 20, 23. */
 uint64_t st_ticks_to_us(int64_t ticks, uint64_t scale, int64_t *us, uint64_t *index);
 
-/* ---- Maps: cut, join, merge, and the origin of a frame. */
+/* ---- Maps: cut, many cuts, join, merge, and the origin of a frame. */
 
 /* The frames a..b of a map as a map: each row's overlap, counted from a.
  * Lent: a map, and room for the rows. Writes the rows, rows (how many), index. Refuses: 51, 52, 50, 52.
@@ -105,6 +106,15 @@ uint64_t st_ticks_to_us(int64_t ticks, uint64_t scale, int64_t *us, uint64_t *in
 uint64_t st_cut(const uint64_t *words, size_t words_len, const int64_t *shifts, size_t shifts_len, uint64_t a,
                 uint64_t b, uint64_t *out_words, size_t out_words_len, int64_t *out_shifts,
                 size_t out_shifts_len, uint64_t *rows, uint64_t *index);
+
+/* Cuts of several ranges of a map, which is tested once: of each range the rows that st_cut writes, one cut after the other.
+ * Lent: a map; ranges, two words each, a and b, or none; room for the rows of all cuts, and for a count of each. Writes the
+ * rows, counts (how many each cut has), rows (how many in all, which may be over 1,024), index. Refuses: 51, 52, 50, 52.
+ * A null pointer only with length 0; what is written overlaps nothing else, or memory may be corrupted. */
+uint64_t st_cuts(const uint64_t *words, size_t words_len, const int64_t *shifts, size_t shifts_len,
+                 const uint64_t *ranges, size_t ranges_len, uint64_t *out_words, size_t out_words_len,
+                 int64_t *out_shifts, size_t out_shifts_len, uint64_t *counts, size_t counts_len,
+                 uint64_t *rows, uint64_t *index);
 
 /* Two maps as one, the second after the first.
  * Lent: two maps, and room for the rows. Writes the rows, rows (how many), index. Refuses: 51 (of the first map, then of the

@@ -27,14 +27,21 @@ static uint8_t *full(uint8_t *to, const char *kind, const uint32_t *words, uint3
     return to;
 }
 
-/* The payload of a moov of one video track, whose runs of durations are given; how long it is. */
-static size_t make_moov(uint8_t *at, uint32_t scale, const uint32_t *runs, uint32_t count) {
-    uint32_t entries[9] = {count / 2}, tables = 12 + 4 * (count + 1), media = 24 + 20 + 8 + 8 + tables;
+/* The payload of a moov of one video track, with the words of its stts and, where there are some, of its ctts; how long it is. */
+static size_t make_movie(uint8_t *at, uint32_t scale, const uint32_t *stts, uint32_t n, const uint32_t *ctts, uint32_t m) {
+    uint32_t tables = 12 + 4 * n + (m ? 12 + 4 * m : 0), media = 24 + 20 + 8 + 8 + tables;
     uint8_t *to = full(at, "mvhd", (const uint32_t[]){0, 0, 100}, 3);
-    memcpy(entries + 1, runs, count * sizeof *runs);
     to = box(box(to, "trak", media + 8), "mdia", media);
     to = full(to, "mdhd", (const uint32_t[]){0, 0, scale}, 3);
     to = full(to, "hdlr", (const uint32_t[]){0, code("vide")}, 2);
     to = box(box(to, "minf", tables + 8), "stbl", tables);
-    return (size_t)(full(to, "stts", entries, count + 1) - at);
+    to = full(to, "stts", stts, n);
+    return (size_t)((m ? full(to, "ctts", ctts, m) : to) - at);
+}
+
+/* The same of at most four runs of durations. */
+static size_t make_moov(uint8_t *at, uint32_t scale, const uint32_t *runs, uint32_t count) {
+    uint32_t entries[9] = {count / 2};
+    memcpy(entries + 1, runs, count * sizeof *runs);
+    return make_movie(at, scale, entries, count + 1, NULL, 0);
 }

@@ -307,6 +307,71 @@ static void map_calls(void) {
     REFUSED_AT(51, 0, st_origin(NULL, 0, NULL, 0, 0, &x, &y, &z, &p, &at));
 }
 
+/* The cuts of a list: of each range what the single one writes, in any order, into room for twelve rows and four numbers. */
+static void cut_calls(void) {
+    const uint64_t map[15] = {0, 10, 30, 0, 0, 1, 5, 20, 30, 1, 0, 90, 1, 50, 0}, full[5] = {0, 0, MOST, 0, 0};
+    const uint64_t gap[15] = {0, 10, 30, 0, 0, 1, 5, 20, 31, 1, 0, 90, 1, 51, 0};
+    const uint64_t across[8] = {30, 50, 25, 51, 0, 51, 29, 31}, bad[8] = {0, 51, 9, 9, 40, 25, 0, 52}, whole[6] = {0, MOST, MOST - 1, MOST, 0, 1};
+    const int64_t some[3] = {0, -7, 0};
+    uint64_t rows[60], counts[4], done = 0, *many = malloc(8 * 5 * 1025), *all = malloc(8 * 5 * 3072);
+    int64_t ticks[12], *zeros = calloc(1025, 8), *rest = malloc(8 * 3072);
+#define CUTS(ranges, count, words_room, shifts_room, counts_room) \
+    st_cuts(map, 15, some, 3, ranges, count, rows, words_room, ticks, shifts_room, counts, counts_room, &x, &at)
+    for (size_t k = 0; k < 60; k++) rows[k] = LENT;
+    for (size_t k = 0; k < 12; k++) ticks[k] = LENT;
+    for (size_t k = 0; k < 4; k++) counts[k] = LENT;
+
+    /* room: the four cuts have nine rows */
+    REFUSED_AT(52, 0, CUTS(across, 8, 44, 12, 4));
+    REFUSED_AT(52, 0, CUTS(across, 8, 60, 8, 4));
+    REFUSED_AT(52, 0, CUTS(across, 8, 60, 12, 3));
+    REFUSED_AT(52, 0, st_cuts(map, 15, some, 3, across, 8, NULL, 0, NULL, 0, NULL, 0, &x, &at));
+    /* the map is tested first, then the list's length, then its ranges */
+    REFUSED_AT(51, 0, st_cuts(NULL, 0, NULL, 0, NULL, 0, NULL, 0, NULL, 0, NULL, 0, &x, &at));
+    REFUSED_AT(51, 0, st_cuts(map, 14, some, 3, bad, 7, rows, 60, ticks, 12, counts, 4, &x, &at));
+    REFUSED_AT(51, 0, st_cuts(map, 15, some, 2, bad, 8, rows, 60, ticks, 12, counts, 4, &x, &at));
+    REFUSED_AT(51, 1, st_cuts(gap, 15, some, 3, bad, 7, rows, 60, ticks, 12, counts, 4, &x, &at));
+    REFUSED_AT(51, 1, st_cuts(gap, 15, some, 3, NULL, 0, NULL, 0, NULL, 0, NULL, 0, &x, &at));
+    REFUSED_AT(50, 3, CUTS(bad, 7, 60, 12, 4));
+    REFUSED_AT(50, 0, CUTS(across, 1, 60, 12, 4));
+    REFUSED_AT(50, 1, CUTS(bad, 8, 0, 0, 0));
+    REFUSED_AT(50, 0, CUTS(bad + 4, 4, 60, 12, 4));
+    REFUSED_AT(50, 0, CUTS(bad + 6, 2, 60, 12, 4));
+    REFUSED_AT(50, 0, CUTS(((const uint64_t[]){MOST, MOST}), 2, 60, 12, 4));
+    ACCEPTED(CUTS(NULL, 0, 60, 12, 4));
+    IS(x == 0);
+    ACCEPTED(st_cuts(map, 15, some, 3, NULL, 0, NULL, 0, NULL, 0, NULL, 0, &x, &at));
+    IS(x == 0);
+    IS(as_lent(rows, 60) && as_lent(counts, 4));
+    for (size_t k = 0; k < 12; k++) IS(ticks[k] == LENT);
+
+    ACCEPTED(CUTS(across, 8, 45, 9, 4));
+    IS(x == 9 && as_lent(rows + 45, 15) && ticks[9] == LENT && ticks[10] == LENT && ticks[11] == LENT);
+    IS(counts[0] == 1 && counts[1] == 3 && counts[2] == 3 && counts[3] == 2);
+    for (size_t k = 0; k < 4; k++) {
+        fresh();
+        ACCEPTED(st_cut(map, 15, some, 3, across[2 * k], across[2 * k + 1], out, 15, moved, 3, &x, &at));
+        IS(x == counts[k] && memcmp(rows + 5 * done, out, 40 * x) == 0 && memcmp(ticks + done, moved, 8 * x) == 0);
+        done += x;
+    }
+    IS(done == 9);
+    ACCEPTED(st_cuts(full, 5, some, 1, whole, 6, rows, 60, ticks, 12, counts, 4, &x, &at));
+    IS(x == 3 && rows[2] == MOST && rows[6] == MOST - 1 && rows[7] == 1 && rows[8] == 0 && rows[11] == 0 && rows[12] == 1);
+    IS(counts[0] == 1 && counts[1] == 1 && counts[2] == 1 && counts[3] == 2);
+
+    /* as many rows as a map may have, three times over; and one row too many */
+    if (many && all && zeros && rest) {
+        const uint64_t thrice[6] = {0, 1024, 0, 1024, 0, 1024};
+        for (uint64_t k = 0; k < 1025; k++) memcpy(many + 5 * k, (const uint64_t[]){0, 2 * k, 1, k, 0}, 40);
+        ACCEPTED(st_cuts(many, 5 * 1024, zeros, 1024, thrice, 6, all, 5 * 3072, rest, 3072, counts, 3, &x, &at));
+        IS(x == 3072 && counts[0] == 1024 && counts[1] == 1024 && counts[2] == 1024);
+        for (size_t k = 0; k < 3; k++) IS(memcmp(all + 5 * 1024 * k, many, 40 * 1024) == 0 && memcmp(rest + 1024 * k, zeros, 8 * 1024) == 0);
+        REFUSED_AT(52, 0, st_cuts(many, 5 * 1024, zeros, 1024, thrice, 6, all, 5 * 3072 - 1, rest, 3072, counts, 3, &x, &at));
+        REFUSED_AT(52, 0, st_cuts(many, 5 * 1025, zeros, 1025, bad + 1, 7, all, 5 * 3072, rest, 3072, counts, 3, &x, &at));
+    }
+    free(many), free(all), free(zeros), free(rest);
+}
+
 /* Walks boxes from offset to offset, and into those that hold boxes: how many there are. */
 static int walked(const uint8_t *payload, size_t length) {
     const char *inner[] = {"trak", "mdia", "minf", "stbl"};
@@ -475,6 +540,7 @@ int main(void) {
     list_calls();
     record_calls();
     map_calls();
+    cut_calls();
     box_calls();
     recording_calls();
     movie_calls();

@@ -47,6 +47,12 @@ extern "C" {
     /// A null pointer only with length 0; what is written overlaps nothing else, or memory may be corrupted.
     pub fn st_cut(words: *const u64, words_len: usize, shifts: *const i64, shifts_len: usize, a: u64, b: u64, out_words: *mut u64, out_words_len: usize, out_shifts: *mut i64, out_shifts_len: usize, rows: *mut u64, index: *mut u64) -> u64;
 
+    /// Cuts of several ranges of a map, which is tested once: of each range the rows that st_cut writes, one cut after the other.
+    /// Lent: a map; ranges, two words each, a and b, or none; room for the rows of all cuts, and for a count of each. Writes the
+    /// rows, counts (how many each cut has), rows (how many in all, which may be over 1,024), index. Refuses: 51, 52, 50, 52.
+    /// A null pointer only with length 0; what is written overlaps nothing else, or memory may be corrupted.
+    pub fn st_cuts(words: *const u64, words_len: usize, shifts: *const i64, shifts_len: usize, ranges: *const u64, ranges_len: usize, out_words: *mut u64, out_words_len: usize, out_shifts: *mut i64, out_shifts_len: usize, counts: *mut u64, counts_len: usize, rows: *mut u64, index: *mut u64) -> u64;
+
     /// Two maps as one, the second after the first.
     /// Lent: two maps, and room for the rows. Writes the rows, rows (how many), index. Refuses: 51 (of the first map, then of the
     /// second), 52, 53, 52.
@@ -201,9 +207,9 @@ pub const REFUSALS: &[(u64, &str)] = &[
     (40, "no MTRM box: no moov, no udta in it, or none in that"),
     (41, "more than one MTRM box"),
     (42, "a search range outside the bytes, or starting past its end; an offset past the bytes"),
-    (50, "cut range: a >= b, or b past the map"),
+    (50, "cut range: a >= b, or b past the map; of st_cuts also an odd number of words"),
     (51, "map rows malformed, slice lengths that disagree, or no rows"),
-    (52, "over 1,024 rows in or out, or lent room too small"),
+    (52, "over 1,024 rows in or out (all cuts of st_cuts together may have more), or lent room too small"),
     (53, "joined frames pass 2^64 - 1"),
     (54, "frame past the map"),
 ];

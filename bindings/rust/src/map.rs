@@ -119,6 +119,43 @@ impl FrameMap {
         })
     }
 
+    /// The cut of each range of a list, in any order: what [`FrameMap::cut`] gives of it. The rows are tested once, and together
+    /// the cuts may have more than 1,024. Refuses 50 (index: the first range that is no cut).
+    ///
+    /// ```
+    /// # use segment_table::{FrameMap, Row};
+    /// # let first = Row { source: 0, source_first: 10, count: 30, out_first: 0, shift: None };
+    /// # let map = FrameMap::new(&[first, Row { source: 1, source_first: 5, count: 20, out_first: 30, shift: None }])?;
+    /// // an episode's shots in a recording of two clips that join at frame 30
+    /// let shots = [28..33, 0..30, 45..50];
+    /// let cuts = map.cuts(&shots)?;
+    /// assert_eq!(cuts.iter().map(|cut| cut.rows().len()).collect::<Vec<_>>(), [2, 1, 1]);
+    /// assert_eq!(cuts[0], map.cut(28..33)?);
+    ///
+    /// let refusal = map.cuts(&[0..30, 45..51]).unwrap_err();
+    /// assert_eq!((refusal.number, refusal.index), (50, 1));
+    /// # Ok::<(), segment_table::Refusal>(())
+    /// ```
+    pub fn cuts(&self, ranges: &[Range<u64>]) -> Result<Vec<FrameMap>, Refusal> {
+        let firsts: Vec<u64> = self.rows().map(|row| row.out_first).collect();
+        let words: Vec<u64> = ranges.iter().flat_map(|range| [range.start, range.end]).collect();
+        let mut counts: Vec<u64> = vec![0; ranges.len()];
+        let all = FrameMap::filled(ranges.iter().map(|range| rows_of(&firsts, range)).sum(), |ou, os, rows, index| unsafe {
+            ffi::st_cuts(
+                self.words.as_ptr(), self.words.len(), self.shifts.as_ptr(), self.shifts.len(), words.as_ptr(), words.len(),
+                ou.as_mut_ptr(), ou.len(), os.as_mut_ptr(), os.len(), counts.as_mut_ptr(), counts.len(), rows, index,
+            )
+        })?;
+        let (mut words, mut shifts) = (&all.words[..], &all.shifts[..]);
+        let next = |count: u64| {
+            let (own, own_shifts);
+            (own, words) = words.split_at(5 * count as usize);
+            (own_shifts, shifts) = shifts.split_at(count as usize);
+            FrameMap { words: own.to_vec(), shifts: own_shifts.to_vec() }
+        };
+        Ok(counts.into_iter().map(next).collect())
+    }
+
     /// This map, then another. Refuses 53, and 52 over 1,024 rows.
     pub fn join(&self, other: &FrameMap) -> Result<FrameMap, Refusal> {
         FrameMap::filled((self.shifts.len() + other.shifts.len()).min(MOST_ROWS), |ou, os, rows, index| unsafe {
@@ -153,6 +190,13 @@ impl FrameMap {
         };
         answer(number, index, Origin { source, frame: at, shift: (flag == 1).then_some(shift) })
     }
+}
+
+/// How many rows have frames of a range, by the first frame of each row: those that start before its end, but of those that start
+/// no later than it only the last.
+fn rows_of(firsts: &[u64], range: &Range<u64>) -> usize {
+    let started = firsts.partition_point(|first| *first <= range.start);
+    (firsts.partition_point(|first| *first < range.end) + 1).saturating_sub(started)
 }
 
 impl<'a> IntoIterator for &'a FrameMap {

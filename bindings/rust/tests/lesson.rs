@@ -23,6 +23,7 @@ fn cut_across_a_join_cut_again_and_find_the_first_frame_past_it() {
     let again = clip.cut(3..8).unwrap();
     assert_eq!(again.rows().collect::<Vec<_>>(), [row(0, 38, 2, 0), row(1, 5, 3, 2)]);
     assert_eq!(again, map.cut(28..33).unwrap());
+    assert_eq!(map.cuts(&[25..40, 28..33]).unwrap(), [clip, again.clone()]);
     let past_join = again.rows().nth(1).unwrap().out_first;
     let origin = again.origin(past_join).unwrap();
     assert_eq!((origin.source, origin.frame, origin.shift), (1, 5, None));

@@ -221,14 +221,50 @@ fn room_for_a_list() {
     assert_eq!(room, [0, 1, 0, 7]);
 }
 
+/// The cuts of a map of two rows of ten frames, the second from this frame on: the number, and the words `rows` and `index`, lent as 7.
+fn cut(second: u64, ranges: &[u64], words: &mut [u64], shifts: &mut [i64], counts: &mut [u64]) -> (u64, u64, u64) {
+    let (mut rows, mut index) = (7, 7);
+    let (map, present) = ([0, 0, 10, 0, 1, 1, 5, 10, second, 0], [-3, 0]);
+    let number = unsafe {
+        ffi::st_cuts(
+            map.as_ptr(), 10, present.as_ptr(), 2, ranges.as_ptr(), ranges.len(), words.as_mut_ptr(), words.len(),
+            shifts.as_mut_ptr(), shifts.len(), counts.as_mut_ptr(), counts.len(), &mut rows, &mut index,
+        )
+    };
+    (number, rows, index)
+}
+
+#[test]
+fn room_for_cuts() {
+    let (mut words, mut shifts, mut counts) = ([7; 20], [7; 4], [7; 3]);
+    let ranges = [9, 11, 0, 1];
+    assert_eq!(cut(10, &ranges, &mut words[..14], &mut shifts, &mut counts), (52, 7, 0));
+    assert_eq!(cut(10, &ranges, &mut words, &mut shifts[..2], &mut counts), (52, 7, 0));
+    assert_eq!(cut(10, &ranges, &mut words, &mut shifts, &mut counts[..1]), (52, 7, 0));
+    assert_eq!(cut(10, &ranges, &mut [], &mut [], &mut []), (52, 7, 0));
+    // the map is tested first, then the list's length, then its ranges
+    assert_eq!(cut(11, &[9, 9, 0], &mut [], &mut [], &mut []), (51, 7, 1));
+    assert_eq!(cut(11, &[], &mut words, &mut shifts, &mut counts), (51, 7, 1));
+    assert_eq!(cut(10, &[9, 9, 0], &mut [], &mut [], &mut []), (50, 7, 1));
+    assert_eq!(cut(10, &[9, 11, 9, 9, 21, 0], &mut [], &mut [], &mut []), (50, 7, 1));
+    assert_eq!(cut(10, &[], &mut words, &mut shifts, &mut counts), (0, 0, 0));
+    assert_eq!((words, shifts, counts), ([7; 20], [7; 4], [7; 3]));
+    assert_eq!(cut(10, &ranges, &mut words[..15], &mut shifts[..3], &mut counts[..2]), (0, 3, 0));
+    assert_eq!(words, [0, 9, 1, 0, 1, 1, 5, 1, 1, 0, 0, 0, 1, 0, 1, 7, 7, 7, 7, 7]);
+    assert_eq!((shifts, counts), ([-3, 0, -3, 7], [2, 1, 7]));
+}
+
 #[test]
 fn maps() {
     let row = |source_first, count, out_first| Row { source: 0, source_first, count, out_first, shift: None };
     let map = FrameMap::new(&[row(0, 5, 0), row(9, 5, 5)]).unwrap();
     #[allow(clippy::reversed_empty_ranges)]
     let reversed = 3..2;
-    refused(50, 0, map.cut(reversed));
+    refused(50, 0, map.cut(reversed.clone()));
     refused(50, 0, map.cut(0..11));
+    refused(50, 1, map.cuts(&[0..5, reversed.clone(), 0..11]));
+    refused(50, 2, map.cuts(&[0..5, 0..10, 0..11, reversed.clone()]));
+    refused(50, 0, map.cuts(&[u64::MAX..u64::MAX, 0..1]));
     refused(51, 0, FrameMap::new(&[]));
     refused(51, 1, FrameMap::new(&[row(0, 5, 0), row(0, 5, 6)]));
     refused(51, 0, FrameMap::from_words(vec![0; 4], vec![0]));

@@ -1,6 +1,7 @@
 -- Every claim holds.
 use Rattle.rows.proofs.Demanded.{demanded}
 use Rattle.maps.proofs.Lawful.{lawful}
+use Rattle.cuts.proofs.Lawful as cuts
 use Rattle.differ.proofs.Differing.{differing}
 use Rattle.audit.specs.Words.{table, Validate, CheckMcraw}
 use Rattle.audit.specs.Claims.{Claims}
@@ -17,4 +18,4 @@ use Rattle.audit.proofs.Absent.{absent}
 use Rattle.audit.proofs.Worked.{all-hold}
 
 pub audited : Claims
-audited = record { answers = once; face = faced; telling = telling; origins = tiled; laws = lawful; demands = demanded; refusals = right; differing = differing table Validate CheckMcraw (λ l video starts r. meant .validate l video starts r .0) (λ l ts a b a′ b′ r p. meant .check-mcraw l ts a b a′ b′ r .0 p .answer); each-frame = each-frame; meanings = meant; walking = walked; rounding = rounding; ordering = ordering; ignored = absent; worked = all-hold }
+audited = record { answers = once; face = faced; telling = telling; origins = tiled; laws = lawful; demands = demanded; many-cuts = cuts.lawful; refusals = right; differing = differing table Validate CheckMcraw (λ l video starts r. meant .validate l video starts r .0) (λ l ts a b a′ b′ r p. meant .check-mcraw l ts a b a′ b′ r .0 p .answer); each-frame = each-frame; meanings = meant; walking = walked; rounding = rounding; ordering = ordering; ignored = absent; worked = all-hold }

@@ -12,6 +12,7 @@ use Rattle.audit.specs.Face as calls
 use Rattle.segment_table.proofs.clock.st_is_utc_second as st-is-utc-second·
 use Rattle.segment_table.proofs.clock.st_ticks_to_us as st-ticks-to-us·
 use Rattle.segment_table.proofs.cutting.st_cut as st-cut·
+use Rattle.segment_table.proofs.cutting.st_cuts as st-cuts·
 use Rattle.segment_table.proofs.cutting.st_join as st-join·
 use Rattle.segment_table.proofs.cutting.st_merge as st-merge·
 use Rattle.segment_table.proofs.cutting.st_origin as st-origin·
@@ -52,6 +53,12 @@ module _ {M : Type 1} (𝓤 : URA M) (H : Heap 𝓤) (A : Atoms 𝓤) (mem : Mem
 
   pub st-cut-quoted : (κs : Regions calls.st-cut) (a : Given calls.st-cut κs) → st-cut·.clauses 𝓤 H A mem run κs a .ensures tt ≡ (λ z e. fact 𝓤 (calls.st-cut .Learnt κs a z e))
   st-cut-quoted κs a = refl
+
+  pub st-cuts-asks-nothing : (κs : Regions calls.st-cuts) (a : Given calls.st-cuts κs) → st-cuts·.clauses 𝓤 H A mem run κs a .requires tt ≡ emp 𝓤
+  st-cuts-asks-nothing κs a = refl
+
+  pub st-cuts-quoted : (κs : Regions calls.st-cuts) (a : Given calls.st-cuts κs) → st-cuts·.clauses 𝓤 H A mem run κs a .ensures tt ≡ (λ z e. fact 𝓤 (calls.st-cuts .Learnt κs a z e))
+  st-cuts-quoted κs a = refl
 
   pub st-join-asks-nothing : (κs : Regions calls.st-join) (a : Given calls.st-join κs) → st-join·.clauses 𝓤 H A mem run κs a .requires tt ≡ emp 𝓤
   st-join-asks-nothing κs a = refl

@@ -16,6 +16,14 @@ faced = record {
   st-check-mcraw = λ κs a. (tt, record { the = record { result = _; last = _ }; said = record { told = refl; first-cleared = refl; second-cleared = refl }; only = λ e p i. record { result = p .told i .0; last = (tt, (tt, (tt, (tt, (tt, (tt, (p .first-cleared i, (p .second-cleared i, (p .told i .1, (p .told i .2, tt)))))))))) } });
   st-segment-of-frame-records = λ κs a. (tt, record { the = record { result = _; last = _ }; said = refl; only = λ e p i. record { result = p i .0; last = (tt, (tt, (tt, (tt, (tt, (p i .1, (p i .2, tt))))))) } });
   st-cut = λ κs a. (tt, record { the = record { result = _; last = _ }; said = record { told = refl; words = refl; shifts = refl }; only = λ e p i. record { result = p .told i .0; last = (tt, (tt, (tt, (tt, (p .words i, (p .shifts i, (p .told i .1, (p .told i .2, tt)))))))) } });
+  st-cuts = λ κs a. (
+    tt,
+    record {
+      the = record { result = _; last = _ };
+      said = record { placed = record { told = refl; words = refl; shifts = refl }; counted = refl };
+      only = λ e p i. record { result = p .placed .told i .0; last = (tt, (tt, (tt, (p .placed .words i, (p .placed .shifts i, (p .counted i, (p .placed .told i .1, (p .placed .told i .2, tt)))))))) };
+    },
+  );
   st-join = λ κs a. (tt, record { the = record { result = _; last = _ }; said = record { told = refl; words = refl; shifts = refl }; only = λ e p i. record { result = p .told i .0; last = (tt, (tt, (tt, (tt, (p .words i, (p .shifts i, (p .told i .1, (p .told i .2, tt)))))))) } });
   st-merge = λ κs a. (tt, record { the = record { result = _; last = _ }; said = record { told = refl; words = refl; shifts = refl }; only = λ e p i. record { result = p .told i .0; last = (tt, (tt, (p .words i, (p .shifts i, (p .told i .1, (p .told i .2, tt)))))) } });
   st-origin = λ κs a. (tt, record { the = record { result = _; last = _ }; said = refl; only = λ e p i. record { result = p i .0; last = (tt, (tt, (tt, (p i .1, (p i .2, (p i .3, (p i .4, (p i .5, tt)))))))) } });

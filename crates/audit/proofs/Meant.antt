@@ -40,6 +40,7 @@ meant = record {
   video-frame-times-of-moov = λ moov starts a b starts′ a′ b′ r. is;
   mcraw-times = λ ts starts work starts′ work′ r. is;
   cut = λ u s a b ou ou′ os os′ r. is;
+  cuts = λ u ranges s ou ou′ os os′ counts counts′ r. is;
   join = λ u v s t ou ou′ os os′ r. is;
   merge = λ u s ou ou′ os os′ r. is;
   origin = λ u s f r. is;

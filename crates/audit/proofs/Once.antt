@@ -33,6 +33,14 @@ once = record {
     },
   );
   cut = λ κs a. (tt, record { the = record { result = _; last = _ }; said = record { answer = refl; words = refl; shifts = refl }; only = λ e p i. record { result = p .answer i; last = (tt, (tt, (tt, (tt, (p .words i, (p .shifts i, tt)))))) } });
+  cuts = λ κs a. (
+    tt,
+    record {
+      the = record { result = _; last = _ };
+      said = record { placed = record { answer = refl; words = refl; shifts = refl }; counted = refl };
+      only = λ e p i. record { result = p .placed .answer i; last = (tt, (tt, (tt, (p .placed .words i, (p .placed .shifts i, (p .counted i, tt)))))) };
+    },
+  );
   join = λ κs a. (tt, record { the = record { result = _; last = _ }; said = record { answer = refl; words = refl; shifts = refl }; only = λ e p i. record { result = p .answer i; last = (tt, (tt, (tt, (tt, (p .words i, (p .shifts i, tt)))))) } });
   merge = λ κs a. (tt, record { the = record { result = _; last = _ }; said = record { answer = refl; words = refl; shifts = refl }; only = λ e p i. record { result = p .answer i; last = (tt, (tt, (p .words i, (p .shifts i, tt)))) } });
   origin = λ κs a. (tt, record { the = record { result = _; last = _ }; said = refl; only = λ e p i. record { result = p i; last = e .last } });

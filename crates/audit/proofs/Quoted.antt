@@ -33,6 +33,7 @@ use Rattle.maps.proofs.cut as cut·
 use Rattle.maps.proofs.merge as merge·
 use Rattle.maps.proofs.join as join·
 use Rattle.maps.proofs.origin as origin·
+use Rattle.cuts.proofs.cuts as cuts·
 use Rattle.records.proofs.segment_of_frame_records as segment-of-frame-records·
 
 module _ {M : Type 1} (𝓤 : URA M) (H : Heap 𝓤) (A : Atoms 𝓤) (mem : Memory → SProp 𝓤) (run : Routine → Fun 𝓤) where
@@ -179,6 +180,12 @@ module _ {M : Type 1} (𝓤 : URA M) (H : Heap 𝓤) (A : Atoms 𝓤) (mem : Mem
 
   pub origin-quoted : (κs : Regions calls.origin) (a : Given calls.origin κs) → origin·.clauses 𝓤 H A mem run κs a .ensures tt ≡ (λ z e. fact 𝓤 (calls.origin .Learnt κs a z e))
   origin-quoted κs a = refl
+
+  pub cuts-asks-nothing : (κs : Regions calls.cuts) (a : Given calls.cuts κs) → cuts·.clauses 𝓤 H A mem run κs a .requires tt ≡ emp 𝓤
+  cuts-asks-nothing κs a = refl
+
+  pub cuts-quoted : (κs : Regions calls.cuts) (a : Given calls.cuts κs) → cuts·.clauses 𝓤 H A mem run κs a .ensures tt ≡ (λ z e. fact 𝓤 (calls.cuts .Learnt κs a z e))
+  cuts-quoted κs a = refl
 
   pub segment-of-frame-records-asks-nothing : (κs : Regions calls.segment-of-frame-records) (a : Given calls.segment-of-frame-records κs) → segment-of-frame-records·.clauses 𝓤 H A mem run κs a .requires tt ≡ emp 𝓤
   segment-of-frame-records-asks-nothing κs a = refl

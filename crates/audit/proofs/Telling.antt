@@ -63,6 +63,10 @@ telling = record {
   );
   st-segment-of-frame-records = λ sources text rs log f segment index r segment′ index′. one (λ (c : Lookup). lookupTold c segment);
   st-cut = λ u s a b ou ou′ os os′ rows index r rows′ index′. placed rows;
+  st-cuts = λ u ranges s ou ou′ os os′ counts counts′ rows index r rows′ index′. (
+    λ p. let q = placed rows .0 (p .placed) in record { answer = q .answer; given = record { placed = q .given; counted = p .counted }; told = q .told },
+    λ q. record { placed = placed rows .1 (record { answer = q .answer; given = q .given .placed; told = q .told }); counted = q .given .counted },
+  );
   st-join = λ u v s t ou ou′ os os′ rows index r rows′ index′. placed rows;
   st-merge = λ u s ou ou′ os os′ rows index r rows′ index′. placed rows;
   st-origin = λ u s k source frame flag shift index r source′ frame′ flag′ shift′ index′. one (λ (c : Traced). tracedTold c source frame flag shift);

@@ -57,6 +57,8 @@ use Rattle.maps.proofs.join as join·
 use Rattle.maps.proofs.join.Reads as join·reads
 use Rattle.maps.proofs.origin as origin·
 use Rattle.maps.proofs.origin.Reads as origin·reads
+use Rattle.cuts.proofs.cuts as cuts·
+use Rattle.cuts.proofs.cuts.Reads as cuts·reads
 use Rattle.records.proofs.segment_of_frame_records as segment-of-frame-records·
 
 -- ticks::ticks_to_us
@@ -322,6 +324,17 @@ Origin u s frame ans = origin .Learnt ([], ([], tt)) (lent u, (lent s, (frame, t
 
 pub origin·anywhere : Anywhere origin (λ κs a e. Origin (now (a .0)) (now (a .1 .0)) (a .1 .1 .0) (e .result))
 origin·anywhere κs a e = refl
+
+-- cuts::cuts
+abbrev pub cuts : Promise
+cuts = record { types = cuts·.ended; Asked = cuts·reads.Asked; Learnt = cuts·reads.Learnt }
+
+-- cuts(u, s, ranges, ou, os, counts) answers ans, and leaves ou′, os′, counts′
+abbrev pub Cuts : List ℕ → List ℤ → List ℕ → List ℕ → List ℤ → List ℕ → Result cuts ([], ([], ([], ([], ([], ([], tt)))))) → List ℕ → List ℤ → List ℕ → Type 0
+Cuts u s ranges ou os counts ans ou′ os′ counts′ = cuts .Learnt ([], ([], ([], ([], ([], ([], tt)))))) (lent u, (lent s, (lent ranges, (lent ou, (lent os, (lent counts, tt)))))) ans (lent u, (lent s, (lent ranges, (lent ou′, (lent os′, (lent counts′, tt))))))
+
+pub cuts·anywhere : Anywhere cuts (λ κs a e. Cuts (now (a .0)) (now (a .1 .0)) (now (a .1 .1 .0)) (now (a .1 .1 .1 .0)) (now (a .1 .1 .1 .1 .0)) (now (a .1 .1 .1 .1 .1 .0)) (e .result) (e .last .1 .1 .1 .0) (e .last .1 .1 .1 .1 .0) (e .last .1 .1 .1 .1 .1 .0))
+cuts·anywhere κs a e = refl
 
 -- records::segment_of_frame_records, proved by hand: its clause, as the source has it
 abbrev pub segment-of-frame-records : Promise

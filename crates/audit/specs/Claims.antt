@@ -49,6 +49,8 @@ use Rattle.maps.specs.declared.Traced.{Traced}
 use Rattle.maps.specs.declared.Traced.the-variants as traced
 use Rattle.maps.specs.Answers as maps
 use Rattle.maps.specs.Laws as laws
+use Rattle.cuts.specs.Answers as cuts
+use Rattle.cuts.specs.Laws as cut-laws
 use Rattle.boxes.specs.declared.Sized.{Sized}
 use Rattle.boxes.specs.declared.Reached.{Reached}
 use Rattle.boxes.specs.declared.Reached.the-variants as reached
@@ -88,6 +90,7 @@ pub record Answers : Type 0 where
   pub video-frame-times-of-moov : OneAnswer calls.video-frame-times-of-moov
   pub mcraw-times : OneAnswer calls.mcraw-times
   pub cut : OneAnswer calls.cut
+  pub cuts : OneAnswer calls.cuts
   pub join : OneAnswer calls.join
   pub merge : OneAnswer calls.merge
   pub origin : OneAnswer calls.origin
@@ -113,6 +116,7 @@ pub record Face : Type 0 where
   pub st-check-mcraw : OneAnswer face.st-check-mcraw
   pub st-segment-of-frame-records : OneAnswer face.st-segment-of-frame-records
   pub st-cut : OneAnswer face.st-cut
+  pub st-cuts : OneAnswer face.st-cuts
   pub st-join : OneAnswer face.st-join
   pub st-merge : OneAnswer face.st-merge
   pub st-origin : OneAnswer face.st-origin
@@ -156,6 +160,9 @@ pub record Telling : Type 0 where
       ↔ Tells (calls.SegmentOfFrameRecords sources text rs log f) (λ c. (r, segment′, index′) ≡ lookupTold c segment)
   pub st-cut : (u : List ℕ) (s : List ℤ) (a b : ℕ) (ou ou′ : List ℕ) (os os′ : List ℤ) (rows index r rows′ index′ : ℕ)
       → face.StCut u s a b ou os rows index r ou′ os′ rows′ index′ ↔ Tells (λ c. calls.Cut u s a b ou os c ou′ os′) (λ c. (r, rows′, index′) ≡ mappedTold c rows)
+  pub st-cuts : (u ranges : List ℕ) (s : List ℤ) (ou ou′ : List ℕ) (os os′ : List ℤ) (counts counts′ : List ℕ) (rows index r rows′ index′ : ℕ)
+      → face.StCuts u s ranges ou os counts rows index r ou′ os′ counts′ rows′ index′
+      ↔ Tells (λ c. calls.Cuts u s ranges ou os counts c ou′ os′ counts′) (λ c. (r, rows′, index′) ≡ mappedTold c rows)
   pub st-join : (u v : List ℕ) (s t : List ℤ) (ou ou′ : List ℕ) (os os′ : List ℤ) (rows index r rows′ index′ : ℕ)
       → face.StJoin u s v t ou os rows index r ou′ os′ rows′ index′ ↔ Tells (λ c. calls.Join u s v t ou os c ou′ os′) (λ c. (r, rows′, index′) ≡ mappedTold c rows)
   pub st-merge : (u : List ℕ) (s : List ℤ) (ou ou′ : List ℕ) (os os′ : List ℤ) (rows index r rows′ index′ : ℕ)
@@ -253,6 +260,8 @@ pub record Meanings : Type 0 where
       → calls.VideoFrameTimesOfMoov moov starts a b r starts′ a′ b′ ↔ frames.MoovAnswers moov starts a b r starts′ a′ b′
   pub mcraw-times : (ts starts work starts′ work′ : List ℤ) (r : RecordingTimes) → calls.McrawTimes ts starts work r starts′ work′ ↔ McrawAnswers ts starts work r starts′ work′
   pub cut : (u : List ℕ) (s : List ℤ) (a b : ℕ) (ou ou′ : List ℕ) (os os′ : List ℤ) (r : Mapped) → calls.Cut u s a b ou os r ou′ os′ ↔ maps.Cut u s a b ou os r ou′ os′
+  pub cuts : (u ranges : List ℕ) (s : List ℤ) (ou ou′ : List ℕ) (os os′ : List ℤ) (counts counts′ : List ℕ) (r : Mapped)
+      → calls.Cuts u s ranges ou os counts r ou′ os′ counts′ ↔ cuts.Cuts u s ranges ou os counts r ou′ os′ counts′
   pub join : (u v : List ℕ) (s t : List ℤ) (ou ou′ : List ℕ) (os os′ : List ℤ) (r : Mapped) → calls.Join u s v t ou os r ou′ os′ ↔ maps.Join u s v t ou os r ou′ os′
   pub merge : (u : List ℕ) (s : List ℤ) (ou ou′ : List ℕ) (os os′ : List ℤ) (r : Mapped) → calls.Merge u s ou os r ou′ os′ ↔ maps.Merge u s ou os r ou′ os′
   pub origin : (u : List ℕ) (s : List ℤ) (f : ℕ) (r : Traced) → calls.Origin u s f r ↔ maps.Trace u s f r
@@ -326,6 +335,9 @@ pub record Claims : Type 0 where
   pub laws : laws.Laws calls.Cut calls.Join calls.Merge calls.Origin
   -- The same of the maps themselves, whatever their length; among it, that an absent shift isn't a shift of 0. (Demand 3; rows/specs/Demands.antt.)
   pub demands : Demands
+  -- MANY CUTS IN ONE CALL are what `cut` of each range alone answers and writes, its rows after those of the ranges before it, their number in the counts; one range is
+  -- one `cut`, refusals too; and they are accepted exactly where the map is, each range is, and all rows and counts have room. (cuts/specs/Laws.antt has the lines.)
+  pub many-cuts : cut-laws.CutsLaws calls.Cuts calls.Cut
   pub refusals : Refusals
   -- HOW FAR TWO TABLES OF ONE VIDEO MAY DIFFER, which `validate` or `check_mcraw` accepts. (Document 02, n; differ/specs/Differ.antt has the lines.)
   pub differing : Differing table Validate CheckMcraw
@@ -335,5 +347,5 @@ pub record Claims : Type 0 where
   pub rounding : Rounding
   pub ordering : Ordering
   pub ignored : Ignored
-  -- 7. THE STARRED NUMBERS of document 01, the auditor's clip, and those of document 02's n and a. (Demands 2 and 3.)
+  -- 7. THE STARRED NUMBERS of document 01, the auditor's clip, those of document 02's n and a, and some of many cuts. (Demands 2 and 3.)
   pub worked : All Holds examples

@@ -32,7 +32,7 @@ use Rattle.frame_times.specs.Times.{mvhd, mdhd, minf, stbl, stts, ctts, edts}
 use Rattle.mcraw.specs.declared.RecordingTimes.{RecordingTimes as Recording}
 use Rattle.mcraw.specs.declared.RecordingTimes.the-variants.{Timed}
 use Rattle.differ.specs.Differ.{SameFrames}
-use Rattle.audit.specs.Calls.{TicksToUs, IsUtcSecond, Cut, Join, Merge, Origin, VideoFrameTimesOfMoov, McrawTimes}
+use Rattle.audit.specs.Calls.{TicksToUs, IsUtcSecond, Cut, Cuts, Join, Merge, Origin, VideoFrameTimesOfMoov, McrawTimes}
 use Rattle.audit.specs.Words.{Lent, table, Check, SegmentOfFrame, SegmentOfTimeUs, RowsOfTable, SegmentsOfFrames, Validate, CheckMcraw, mapWritten}
 
 pub data Example : Type 0 where
@@ -57,6 +57,9 @@ pub data Example : Type 0 where
   map : (l : Lent) (are : List Row) → Example
   -- the frames a to b of a map are these rows
   cuts : (m : List Row) (a b : ℕ) (are : List Row) → Example
+  -- the cuts of ranges of a map, two words each, are these rows, so many of each; or are refused, with no room lent
+  many : (m : List Row) (ranges : List ℕ) (are : List Row) (counts : List ℕ) → Example
+  none : (m : List Row) (ranges : List ℕ) (number index : ℕ) → Example
   -- two maps joined, and a map merged
   joins : (m n : List Row) (are : List Row) → Example
   merges : (m : List Row) (are : List Row) → Example
@@ -92,6 +95,12 @@ Holds (map l are) =
 Holds (cuts m a b are) =
     (r : Mapped) (ou : List ℕ) (os : List ℤ) → Cut (wordsOf m) (shiftsOf m) a b (replicate (5 * length are) 0) (replicate (length are) (pos 0)) r ou os
     → (r ≡ mapped.Rows (length are)) × (mapWritten (length are) ou os ≡ are)
+Holds (many m ranges are counts) =
+    (r : Mapped) (ou : List ℕ) (os : List ℤ) (counts′ : List ℕ)
+    → Cuts (wordsOf m) (shiftsOf m) ranges (replicate (5 * length are) 0) (replicate (length are) (pos 0)) (replicate (length counts) 0) r ou os counts′
+    → (r ≡ mapped.Rows (length are)) × (mapWritten (length are) ou os ≡ are) × (counts′ ≡ counts)
+Holds (none m ranges number index) =
+    (r : Mapped) (ou : List ℕ) (os : List ℤ) (counts′ : List ℕ) → Cuts (wordsOf m) (shiftsOf m) ranges [] [] [] r ou os counts′ → r ≡ mapped.Refused number index
 Holds (joins m n are) =
     (r : Mapped) (ou : List ℕ) (os : List ℤ) → Join (wordsOf m) (shiftsOf m) (wordsOf n) (shiftsOf n) (replicate (5 * length are) 0) (replicate (length are) (pos 0)) r ou os
     → (r ≡ mapped.Rows (length are)) × (mapWritten (length are) ou os ≡ are)
@@ -294,4 +303,11 @@ examples =
     ∷ list (tableT (plain 100) []) (49 ∷ 0 ∷ 30 ∷ 29 ∷ 18446744073709551615 ∷ []) (9 ∷ 9 ∷ 9 ∷ 9 ∷ 9 ∷ 9 ∷ []) (Indices 5) (1 ∷ 0 ∷ 1 ∷ 0 ∷ 1 ∷ 9 ∷ [])
     ∷ list (tableT (plain 100) []) (29 ∷ 30 ∷ []) (9 ∷ []) (NoIndices 32 0) (9 ∷ [])
     ∷ list (tableT (plain 0) []) [] [] (NoIndices 4 0) []
+    -- T cut 25..40 and 28..33 in one call, and 28..30 and 25..40, each counted from its own a; no range at all; and of three the second past T's end, before the lack of room
+    ∷ many T (25 ∷ 40 ∷ 28 ∷ 33 ∷ []) (row 0 35 5 0 ∷ row 1 5 10 5 ∷ row 0 38 2 0 ∷ row 1 5 3 2 ∷ []) (2 ∷ 2 ∷ [])
+    ∷ many T (28 ∷ 30 ∷ 25 ∷ 40 ∷ []) (row 0 38 2 0 ∷ row 0 35 5 0 ∷ row 1 5 10 5 ∷ []) (1 ∷ 2 ∷ [])
+    ∷ many T [] [] []
+    ∷ none T (0 ∷ 50 ∷ 20 ∷ 51 ∷ 7 ∷ 7 ∷ []) 50 1
+    ∷ none T (0 ∷ 50 ∷ 20 ∷ []) 50 1
+    ∷ none T (0 ∷ 50 ∷ []) 52 0
     ∷ []

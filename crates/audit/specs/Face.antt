@@ -15,6 +15,8 @@ use Rattle.segment_table.proofs.clock.st_ticks_to_us as st-ticks-to-us·
 use Rattle.segment_table.proofs.clock.st_ticks_to_us.Reads as st-ticks-to-us·reads
 use Rattle.segment_table.proofs.cutting.st_cut as st-cut·
 use Rattle.segment_table.proofs.cutting.st_cut.Reads as st-cut·reads
+use Rattle.segment_table.proofs.cutting.st_cuts as st-cuts·
+use Rattle.segment_table.proofs.cutting.st_cuts.Reads as st-cuts·reads
 use Rattle.segment_table.proofs.cutting.st_join as st-join·
 use Rattle.segment_table.proofs.cutting.st_join.Reads as st-join·reads
 use Rattle.segment_table.proofs.cutting.st_merge as st-merge·
@@ -89,6 +91,17 @@ StCut words shifts a b out-words out-shifts rows index ans out-words′ out-shif
 
 pub st-cut·anywhere : Anywhere st-cut (λ κs a e. StCut (now (a .0)) (now (a .1 .0)) (a .1 .1 .0) (a .1 .1 .1 .0) (now (a .1 .1 .1 .1 .0)) (now (a .1 .1 .1 .1 .1 .0)) (now (a .1 .1 .1 .1 .1 .1 .0)) (now (a .1 .1 .1 .1 .1 .1 .1 .0)) (e .result) (e .last .1 .1 .1 .1 .0) (e .last .1 .1 .1 .1 .1 .0) (e .last .1 .1 .1 .1 .1 .1 .0) (e .last .1 .1 .1 .1 .1 .1 .1 .0))
 st-cut·anywhere κs a e = refl
+
+-- segment_table::cutting::st_cuts
+abbrev pub st-cuts : Promise
+st-cuts = record { types = st-cuts·.ended; Asked = st-cuts·reads.Asked; Learnt = st-cuts·reads.Learnt }
+
+-- st_cuts(words, shifts, ranges, out-words, out-shifts, counts, rows, index) answers ans, and leaves out-words′, out-shifts′, counts′, rows′, index′
+abbrev pub StCuts : List ℕ → List ℤ → List ℕ → List ℕ → List ℤ → List ℕ → ℕ → ℕ → Result st-cuts ([], ([], ([], ([], ([], ([], ([], ([], tt)))))))) → List ℕ → List ℤ → List ℕ → ℕ → ℕ → Type 0
+StCuts words shifts ranges out-words out-shifts counts rows index ans out-words′ out-shifts′ counts′ rows′ index′ = st-cuts .Learnt ([], ([], ([], ([], ([], ([], ([], ([], tt)))))))) (lent words, (lent shifts, (lent ranges, (lent out-words, (lent out-shifts, (lent counts, (lent rows, (lent index, tt)))))))) ans (lent words, (lent shifts, (lent ranges, (lent out-words′, (lent out-shifts′, (lent counts′, (lent rows′, (lent index′, tt))))))))
+
+pub st-cuts·anywhere : Anywhere st-cuts (λ κs a e. StCuts (now (a .0)) (now (a .1 .0)) (now (a .1 .1 .0)) (now (a .1 .1 .1 .0)) (now (a .1 .1 .1 .1 .0)) (now (a .1 .1 .1 .1 .1 .0)) (now (a .1 .1 .1 .1 .1 .1 .0)) (now (a .1 .1 .1 .1 .1 .1 .1 .0)) (e .result) (e .last .1 .1 .1 .0) (e .last .1 .1 .1 .1 .0) (e .last .1 .1 .1 .1 .1 .0) (e .last .1 .1 .1 .1 .1 .1 .0) (e .last .1 .1 .1 .1 .1 .1 .1 .0))
+st-cuts·anywhere κs a e = refl
 
 -- segment_table::cutting::st_join
 abbrev pub st-join : Promise

@@ -124,7 +124,7 @@ pub(crate) fn present(
     requires { ⌜ (now b ≡ map pos (durations n (now stts))) × Sound e ⌝ }
     ensures { λ r. ⌜ OutcomeAnswered (ofFrames scale e (durations n (now (stts .entry))) (offsets m (now (ctts .entry)))) r (now (starts .entry)) (now (starts .exit)) ⌝ }
 {
-    order::sort(b, a);
+    order::sort_any(b, a);
     let nominal = nominal_of(b);
     if nominal <= 0 {
         return refused(NO_TIMES);

@@ -1,20 +1,22 @@
 -- Joining: the first map's rows are laid over what is lent, and then the second's, moved, over what lies after them. Assumes nothing.
-use Prim.Native.Nat.{ℕ, zero, suc, _+_, _-_, _*_, _≤_}
+use Prim.Native.Nat.{ℕ, zero, suc, _+_, _-_, _*_, _≤_, _<_}
+use native.Mathlib.Nat.{add-zero, zero-add}
 use native.Mathlib.Omega.{arith}
-use mathlib.Core.List.{List, [], _∷_, _++_, map}
+use mathlib.Core.List.{List, [], _∷_, _++_, append-nil, map}
 use mathlib.Core.Path.{_≡_, refl, sym, _∙_, ap}
-use lib.IntN.{ℤ}
-use lib.ListN.{length, take, drop, length-append, length-map}
+use lib.IntN.{ℤ, pos}
+use lib.ListN.{length, getD, take, drop, drop-of-length-le, length-append, length-map}
+use lib.Seq.{drop-cons, sets}
 use Rattle.choice.specs.Records.{run}
 use Rattle.choice.proofs.Runs.{length-run}
 use Rattle.slices.specs.Slices.{laid}
-use Rattle.slices.proofs.Laid.{length-laid, laid-laid}
+use Rattle.slices.proofs.Laid.{length-laid, sets-laid, laid-laid}
 use Rattle.rows.specs.declared.Row.{Row}
 use Rattle.rows.specs.Rows.{total, moved, join}
-use Rattle.rows.proofs.Origins.{row-eq}
-use Rattle.rows.specs.Lent.{rowAt, rows, wordsOf, shiftsOf}
+use Rattle.rows.specs.Lent.{rowAt, rows, words, wordsOf, shiftsOf}
 use Rattle.maps.specs.Steps.{Room}
 use Rattle.maps.proofs.Chains.{Joinable}
+use Rattle.maps.proofs.Spans.{run-append}
 use Rattle.rows.proofs.Flat.{words-append, shifts-append, length-words, length-shifts}
 
 -- the rows of a map, moved, as they are written
@@ -26,12 +28,84 @@ unfolding run
 map-run f g i zero = refl
 map-run f g i (suc n) = ap (λ (l : List Row). g (f i) ∷ l) (map-run f g (suc i) n)
 
-moved-none : (m : List Row) → map (moved 0) m ≡ m
-moved-none [] = refl
-moved-none (r ∷ m) = let e : moved 0 r ≡ r = row-eq (moved 0 r) r refl refl refl (omega arith) refl refl in cc (e, moved-none m)
+-- a map's words and shifts are those of its rows
+next : (u : List ℕ) (i j : ℕ) → i < length u → suc i ≡ j → drop i u ≡ getD u i 0 ∷ drop j u
+next u i j h e = drop-cons u i 0 h ∙ ap (λ (k : ℕ). getD u i 0 ∷ drop k u) e
 
-later-none : (u : List ℕ) (s : List ℤ) → later u s 0 ≡ rows u s
-later-none u s = sym (map-run (rowAt u s) (moved 0) 0 (length s)) ∙ moved-none (rows u s)
+five : (u : List ℕ) (b : ℕ) → b + 5 ≤ length u
+    → drop b u ≡ getD u b 0 ∷ getD u (b + 1) 0 ∷ getD u (b + 2) 0 ∷ getD u (b + 3) 0 ∷ getD u (b + 4) 0 ∷ drop (b + 5) u
+five u b h =
+    next u b (b + 1) (omega arith) (omega arith)
+    ∙ ap (λ (l : List ℕ). getD u b 0 ∷ l) (next u (b + 1) (b + 2) (omega arith) (omega arith)
+    ∙ ap (λ (l : List ℕ). getD u (b + 1) 0 ∷ l) (next u (b + 2) (b + 3) (omega arith) (omega arith)
+    ∙ ap (λ (l : List ℕ). getD u (b + 2) 0 ∷ l) (next u (b + 3) (b + 4) (omega arith) (omega arith)
+    ∙ ap (λ (l : List ℕ). getD u (b + 3) 0 ∷ l) (next u (b + 4) (b + 5) (omega arith) (omega arith)))))
+
+words-run : (u : List ℕ) (s : List ℤ) (m i : ℕ) → 5 * (i + m) ≤ length u → wordsOf (run (rowAt u s) i m) ++ drop (5 * (i + m)) u ≡ drop (5 * i) u
+unfolding run
+words-run u s zero i h = ap (λ (k : ℕ). drop (5 * k) u) (add-zero i)
+words-run u s (suc m) i h =
+    let w = rowAt u s i in
+    let rest = wordsOf (run (rowAt u s) (suc i) m) in
+    let e : i + suc m ≡ suc i + m = omega arith in
+    let n : 5 * suc i ≡ 5 * i + 5 = omega arith in
+    ap (λ (l : List ℕ). w .source ∷ w .first ∷ w .count ∷ w .out ∷ w .flag ∷ l)
+    (ap (λ (k : ℕ). rest ++ drop (5 * k) u) e ∙ words-run u s m (suc i) (omega arith) ∙ ap (λ (k : ℕ). drop k u) n)
+    ∙ sym (five u (5 * i) (omega arith))
+
+words-all : (u : List ℕ) (s : List ℤ) → length u ≡ 5 * length s → u ≡ wordsOf (rows u s)
+words-all u s h =
+    let n = length s in
+    let w = wordsOf (rows u s) in
+    sym (words-run u s n 0 (omega arith)) ∙ ap (λ (l : List ℕ). w ++ l) (drop-of-length-le u {i = 5 * (0 + n)} (omega arith)) ∙ append-nil w
+
+shifts-run : (u : List ℕ) (s : List ℤ) (m i : ℕ) → i + m ≤ length s → shiftsOf (run (rowAt u s) i m) ++ drop (i + m) s ≡ drop i s
+unfolding run
+shifts-run u s zero i h = ap (λ (k : ℕ). drop k s) (add-zero i)
+shifts-run u s (suc m) i h =
+    let rest = shiftsOf (run (rowAt u s) (suc i) m) in
+    let e : i + suc m ≡ suc i + m = omega arith in
+    ap (λ (l : List ℤ). getD s i (pos 0) ∷ l) (ap (λ (k : ℕ). rest ++ drop k s) e ∙ shifts-run u s m (suc i) (omega arith))
+    ∙ sym (drop-cons s i (pos 0) (omega arith))
+
+shifts-all : (u : List ℕ) (s : List ℤ) → s ≡ shiftsOf (rows u s)
+shifts-all u s =
+    let n = length s in
+    let w = shiftsOf (rows u s) in
+    sym (shifts-run u s n 0 (omega arith)) ∙ ap (λ (l : List ℤ). w ++ l) (drop-of-length-le s {i = 0 + n} (omega arith)) ∙ append-nil w
+
+-- a moved row keeps its shift
+shifts-moved : (d : ℕ) (m : List Row) → shiftsOf (map (moved d) m) ≡ shiftsOf m
+shifts-moved d [] = refl
+shifts-moved d (r ∷ m) = ap (λ (l : List ℤ). r .shift ∷ l) (shifts-moved d m)
+
+-- the words of rows written one after another
+pub moved-start : (f : ℕ → Row) (ou : List ℕ) → ou ≡ laid (wordsOf (run f 0 0)) ou
+unfolding run
+moved-start f ou = refl
+
+module _ (f : ℕ → Row) (i : ℕ) (ou₀ ou : List ℕ) (so-far : ou ≡ laid (wordsOf (run f 0 i)) ou₀) where
+  first-n : length (wordsOf (run f 0 i)) ≡ 5 * i
+  first-n = length-words (run f 0 i) ∙ ap (λ (k : ℕ). 5 * k) (length-run f 0 i)
+
+  pub moved-length : 5 * i ≤ length ou₀ → length ou ≡ length ou₀
+  moved-length h = ap length so-far ∙ length-laid (wordsOf (run f 0 i)) ou₀ (omega (arith, first-n))
+
+  pub moved-all : (n : ℕ) → i ≡ n → ou ≡ laid (wordsOf (run f 0 n)) ou₀
+  moved-all n e = so-far ∙ ap (λ (k : ℕ). laid (wordsOf (run f 0 k)) ou₀) e
+
+  one-more : run f 0 (i + 1) ≡ run f 0 i ++ f i ∷ []
+  unfolding run
+  one-more = run-append f i 1 0 ∙ ap (λ (k : ℕ). run f 0 i ++ f k ∷ []) (zero-add i)
+
+  pub moved-step : (x : Row) (ou′ : List ℕ) → x ≡ f i → ou′ ≡ sets ou (5 * i) (words x) → 5 * i + 5 ≤ length ou₀ → ou′ ≡ laid (wordsOf (run f 0 (i + 1))) ou₀
+  moved-step x ou′ ex e h =
+      e ∙ ap (λ (y : Row). sets ou (5 * i) (words y)) ex
+      ∙ ap (λ (l : List ℕ). sets l (5 * i) (words (f i))) so-far
+      ∙ ap (λ (k : ℕ). sets (laid (wordsOf (run f 0 i)) ou₀) k (words (f i))) (sym first-n)
+      ∙ sets-laid (words (f i)) (wordsOf (run f 0 i)) ou₀ (omega (arith, first-n))
+      ∙ ap (λ (l : List ℕ). laid l ou₀) (sym (words-append (run f 0 i) (f i ∷ [])))
+      ∙ ap (λ (l : List Row). laid (wordsOf l) ou₀) (sym one-more)
 
 pub length-rows : (u : List ℕ) (s : List ℤ) → length (rows u s) ≡ length s
 length-rows u s = length-run (rowAt u s) 0 (length s)
@@ -48,12 +122,12 @@ module _ {u : List ℕ} {s : List ℤ} {v : List ℕ} {t : List ℤ} where
 
 -- what is lent is ou and os; l₁ and m₁ are it with the first map written
 module _ (u : List ℕ) (s : List ℤ) (v : List ℕ) (t : List ℤ) (ou : List ℕ) (os : List ℤ) (room : Room (length s + length t) ou os) where
-  module _ (l₁ : List ℕ) (m₁ : List ℤ) (e : l₁ ≡ laid (wordsOf (later u s 0)) ou) (f : m₁ ≡ laid (shiftsOf (later u s 0)) os) where
+  module _ (sizes : length u ≡ 5 * length s) (l₁ : List ℕ) (m₁ : List ℤ) (e : l₁ ≡ laid u ou) (f : m₁ ≡ laid s os) where
     first-words : l₁ ≡ laid (wordsOf (rows u s)) ou
-    first-words = e ∙ ap (λ (x : List Row). laid (wordsOf x) ou) (later-none u s)
+    first-words = e ∙ ap (λ (x : List ℕ). laid x ou) (words-all u s sizes)
 
     first-shifts : m₁ ≡ laid (shiftsOf (rows u s)) os
-    first-shifts = f ∙ ap (λ (x : List Row). laid (shiftsOf x) os) (later-none u s)
+    first-shifts = f ∙ ap (λ (x : List ℤ). laid x os) (shifts-all u s)
 
     words-n : length (wordsOf (rows u s)) ≡ 5 * length s
     words-n = length-words (rows u s) ∙ ap (λ (k : ℕ). 5 * k) (length-rows u s)
@@ -86,11 +160,11 @@ module _ (u : List ℕ) (s : List ℤ) (v : List ℕ) (t : List ℤ) (ou : List 
           (g ∙ ap (λ (x : List Row). laid (wordsOf x) (take (length l₁ - 5 * length s) (drop (5 * length s) l₁))) later-is)
           ∙ ap (λ (x : List ℕ). laid x ou) (sym (words-append (rows u s) q))
 
-      pub join-shifts : (m₂ : List ℤ) → m₂ ≡ laid (shiftsOf (later v t d)) (take (length m₁ - length s) (drop (length s) m₁))
+      pub join-shifts : (m₂ : List ℤ) → m₂ ≡ laid t (take (length m₁ - length s) (drop (length s) m₁))
           → take (length s) m₁ ++ (m₂ ++ drop (length m₁ - length s) (drop (length s) m₁)) ≡ laid (shiftsOf (join (rows u s) (rows v t))) os
       join-shifts m₂ g =
           let q = map (moved (total (rows u s))) (rows v t) in
           let n = length-shifts q in
           laid-laid (shiftsOf (rows u s)) (shiftsOf q) os m₁ m₂ (length s) first-shifts (sym shifts-n) (omega (arith, shifts-n, second-n, room .shifts))
-          (g ∙ ap (λ (x : List Row). laid (shiftsOf x) (take (length m₁ - length s) (drop (length s) m₁))) later-is)
+          (g ∙ ap (λ (x : List ℤ). laid x (take (length m₁ - length s) (drop (length s) m₁))) (shifts-all v t ∙ sym (shifts-moved (total (rows u s)) (rows v t))))
           ∙ ap (λ (x : List ℤ). laid x os) (sym (shifts-append (rows u s) q))

@@ -67,7 +67,7 @@ module _ {x : Refusal} {m : List Row} {ou : List ℕ} {os : List ℤ} {k : ℕ} 
         is = read-back;
       }
 
-as-lent-refused : (x : Refusal) (m : List Row) (n i : ℕ) {A : Type 0} (p o o′ : List A) → Refused n i ≡ mappedOf x m → o′ ≡ after x p o → o′ ≡ o
+pub as-lent-refused : (x : Refusal) (m : List Row) (n i : ℕ) {A : Type 0} (p o o′ : List A) → Refused n i ≡ mappedOf x m → o′ ≡ after x p o → o′ ≡ o
 as-lent-refused Never m n i p o o′ e f = let z : _≡_ {A = ℕ} 0 1 = cc in absurd (omega arith)
 as-lent-refused (At n i) m _ _ p o o′ e f = f
 

@@ -1,5 +1,5 @@
 -- Runs of rows: where each row of a sound map lies, the row that holds a frame, and the rows that a cut takes. Assumes nothing.
-use Prim.Native.Nat.{ℕ, zero, suc, _+_, _-_, _≤_, _<_, min, max}
+use Prim.Native.Nat.{ℕ, zero, suc, _+_, _-_, _*_, _/_, _%_, _≤_, _<_, min, max}
 use native.Mathlib.Omega.{arith}
 use native.Mathlib.Nat.{not-suc-le-zero, le-of-suc-le-suc, add-zero}
 use mathlib.Core.Bool.{true, false}
@@ -76,7 +76,7 @@ module _ (f : ℕ → Row) where
       let z = start-next k in
       record { begins = omega (arith, o .out); ends = omega (arith, o .out); some = o .some; last = o .last; source = o .source }
 
-  run-append : (n m i : ℕ) → run f i (n + m) ≡ run f i n ++ run f (i + n) m
+  pub run-append : (n m i : ℕ) → run f i (n + m) ≡ run f i n ++ run f (i + n) m
   unfolding run
   run-append zero m i =
       let e : 0 + m ≡ m = omega arith in
@@ -116,6 +116,10 @@ pub record Between (u : List ℕ) (s : List ℤ) (k lo hi : ℕ) : Type 0 where
   pub low : (rowAt u s lo) .out ≤ k
   pub high : hi < length s → k < (rowAt u s hi) .out
 
+pub record Halved (u : List ℕ) (s : List ℤ) (k at n : ℕ) : Type 0 where
+  pub word : at % 5 ≡ 3
+  pub among : Between u s k (at / 5) (at / 5 + n)
+
 module _ {u : List ℕ} {s : List ℤ} (m : Sound u s) where
   pub row-lies : (k : ℕ) → k < length s → Lies (rowAt u s) k
   row-lies k h = lies (rowAt u s) (length s) k (m .well) h
@@ -134,8 +138,18 @@ module _ {u : List ℕ} {s : List ℤ} (m : Sound u s) where
   pub between-up : {k lo hi : ℕ} (x : ℕ) → Between u s k lo hi → x < hi → (rowAt u s x) .out ≤ k → Between u s k x hi
   between-up x b h l = record { some = h; within = b .within; low = l; high = b .high }
 
-  pub between-down : {k lo hi : ℕ} (x : ℕ) → Between u s k lo hi → lo < x → x < hi → k < (rowAt u s x) .out → Between u s k lo x
-  between-down x b h l t = record { some = h; within = omega (arith, b .within); low = b .low; high = λ z. t }
+  -- frame k lies before row x, so that it lies before each row from there on
+  pub between-down : {k lo hi : ℕ} (x y : ℕ) → Between u s k lo hi → lo < x → x ≤ y → y ≤ hi → k < (rowAt u s x) .out → Between u s k lo y
+  between-down x y b h l t z =
+      record {
+        some = omega arith;
+        within = omega (arith, b .within);
+        low = b .low;
+        high = λ n.
+            let p = row-lies x (omega arith) in
+            let q = row-lies y n in
+            omega (arith, p .begins, q .begins, start-rises (rowAt u s) x y l);
+      }
 
   pub between-end : {k lo hi : ℕ} → Between u s k lo hi → hi - lo ≤ 1 → k < total (rows u s) → Holder u s k lo
   between-end {k} {lo} {hi} b h t =
@@ -149,6 +163,30 @@ module _ {u : List ℕ} {s : List ℤ} (m : Sound u s) where
             (λ (z : suc lo < length s). let l = row-lies (suc lo) z in let w : k < (rowAt u s (suc lo)) .out = subst (λ (n : ℕ). k < (rowAt u s n) .out) e (b .high (omega arith)) in omega (arith, lies .ends, l .begins))
             (le-or-lt (length s) (suc lo));
       }
+
+  -- halving by words: the out first of the first of n rows is word at
+  pub halved-start : (k : ℕ) → Halved u s k 3 (length s)
+  halved-start k = let e : 0 + length s ≡ length s = omega arith in record { word = refl; among = rw e (between-start k) }
+
+  module _ {k at n : ℕ} (o : Halved u s k at n) (few : 1 < n) where
+    mid-out : (rowAt u s (at / 5 + n / 2)) .out ≡ getD u (at + 5 * (n / 2)) 0
+    mid-out = let e : 5 * (at / 5 + n / 2) + 3 ≡ at + 5 * (n / 2) = omega (arith, o .word) in ap (λ (j : ℕ). getD u j 0) e
+
+    pub halved-read : at + 5 * (n / 2) < length u
+    halved-read = omega (arith, o .word, o .among .within, m .sizes)
+
+    pub halved-up : getD u (at + 5 * (n / 2)) 0 ≤ k → Halved u s k (at + 5 * (n / 2)) (n - n / 2)
+    halved-up h =
+        let x : (at + 5 * (n / 2)) / 5 ≡ at / 5 + n / 2 = omega (arith, o .word) in
+        let y : (at + 5 * (n / 2)) / 5 + (n - n / 2) ≡ at / 5 + n = omega (arith, o .word) in
+        record { word = omega (arith, o .word); among = rw (y, x) (between-up (at / 5 + n / 2) (o .among) (omega arith) (omega (arith, mid-out))) }
+
+    pub halved-down : k < getD u (at + 5 * (n / 2)) 0 → Halved u s k at (n - n / 2)
+    halved-down h =
+        record { word = o .word; among = between-down (at / 5 + n / 2) (at / 5 + (n - n / 2)) (o .among) (omega arith) (omega arith) (omega arith) (omega (arith, mid-out)) }
+
+  pub halved-end : {k at n : ℕ} → Halved u s k at n → n ≤ 1 → k < total (rows u s) → Holder u s k (at / 5)
+  halved-end o h t = between-end (o .among) (omega arith) t
 
   -- the rows that a cut takes: from the one that holds a to the one that holds b - 1
   module _ (a b i j : ℕ) (h : a < b) (x : Holder u s a i) (y : Holder u s (b - 1) j) where

@@ -12,7 +12,7 @@ use Rattle.choice.specs.Choice.{when, maxU64}
 use Rattle.choice.specs.Records.{run}
 use Rattle.choice.specs.declared.Refusal.{Refusal}
 use Rattle.choice.specs.declared.Refusal.the-variants.{Never, At}
-use Rattle.choice.proofs.Runs.{run-cons, run-nil, length-run}
+use Rattle.choice.proofs.Runs.{run-cons, run-nil}
 use Rattle.slices.specs.Slices.{laid}
 use Rattle.slices.proofs.Laid.{length-laid, set-laid, sets-laid}
 use Rattle.rows.specs.declared.Row.{Row}
@@ -141,9 +141,6 @@ glue-fits c r b h = let o = runs-on c r b in omega (arith, o .first)
 -- all of a run
 pub run-start : (f : ℕ → Row) (n : ℕ) → run f 0 (n - 0) ≡ run f 0 n
 run-start f n = let e : n - 0 ≡ n = omega arith in ap (run f 0) e
-
-pub room-run : (f : ℕ → Row) (n : ℕ) {ou : List ℕ} {os : List ℤ} → Room n ou os → Room (length (run f 0 n)) ou os
-room-run f n r = let e = length-run f 0 n in record { words = omega (arith, r .words); shifts = omega (arith, r .shifts) }
 
 -- what a call that writes rows promises, from its two ends
 module _ {x : Refusal} {m : List Row} {ou : List ℕ} {os : List ℤ} where

@@ -3,7 +3,7 @@ use choice::MAX_U64;
 use choice::Refusal;
 use rows::Row;
 ghost use mathlib.Core.Path.{_≡_};
-ghost use Prim.Native.Nat.{_+_, _-_, _*_, _≤_, _<_, min, max};
+ghost use Prim.Native.Nat.{_+_, _-_, _*_, _%_, _^_, _≤_, _<_, min, max};
 ghost use lib.ListN.{length, set};
 ghost use lib.Seq.{sets};
 ghost use Rattle.choice.specs.Records.{run};
@@ -18,11 +18,11 @@ ghost use Rattle.maps.specs.Steps.{Sound, Room, Holder, counted, Span, P
 pub const MOST_ROWS: usize = 1024;
 
 // The refusals' numbers: a cut's range, rows malformed, too many rows or too little room, joined frames past 2^64 - 1, a frame past the map.
-const BAD_RANGE: u64 = 50;
+pub const BAD_RANGE: u64 = 50;
 
 const BAD_ROWS: u64 = 51;
 
-const ROWS_OVER: u64 = 52;
+pub const ROWS_OVER: u64 = 52;
 
 const FRAMES_OVER: u64 = 53;
 
@@ -41,7 +41,7 @@ pub enum Traced {
 }
 
 // A map's frames, or a refusal.
-enum Frames {
+pub enum Frames {
     Are(u64),
     Refused(u64, usize),
 }
@@ -68,10 +68,10 @@ fn row_at(u: &[u64], s: &[i64], i: usize) -> Row
     }
 }
 
-// Row r stored as row w.
-fn put_row(u: &mut [u64], s: &mut [i64], w: usize, r: Row)
-    requires { ⌜ (5 * w + 5 ≤ length (now u)) × (w < length (now s)) ⌝ }
-    ensures { λ _. ⌜ (now (u .exit) ≡ sets (now (u .entry)) (5 * w) (words r)) × (now (s .exit) ≡ set (now (s .entry)) w (r .shift)) ⌝ }
+// The words of row r stored as those of row w.
+fn put_words(u: &mut [u64], w: usize, r: Row)
+    requires { ⌜ 5 * w + 5 ≤ length (now u) ⌝ }
+    ensures { λ _. ⌜ now (u .exit) ≡ sets (now (u .entry)) (5 * w) (words r) ⌝ }
 {
     let j = 5 * w;
     u[j] = r.source;
@@ -79,18 +79,38 @@ fn put_row(u: &mut [u64], s: &mut [i64], w: usize, r: Row)
     u[j + 2] = r.count;
     u[j + 3] = r.out;
     u[j + 4] = r.flag;
+}
+
+// Row r stored as row w.
+fn put_row(u: &mut [u64], s: &mut [i64], w: usize, r: Row)
+    requires { ⌜ (5 * w + 5 ≤ length (now u)) × (w < length (now s)) ⌝ }
+    ensures { λ _. ⌜ (now (u .exit) ≡ sets (now (u .entry)) (5 * w) (words r)) × (now (s .exit) ≡ set (now (s .entry)) w (r .shift)) ⌝ }
+{
+    put_words(u, w, r);
     let shift = r.shift;
     s[w] = shift;
 }
 
-// Whether row r is well formed where output frame p is next.
-fn ok_row(p: u64, r: Row) -> bool
+// Whether row r is well formed where output frame p is next; end is next after it, where that doesn't wrap. A sum that wraps is less
+// than what was added to, so that one test of the source's end finds both that and a count of 0.
+fn ok_row(p: u64, end: u64, r: Row) -> bool
+    requires { ⌜ end ≡ (p + r .count) % 2 ^ 64 ⌝ }
     ensures { λ t. ⌜ t ≡ okRow p r ⌝ }
 {
-    let wraps = choice::is_past(r.first, r.count, MAX_U64);
-    let leaves = choice::is_past(r.out, r.count, MAX_U64);
-    let absent = signed::same(r.shift, 0);
-    (0 < r.count) & !wraps & !leaves & (r.out == p) & ((r.flag == 1) | ((r.flag == 0) & absent))
+    let source_end = std::num::wrapping_add_u64(r.first, r.count);
+    if source_end <= r.first {
+        return false;
+    }
+    if end < p {
+        return false;
+    }
+    if r.out != p {
+        return false;
+    }
+    if r.flag == 1 {
+        return true;
+    }
+    (r.flag == 0) & signed::same(r.shift, 0)
 }
 
 // Whether two lent slices have the lengths of a map of some rows; a shift has eight bytes, so that five times their number fits.
@@ -109,17 +129,18 @@ fn judge(u: &[u64], s: &[i64]) -> Frames
     let mut i: usize = 0;
     while i < s.len() {
         let r = row_at(u, s, i);
-        if !ok_row(p, r) {
+        let end = std::num::wrapping_add_u64(p, r.count);
+        if !ok_row(p, end, r) {
             return Frames::Refused(BAD_ROWS, i);
         }
-        p += r.count;
+        p = end;
         i += 1;
     }
     Frames::Are(p)
 }
 
 // The frames of a lent map, or 51.
-fn frames_of(u: &[u64], s: &[i64]) -> Frames
+pub fn frames_of(u: &[u64], s: &[i64]) -> Frames
     ensures { λ r. ⌜ r ≡ counted (mapRefusal (now (u .entry)) (now (s .entry))) (total (rows (now (u .entry)) (now (s .entry)))) ⌝ }
 {
     if !is_sized(u, s) {
@@ -128,22 +149,23 @@ fn frames_of(u: &[u64], s: &[i64]) -> Frames
     judge(u, s)
 }
 
-// The row that holds a frame, by halving: its out first is at most the frame, and that of the row after it is more.
-fn row_of(u: &[u64], s: &[i64], frame: u64) -> usize
+// The row that holds a frame, by halving: it is one of n rows, and word `at` is the out first of the first of them. The number of turns
+// doesn't depend on what is read, and no product stands before the read, so that a turn waits for little else.
+pub fn row_of(u: &[u64], s: &[i64], frame: u64) -> usize
     requires { ⌜ Sound (now u) (now s) × (frame < total (rows (now u) (now s))) ⌝ }
     ensures { λ r. ⌜ Holder (now (u .entry)) (now (s .entry)) frame r ⌝ }
 {
-    let mut lo: usize = 0;
-    let mut hi = s.len();
-    while 1 < hi - lo {
-        let mid = lo + (hi - lo) / 2;
-        if u[5 * mid + 3] <= frame {
-            lo = mid;
-        } else {
-            hi = mid;
+    let mut at: usize = 3;
+    let mut n = s.len();
+    while 1 < n {
+        let half = n / 2;
+        let mid = at + 5 * half;
+        n -= half;
+        if u[mid] <= frame {
+            at = mid;
         }
     }
-    lo
+    at / 5
 }
 
 // Whether k rows are no more than a map may have, nor than nu words and ns shifts hold.
@@ -219,7 +241,7 @@ fn plan_cut(u: &[u64], s: &[i64], a: u64, b: u64, nu: usize, ns: usize) -> Part
 }
 
 // The overlaps of k rows from row i on, written over the first rows of what is lent.
-fn write_cut(
+pub fn write_cut(
     u: &[u64],
     s: &[i64],
     a: u64,
@@ -371,15 +393,15 @@ fn later(r: Row, d: u64) -> Row
     }
 }
 
-// The rows of a map, d output frames later, written over the first rows of what is lent.
-fn write_moved(u: &[u64], s: &[i64], d: u64, ou: &mut [u64], os: &mut [i64])
-    requires { ⌜ Sound (now u) (now s) × (d + total (rows (now u) (now s)) ≤ maxU64) × Room (length (now s)) (now ou) (now os) ⌝ }
-    ensures { λ _. ⌜ (now (ou .exit) ≡ laid (wordsOf (run (λ j. moved d (rowAt (now (u .entry)) (now (s .entry)) j)) 0 (length (now (s .entry))))) (now (ou .entry))) × (now (os .exit) ≡ laid (shiftsOf (run (λ j. moved d (rowAt (now (u .entry)) (now (s .entry)) j)) 0 (length (now (s .entry))))) (now (os .entry))) ⌝ }
+// The words of a map's rows, d output frames later, written over the first of what is lent.
+fn write_moved(u: &[u64], s: &[i64], d: u64, ou: &mut [u64])
+    requires { ⌜ Sound (now u) (now s) × (d + total (rows (now u) (now s)) ≤ maxU64) × (5 * length (now s) ≤ length (now ou)) ⌝ }
+    ensures { λ _. ⌜ now (ou .exit) ≡ laid (wordsOf (run (λ j. moved d (rowAt (now (u .entry)) (now (s .entry)) j)) 0 (length (now (s .entry))))) (now (ou .entry)) ⌝ }
 {
     let mut i: usize = 0;
     while i < s.len() {
         let r = row_at(u, s, i);
-        put_row(ou, os, i, later(r, d));
+        put_words(ou, i, later(r, d));
         i += 1;
     }
 }
@@ -411,15 +433,17 @@ fn plan_join(u: &[u64], s: &[i64], v: &[u64], t: &[i64], nu: usize, ns: usize) -
     }
 }
 
-// Two maps, the first of d frames, written over the first rows of what is lent.
+// Two maps, the first of d frames, written over the first rows of what is lent. What isn't moved is copied as it lies, a slice at a time.
 fn write_join(u: &[u64], s: &[i64], d: u64, v: &[u64], t: &[i64], ou: &mut [u64], os: &mut [i64])
     requires { ⌜ Sound (now u) (now s) × Sound (now v) (now t) × (d ≡ total (rows (now u) (now s))) × (d + total (rows (now v) (now t)) ≤ maxU64) × Room (length (now s) + length (now t)) (now ou) (now os) ⌝ }
     ensures { λ _. ⌜ (now (ou .exit) ≡ laid (wordsOf (join (rows (now (u .entry)) (now (s .entry))) (rows (now (v .entry)) (now (t .entry))))) (now (ou .entry))) × (now (os .exit) ≡ laid (shiftsOf (join (rows (now (u .entry)) (now (s .entry))) (rows (now (v .entry)) (now (t .entry))))) (now (os .entry))) ⌝ }
 {
-    write_moved(u, s, 0, ou, os);
+    slices::copy_words(u, ou);
+    slices::copy(s, os);
     let n = s.len();
     let m = 5 * n;
-    write_moved(v, t, d, &mut ou[m..], &mut os[n..]);
+    write_moved(v, t, d, &mut ou[m..]);
+    slices::copy(t, &mut os[n..]);
 }
 
 // Two maps into what is lent, the second after the first, its out firsts moved.

@@ -18,7 +18,8 @@ use Rattle.choice.specs.Choice.{when}
 use Rattle.choice.specs.Records.{firstRefused}
 use Rattle.choice.proofs.Tests.{decide}
 use Rattle.signed.proofs.Order.{not-lt-le}
-use Rattle.order.specs.Order.{Asc}
+use Rattle.order.specs.Order.{Asc, countBy}
+use Rattle.order.specs.Steps.{countLt}
 use Rattle.order.proofs.Sorted.{least-lower}
 use Rattle.mcraw.specs.Mcraw.{falling, falls, gaps}
 
@@ -61,6 +62,19 @@ less-below (negsuc a) (negsuc b) = sign (ltb (suc b) (suc a)) ∙ leb·suc-suc (
     sign : (t : Bool) → ltZ (cond t (negsuc (suc a - suc (suc b))) (pos (suc b - suc a))) (pos 0) ≡ t
     sign true = refl
     sign false = le-ltb (suc b - suc a) 0 (omega arith)
+
+-- the interval before timestamp i is below 0 exactly where it falls
+pub falls-at : (l : List ℤ) (i : ℕ) → 0 < i → i < length l → ltZ (getD (gaps l) (i - 1) (pos 0)) (pos 0) ≡ ltZ (getD l i (pos 0)) (getD l (i - 1) (pos 0))
+falls-at l i from h = ap (λ (g : ℤ). ltZ g (pos 0)) (gap-at l i from h) ∙ less-below (getD l i (pos 0)) (getD l (i - 1) (pos 0))
+
+-- where none is, nothing is refused
+pub none-falls : (l : List ℤ) (i : ℕ) → 0 ≡ countLt (pos 0) l → Never ≡ firstRefused falls i l
+unfolding countBy firstRefused when
+none-falls [] i e = refl
+none-falls (g ∷ l) i e =
+    decide (ltZ g (pos 0))
+    (λ t. let some : 0 ≡ suc (countLt (pos 0) l) = rw t at e in absurd (omega arith))
+    (λ t. rw t (none-falls l (suc i) (rw t at e)))
 
 -- ---- a loop over the timestamps: `firstRefused falls i (drop (i - 1) (gaps ts)) ≡ r`, with r the whole answer
 module _ (ts : List ℤ) (i : ℕ) (r : Refusal) where

@@ -2,8 +2,10 @@
 ghost use mathlib.Core.Path.{_≡_};
 ghost use Prim.Native.Nat.{_-_, _≤_};
 ghost use lib.ListN.{length};
+ghost use lib.IntN.{pos};
 ghost use Rattle.signed.specs.Steps.{I64};
 ghost use Rattle.slices.specs.Slices.{laid, All};
+ghost use Rattle.order.specs.Steps.{countLt};
 ghost use Rattle.mcraw.specs.Mcraw.{gaps, startsOf, nominal, fallOf, mcrawTimes, startsWritten, McrawAnswers};
 use choice::NO_ROOM;
 use choice::NO_TIMES;
@@ -31,10 +33,30 @@ pub enum RecordingTimes {
     Refused(u64, usize),
 }
 
+// How many timestamps lie below the one before them. It ends at none of them, so that several can be compared at a time.
+fn count_falls(ts: &[i64]) -> usize
+    ensures { λ r. ⌜ r ≡ countLt (pos 0) (gaps (now (ts .entry))) ⌝ }
+{
+    let mut n: usize = 0;
+    let mut i: usize = 1;
+    while i < ts.len() {
+        let x = ts[i];
+        let earlier = ts[i - 1];
+        if x < earlier {
+            n += 1;
+        }
+        i += 1;
+    }
+    n
+}
+
 // The first timestamp that lies below the one before it.
 fn first_fall(ts: &[i64]) -> Refusal
     ensures { λ r. ⌜ r ≡ fallOf (now (ts .entry)) ⌝ }
 {
+    if count_falls(ts) == 0 {
+        return Refusal::Never;
+    }
     let mut i: usize = 1;
     while i < ts.len() {
         let before = i - 1;
@@ -66,7 +88,7 @@ fn middle_interval(ts: &[i64], out: &mut [i64]) -> i64
     ensures { λ r. ⌜ r ≡ nominal (now (ts .entry)) ⌝ }
 {
     write_intervals(ts, out);
-    order::select(out, (ts.len() - 2) / 2)
+    selection::select(out, (ts.len() - 2) / 2)
 }
 
 // Writes each timestamp less the first over the start of starts.

@@ -1,11 +1,11 @@
 pub mod Sorted
+pub mod Swapping
+pub mod Raising
 pub mod Counts
 pub mod Settling
 pub mod Merging
 pub mod Joining
 pub mod Halves
-pub mod Keeping
-pub mod Selecting
 pub mod Runs
 pub mod Mode
 pub mod Examples

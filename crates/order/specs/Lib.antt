@@ -1,4 +1,3 @@
 pub mod Order
 pub mod Meeting
-pub mod Keeping
 pub mod Steps

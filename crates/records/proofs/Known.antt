@@ -32,6 +32,7 @@ use Rattle.rules.specs.Lookups.{countSuch, overBy, ended, lookedUp, segmentOfFr
 use Rattle.rules.specs.Steps.{turnOf, walked}
 use Rattle.rules.proofs.Walks.{Walk, walk-start, walk-go, walk-stop, walk-end, turn-go, check-stops, check-goes}
 use Rattle.table.specs.Layout.{sourcesOf}
+use Rattle.table.specs.Steps.{FineFront}
 use Rattle.records.specs.declared.TrimSegment.{TrimSegment}
 use Rattle.records.specs.declared.SoFar.{SoFar}
 use Rattle.records.specs.Records.{locate}
@@ -150,6 +151,10 @@ module _ (srcs : List Source) (frame : ℕ) (rs : List TrimSegment) where
   many (suc k) h =
       ⊎-elim (λ l. let e = few k (omega arith) in let z = next-n (after srcs frame rs k) (recordAt rs k) (omega arith) in omega arith)
       (λ l. rw (next-full (after srcs frame rs k) (recordAt rs k) (many k l)) (many k l)) (le-or-lt k maxSegments)
+
+-- 1, of sources, and 2 to 8 refuse nothing
+pub front-fine : (sources text : List ℕ) (log : Bool) (n : ℕ) → FineFront sources log text n → frontRefusal log text (sourcesOf sources) (badSources sources text) n ≡ Never
+front-fine sources text log n f = rw (f .even, f .words) (f .none)
 
 -- over the limit 1 or 2 refuses, however many there are
 front-over : (log : Bool) (text : List ℕ) (srcs : List Source) (bad : Bool) (n : ℕ) → maxSegments < n → frontRefusal log text srcs bad n ≡ At (cond bad 1 2) 0

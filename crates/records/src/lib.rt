@@ -103,7 +103,7 @@ fn times_of(r: TrimSegment) -> SixTimes
     }
 }
 
-// 9 to 17 of a record, after one that ends at prev.
+// 9 to 17 of a record, after one that ends at prev. Most records pass: that is asked first.
 fn turn_of_record(sources: &[u64], prev: Ends, r: TrimSegment) -> Turn
     ensures { λ t. ⌜ t ≡ turnOf (sourcesOf (now (sources .entry))) prev (segmentOf r) ⌝ }
 {
@@ -113,6 +113,21 @@ fn turn_of_record(sources: &[u64], prev: Ends, r: TrimSegment) -> Turn
         return Turn::Stop(9);
     }
     let s = table::source_at(sources, from);
+    let next = rules::pass(
+        s,
+        prev,
+        w,
+        r.src_start_us,
+        r.out_start_us,
+        r.duration_us,
+        r.src_capture_start_us,
+        r.out_capture_start_us,
+        r.capture_duration_us,
+        r.clock_shift,
+    );
+    if next.some {
+        return Turn::Go(next);
+    }
     rules::turn_of(s, prev, w, times_of(r))
 }
 
@@ -241,6 +256,9 @@ fn decide(front: Refusal, stopped: bool, number: u64, at: usize, ended: usize, n
 pub fn answer(sources: &[u64], text: &[u8], s: SoFar, log: bool) -> Lookup
     ensures { λ r. ⌜ r ≡ answerOf (now (sources .entry)) (now (text .entry)) s log ⌝ }
 {
+    if table::fine_front(sources, log, text, s.n) {
+        return decide(Refusal::Never, s.stopped, s.number, s.at, s.ended, s.n);
+    }
     let bad = (sources.len() % SOURCE != 0) | table::bad_sources(sources, text.len() as u64);
     let front = table::front(sources, log, text, bad, s.n);
     decide(front, s.stopped, s.number, s.at, s.ended, s.n)

@@ -1,4 +1,6 @@
 // Cuts, joins, merges and origins of frame maps on stored cases: stdin has the cases, stdout the answers (compare/README.md).
+mod many;
+
 use cases::lent;
 use cases::lines;
 use cases::read;
@@ -121,6 +123,8 @@ fn origin(line: &[u8], c: Cursor, u: &[u64], s: &[i64]) {
 fn answer_to(line: &[u8], c: Cursor, u: &[u64], s: &[i64]) {
     if read::is(line, b"cut") {
         cut(line, c, u, s);
+    } else if read::is(line, b"cuts") {
+        many::cuts(line, c, u, s);
     } else if read::is(line, b"join") {
         join(line, c, u, s);
     } else if read::is(line, b"merge") {

@@ -1,6 +1,8 @@
 pub mod Dates
 mod Chain
 pub mod Turns
+pub mod Signs
+pub mod Fine
 pub mod Walks
 pub mod Says
 pub mod Conditions

@@ -1,8 +1,8 @@
 -- A segment's turn: a refusal stops it, and where there is none its sums fit. Assumes nothing.
 use Prim.Native.Nat.{ℕ, zero, suc, _+_, _≤_}
 use native.Mathlib.Omega.{arith}
-use mathlib.Core.Path.{_≡_, refl}
-use mathlib.Core.Bool.{Bool, false}
+use mathlib.Core.Path.{_≡_, refl, sym}
+use mathlib.Core.Bool.{Bool, false, _||_}
 use lib.Dec.{eqb}
 use borrow.Author.Tests.{eqb-true, not-false}
 use Rattle.choice.specs.Choice.{when, past, maxU64}
@@ -14,8 +14,8 @@ use Rattle.rules.specs.declared.SixTimes.{SixTimes}
 use Rattle.rules.specs.declared.Ends.{Ends}
 use Rattle.rules.specs.declared.Turn.the-variants.{Stop, Go}
 use Rattle.rules.specs.Limits.{maxI64}
-use Rattle.rules.specs.Rules.{judged}
-use Rattle.rules.specs.Steps.{stopOr}
+use Rattle.rules.specs.Rules.{tooLate, apart, badShift, judged}
+use Rattle.rules.specs.Steps.{stopOr, FineFrames}
 
 pub stop-at : {n m : ℕ} (next : Ends) → n ≡ m → (n ≡ 0 → ⊥) → Stop n ≡ stopOr m next
 unfolding stopOr
@@ -28,6 +28,11 @@ stop-at {n} {m} next e h = rw (← e) (go n h)
 pub go-on : {n m : ℕ} (next : Ends) → n ≡ m → n ≡ 0 → Go next ≡ stopOr m next
 unfolding stopOr
 go-on next e z = rw (← e, z)
+
+-- a chain's test fails, and so do those after it
+pass : {b : Bool} {rest : ℕ} (n : ℕ) → b ≡ false → 0 ≡ rest → 0 ≡ when b n rest
+unfolding when
+pass {b} {rest} n e h = rw e h
 
 -- a chain's test failed, and so did those after it
 skip : (b : Bool) (n rest : ℕ) → when b (suc n) rest ≡ 0 → (b ≡ false) × (rest ≡ 0)
@@ -56,3 +61,13 @@ judged-fit s prev w t e =
       time = past-not _ _ _ (late .0);
       capture = past-not _ _ _ (late .1);
     }
+
+-- none of 10 to 17 refuses
+pub judged-fine : (s : Source) (prev : Ends) (w : Words) (t : SixTimes) → FineFrames (s .frames) (w .first) (w .count) (w .out) (prev .frame) → t .negative ≡ false
+    → apart (prev .some) (prev .time) (prev .capture) (t .outstart) (t .outcap) || (tooLate (t .srcstart) (t .duration) (t .srccap) (t .capdur) || tooLate (t .outstart) (t .duration) (t .outcap) (t .capdur)) ≡ false
+    → badShift (s .kind) (s .modulus) (w .flag) (t .back) (t .shift) ≡ false → judged s prev w t ≡ 0
+unfolding judged
+judged-fine s prev w t f n l b =
+    let x = or-false (apart (prev .some) (prev .time) (prev .capture) (t .outstart) (t .outcap)) (tooLate (t .srcstart) (t .duration) (t .srccap) (t .capdur) || tooLate (t .outstart) (t .duration) (t .outcap) (t .capdur)) l in
+    let y = or-false (tooLate (t .srcstart) (t .duration) (t .srccap) (t .capdur)) (tooLate (t .outstart) (t .duration) (t .outcap) (t .capdur)) (x .1) in
+    sym (pass _ (f .some) (pass _ (f .fits) (pass _ (f .inside) (pass _ n (pass _ (y .0) (pass _ (f .next) (pass _ (x .0) (pass _ (y .1) (pass _ b refl)))))))))

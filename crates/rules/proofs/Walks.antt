@@ -18,8 +18,8 @@ use Rattle.rules.specs.declared.Ends.{Ends}
 use Rattle.rules.specs.declared.Turn.the-variants.{Stop, Go}
 use Rattle.rules.specs.declared.Checked.the-variants.{Frames, Refused}
 use Rattle.rules.specs.Records.{Segment, Table, noSource, sourceOf, frameTotal}
-use Rattle.rules.specs.Rules.{stampTimes, judged, segmentRefusal, start, endsOf, ends, segmentsFrom, malformed, frontRefusal, refusal, checkedOf, checkOf}
-use Rattle.rules.specs.Steps.{stopOr, turned, turnOf, walked}
+use Rattle.rules.specs.Rules.{badSegment, stampTimes, judged, segmentRefusal, start, endsOf, ends, segmentsFrom, malformed, frontRefusal, refusal, checkedOf, checkOf}
+use Rattle.rules.specs.Steps.{stopOr, turned, turnOf, walked, Passes, PassesOf}
 use Rattle.rules.proofs.Turns.{judged-fit}
 
 -- a turn's answer says whether a refusal was found, and where the walk goes on
@@ -40,6 +40,11 @@ unfolding segmentRefusal
 not-refused srcs prev e q =
     let s = when-zero _ _ _ (λ z. let y : _≡_ {A = ℕ} 9 0 = z in omega arith) q in
     (leb-false (length srcs) (e .words .source) (s .0), s .1)
+
+-- a segment that nothing refuses goes on from its end
+pub turn-on : (srcs : List Source) (prev : Ends) (e : Segment) {next : Ends} → PassesOf srcs prev e next → turnOf srcs prev e ≡ Go next
+unfolding turnOf stopOr
+turn-on srcs prev e p = rw (p .none, p .end)
 
 -- the segment begins where the one before ends
 next-frame : (srcs : List Source) (prev : Ends) (e : Segment) → segmentRefusal srcs prev e ≡ 0 → ends e .frame ≡ prev .frame + e .words .count
@@ -96,6 +101,15 @@ module _ (srcs : List Source) (f : ℕ → Segment) (m : ℕ) where
 
 -- the source that a segment names, of n sources g 0, g 1, ..
 module _ (g : ℕ → Source) (n : ℕ) (prev : Ends) (e : Segment) where
+  -- what nothing refuses of a source that is there, nothing refuses
+  pub passes-of : {to : Ends} → e .words .source < n → Passes (g (e .words .source)) prev (e .words) (e .stamps) to → PassesOf (run g 0 n) prev e to
+  unfolding badSegment segmentRefusal ends when
+  passes-of h p = record {
+    flagged = p .flagged;
+    none = rw (length-run g 0 n, lt-leb n (e .words .source) h, getD-run g 0 n (e .words .source) noSource h, zero-add) (p .none);
+    end = p .end;
+  }
+
   pub turn-none : n ≤ e .words .source → Stop 9 ≡ turnOf (run g 0 n) prev e
   unfolding turnOf stopOr segmentRefusal when
   turn-none h = rw (length-run g 0 n, le-leb n (e .words .source) h)

@@ -1,8 +1,11 @@
 -- Words of the contracts inside this crate and of a layout's loop: parts of the chain of Rules, and a segment's turn.
 use Prim.Native.Nat.{ℕ, zero, suc, _≤_, _<_}
-use mathlib.Core.Bool.{not, _||_}
+use mathlib.Core.Path.{_≡_}
+use mathlib.Core.Bool.{Bool, false, not, _||_}
 use mathlib.Core.List.{List}
-use lib.Dec.{leb, eqb}
+use lib.Dec.{ltb, leb, eqb}
+use lib.IntN.{ℤ, natAbs}
+use lib.ListN.{length}
 use Rattle.choice.specs.Choice.{when, past, maxU64}
 use Rattle.choice.specs.Records.{run}
 use Rattle.rules.specs.declared.Source.{Source}
@@ -12,9 +15,9 @@ use Rattle.rules.specs.declared.Ends.{Ends}
 use Rattle.rules.specs.declared.Turn.{Turn}
 use Rattle.rules.specs.declared.Checked.{Checked}
 use Rattle.rules.specs.declared.Turn.the-variants.{Stop, Go}
-use Rattle.rules.specs.Records.{Segment, frameTotal}
+use Rattle.rules.specs.Records.{Stamps, Segment, frameTotal}
 use Rattle.rules.specs.Lookups.{countSuch}
-use Rattle.rules.specs.Rules.{tooLate, apart, judged, endsOf, segmentRefusal, ends, segmentsFrom, start, checkedOf}
+use Rattle.rules.specs.Rules.{badSource, badSegment, sourceRefusal, negative, stampTimes, tooLate, apart, badShift, judged, endsOf, segmentRefusal, ends, segmentsFrom, start, checkedOf}
 
 -- 10 to 12, and then the rest
 abbrev pub framesOr : ℕ → ℕ → ℕ → ℕ → ℕ → ℕ
@@ -49,6 +52,48 @@ turnOf srcs prev e = stopOr (segmentRefusal srcs prev e) (ends e)
 -- 9 to 17 of all segments, then the frame total
 unfoldable pub walked : List Source → List Segment → Checked
 walked srcs segs = checkedOf (segmentsFrom srcs 0 start segs) (frameTotal segs)
+
+-- ---- what a walk asks that only asks whether nothing refuses: the order of the tests has no say in it
+
+-- none of 10, 11, 12 and 15 holds of a segment after one that ends at `before`
+pub record FineFrames (frames first count out before : ℕ) : Type 0 where
+  pub some : eqb count 0 ≡ false
+  pub fits : (past out count maxU64 || past first count maxU64) ≡ false
+  pub inside : past first count frames ≡ false
+  pub next : not (eqb out before) ≡ false
+
+-- 14 or 16 holds of times after a segment that ends at prev
+abbrev pub outOfTime : Ends → ℕ → ℕ → ℕ → ℕ → ℕ → ℕ → Bool
+outOfTime prev srcstart outstart duration srccap outcap capdur =
+    apart (prev .some) (prev .time) (prev .capture) outstart outcap
+    || (tooLate srcstart duration srccap capdur || tooLate outstart duration outcap capdur)
+
+-- neither 1 holds of a segment's flag nor 17 of its shift
+pub record FineShift (kind modulus flag : ℕ) (shift : ℤ) : Type 0 where
+  pub flagged : ltb 1 flag ≡ false
+  pub within : badShift kind modulus flag (negative shift) (natAbs shift) ≡ false
+
+-- a segment's signed words
+abbrev pub sevenStamps : ℤ → ℤ → ℤ → ℤ → ℤ → ℤ → ℤ → Stamps
+sevenStamps srcstart outstart duration srccap outcap capdur shift =
+    record { srcstart = srcstart; outstart = outstart; duration = duration; srccap = srccap; outcap = outcap; capdur = capdur; shift = shift }
+
+-- a segment of the source s, after one that ends at prev: neither 1 nor any of 10 to 17 holds, and it ends at `to`
+pub record Passes (s : Source) (prev : Ends) (w : Words) (e : Stamps) (to : Ends) : Type 0 where
+  pub flagged : ltb 1 (w .flag) ≡ false
+  pub none : judged s prev w (stampTimes e) ≡ 0
+  pub end : to ≡ endsOf w (stampTimes e)
+
+-- the same of a segment of one of the sources, with 9
+pub record PassesOf (srcs : List Source) (prev : Ends) (e : Segment) (to : Ends) : Type 0 where
+  pub flagged : badSegment e ≡ false
+  pub none : segmentRefusal srcs prev e ≡ 0
+  pub end : to ≡ ends e
+
+-- neither 1 nor any of 4 to 7 holds of a source
+pub record FineSource (log : Bool) (text : List ℕ) (s : Source) : Type 0 where
+  pub words : badSource (length text) s ≡ false
+  pub none : sourceRefusal log text s ≡ 0
 
 -- how many of the ends e 0, .., e (n - 1) are at most v
 unfoldable pub endedBy : (ℕ → ℕ) → ℕ → ℕ → ℕ

@@ -1,8 +1,12 @@
 // Refusals 1 to 17 over records: no word here knows how a table is lent. The Rust's SegmentTable::check.
 use choice::MAX_U64;
 ghost use mathlib.Core.Path.{_≡_};
-ghost use Rattle.rules.specs.Rules.{badWords, noRate, badDate, badClock, sourceRefusal, tooLate, apart, badShift, overLimit, judged};
-ghost use Rattle.rules.specs.Steps.{framesOr, timesOr, turned};
+ghost use mathlib.Core.Bool.{true, false, not, _||_};
+ghost use Prim.Native.Nat.{_≤_};
+ghost use lib.IntN.{natAbs};
+ghost use Rattle.rules.specs.Limits.{maxI64};
+ghost use Rattle.rules.specs.Rules.{badWords, noRate, badDate, badClock, sourceRefusal, negative, tooLate, apart, badShift, overLimit, judged, start};
+ghost use Rattle.rules.specs.Steps.{framesOr, timesOr, turned, FineFrames, FineShift, outOfTime, sevenStamps, Passes};
 
 // Limits of 2.
 const MAX_SOURCES: usize = 64;
@@ -263,4 +267,139 @@ pub fn turn_of(s: Source, prev: Ends, w: Words, t: SixTimes) -> Turn
         time: t.outstart + t.duration,
         capture: t.outcap + t.capdur,
     })
+}
+
+// No end: what stands before the first segment, and what a segment that isn't passed has.
+pub fn no_end() -> Ends
+    ensures { λ r. ⌜ r ≡ start ⌝ }
+{
+    Ends {
+        some: false,
+        frame: 0,
+        time: 0,
+        capture: 0,
+    }
+}
+
+// A number that isn't negative.
+pub fn plain(x: i64) -> u64
+    requires { ⌜ negative x ≡ false ⌝ }
+    ensures { λ r. ⌜ (r ≡ natAbs x) × (r ≤ maxI64) ⌝ }
+{
+    x as u64
+}
+
+// Whether any of six times is negative.
+fn any_negative(a: i64, b: i64, c: i64, d: i64, e: i64, f: i64) -> bool
+    ensures { λ r. ⌜ r ≡ ((negative a || negative b) || (negative c || negative d)) || (negative e || negative f) ⌝ }
+{
+    let first = signed::negative(a) | signed::negative(b);
+    let second = signed::negative(c) | signed::negative(d);
+    let third = signed::negative(e) | signed::negative(f);
+    (first | second) | third
+}
+
+// Whether none of 10, 11, 12 and 15 refuses a segment after one that ends at `before`. Which would be first isn't asked, so that each sum is tested once.
+fn fine_frames(frames: u64, first: u64, count: u64, out: u64, before: u64) -> bool
+    ensures { λ r. ⌜ (r ≡ true → FineFrames frames first count out before) ⌝ }
+{
+    if count == 0 {
+        return false;
+    }
+    if out != before {
+        return false;
+    }
+    if count > MAX_U64 - out {
+        return false;
+    }
+    if count > frames {
+        return false;
+    }
+    first <= frames - count
+}
+
+// Whether neither 1 refuses a segment's flag nor 17 its shift.
+fn fine_shift(kind: u64, modulus: u64, flag: u64, shift: i64) -> bool
+    ensures { λ r. ⌜ (r ≡ true → FineShift kind modulus flag shift) ⌝ }
+{
+    if kind == 0 {
+        return flag == 0;
+    }
+    if flag != 1 {
+        return false;
+    }
+    if kind != 2 {
+        return true;
+    }
+    if signed::negative(shift) {
+        return false;
+    }
+    plain(shift) < modulus
+}
+
+// 14 of numbers that aren't negative: their sums fit.
+fn late(start: u64, duration: u64, cap: u64, capdur: u64) -> bool
+    requires { ⌜ (start ≤ maxI64) × (duration ≤ maxI64) × (cap ≤ maxI64) × (capdur ≤ maxI64) ⌝ }
+    ensures { λ r. ⌜ r ≡ tooLate start duration cap capdur ⌝ }
+{
+    (start + duration > MAX_I64) | (cap + capdur > MAX_I64)
+}
+
+// Whether neither 14 nor 16 refuses a segment whose times aren't negative, after one that ends at prev.
+fn fine_times(
+    prev: Ends,
+    srcstart: u64,
+    outstart: u64,
+    duration: u64,
+    srccap: u64,
+    outcap: u64,
+    capdur: u64,
+) -> bool
+    requires { ⌜ (srcstart ≤ maxI64) × (outstart ≤ maxI64) × (duration ≤ maxI64) × (srccap ≤ maxI64) × (outcap ≤ maxI64) × (capdur ≤ maxI64) ⌝ }
+    ensures { λ r. ⌜ r ≡ not (outOfTime prev srcstart outstart duration srccap outcap capdur) ⌝ }
+{
+    let gap = is_apart(prev.some, prev.time, prev.capture, outstart, outcap);
+    let a = late(srcstart, duration, srccap, capdur);
+    let b = late(outstart, duration, outcap, capdur);
+    !(gap | (a | b))
+}
+
+// Passes a segment of the source s, after one that ends at prev: where it ends, or no end where 1 or one of 10 to 17 may refuse it. Which one does isn't asked,
+// so that few tests are needed: most segments pass.
+pub fn pass(
+    s: Source,
+    prev: Ends,
+    w: Words,
+    srcstart: i64,
+    outstart: i64,
+    duration: i64,
+    srccap: i64,
+    outcap: i64,
+    capdur: i64,
+    shift: i64,
+) -> Ends
+    ensures { λ r. ⌜ (r .some ≡ true → Passes s prev w (sevenStamps srcstart outstart duration srccap outcap capdur shift) r) ⌝ }
+{
+    if !fine_frames(s.frames, w.first, w.count, w.out, prev.frame) {
+        return no_end();
+    }
+    if !fine_shift(s.kind, s.modulus, w.flag, shift) {
+        return no_end();
+    }
+    if any_negative(srcstart, outstart, duration, srccap, outcap, capdur) {
+        return no_end();
+    }
+    let b = plain(outstart);
+    let c = plain(duration);
+    let e = plain(outcap);
+    let f = plain(capdur);
+    if !fine_times(prev, plain(srcstart), b, c, plain(srccap), e, f) {
+        return no_end();
+    }
+    Ends {
+        some: true,
+        frame: w.out + w.count,
+        time: b + c,
+        capture: e + f,
+    }
 }

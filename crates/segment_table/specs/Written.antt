@@ -1,6 +1,6 @@
 -- What a C caller is told of a call that writes slices, and what these hold afterwards.
 use Prim.Native.Nat.{ℕ}
-use mathlib.Core.List.{List}
+use mathlib.Core.List.{List, map}
 use mathlib.Core.Path.{_≡_}
 use lib.IntN.{ℤ}
 use lib.ListN.{length}
@@ -13,6 +13,7 @@ use Rattle.table.specs.Rows as table
 use Rattle.lookups.specs.Indices.{indicesOf, indicesRefusal, indexed}
 use Rattle.maps.specs.declared.Traced.{Traced}
 use Rattle.maps.specs.Answers.{cutRefusal, joinRefusal, mergeRefusal, originRefusal, mappedOf, tracedOf}
+use Rattle.cuts.specs.Answers.{rangesOf, cutsOf, concat, cutsRefusal}
 use Rattle.slices.specs.Slices.{laid, after, zeros}
 use Rattle.mcraw.specs.Mcraw.{mcrawTimes, startsWritten}
 use Rattle.frame_times.specs.Times as moov
@@ -45,6 +46,15 @@ JoinTold u s v t ou os = MapTold (joinRefusal u s v t (length ou) (length os)) (
 
 abbrev pub MergeTold : List ℕ → List ℤ → List ℕ → List ℤ → ℕ → ℕ → List ℕ → List ℤ → ℕ → ℕ → Type 0
 MergeTold u s ou os = MapTold (mergeRefusal u s (length ou) (length os)) (merge (rows u s)) ou os
+
+-- cuts l were asked for, or refused: the same of their rows, and the counts
+pub record PlacingTold (x : Refusal) (l : List (List Row)) (ou : List ℕ) (os : List ℤ) (counts : List ℕ) (rows r : ℕ) (ou′ : List ℕ) (os′ : List ℤ) (counts′ : List ℕ) (rows′ index′ : ℕ) : Type 0 where
+  pub placed : MapTold x (concat l) ou os rows r ou′ os′ rows′ index′
+  pub counted : counts′ ≡ after x (map length l) counts
+
+-- many cuts, by the library's promise `Cuts`
+abbrev pub CutsTold : List ℕ → List ℤ → List ℕ → List ℕ → List ℤ → List ℕ → ℕ → ℕ → List ℕ → List ℤ → List ℕ → ℕ → ℕ → Type 0
+CutsTold u s ranges ou os counts = PlacingTold (cutsRefusal u s ranges (length ou) (length os) (length counts)) (cutsOf (rows u s) (rangesOf ranges)) ou os counts
 
 -- where frame k of a lent map comes from
 abbrev pub originOf : List ℕ → List ℤ → ℕ → Traced

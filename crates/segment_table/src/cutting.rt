@@ -1,7 +1,7 @@
-// Maps: cut, join, merge, and the origin of a frame.
+// Maps: cut, many cuts, join, merge, and the origin of a frame.
 ghost use mathlib.Core.Path.{_≡_};
 ghost use Rattle.told.specs.Told.{tracedTold};
-ghost use Rattle.segment_table.specs.Written.{CutTold, JoinTold, MergeTold, originOf};
+ghost use Rattle.segment_table.specs.Written.{CutTold, CutsTold, JoinTold, MergeTold, originOf};
 
 // The frames a..b of a map as a map: each row's overlap, counted from a.
 // Lent: a map, and room for the rows. Writes the rows, rows (how many), index. Refuses: 51, 52, 50, 52.
@@ -19,6 +19,26 @@ pub extern "C" fn st_cut(
     ensures { λ r. ⌜ CutTold (now (words .entry)) (now (shifts .entry)) a b (now («out_words» .entry)) (now («out_shifts» .entry)) (now (rows .entry)) r (now («out_words» .exit)) (now («out_shifts» .exit)) (now (rows .exit)) (now (index .exit)) ⌝ }
 {
     let mapped = maps::cut(words, shifts, a, b, out_words, out_shifts);
+    told::cutting::tell_mapped(mapped, rows, index)
+}
+
+// Cuts of several ranges of a map, which is tested once: of each range the rows that st_cut writes, one cut after the other.
+// Lent: a map; ranges, two words each, a and b, or none; room for the rows of all cuts, and for a count of each. Writes the
+// rows, counts (how many each cut has), rows (how many in all, which may be over 1,024), index. Refuses: 51, 52, 50, 52.
+#[no_mangle]
+pub extern "C" fn st_cuts(
+    words: &[u64],
+    shifts: &[i64],
+    ranges: &[u64],
+    out_words: &mut [u64],
+    out_shifts: &mut [i64],
+    counts: &mut [u64],
+    rows: &mut u64,
+    index: &mut u64,
+) -> u64
+    ensures { λ r. ⌜ CutsTold (now (words .entry)) (now (shifts .entry)) (now (ranges .entry)) (now («out_words» .entry)) (now («out_shifts» .entry)) (now (counts .entry)) (now (rows .entry)) r (now («out_words» .exit)) (now («out_shifts» .exit)) (now (counts .exit)) (now (rows .exit)) (now (index .exit)) ⌝ }
+{
+    let mapped = cuts::cuts(words, shifts, ranges, out_words, out_shifts, counts);
     told::cutting::tell_mapped(mapped, rows, index)
 }
 

@@ -32,9 +32,10 @@
 // smallest; of a recording the middle interval, the lower of two.
 //
 // Refusals. The index is the source in 4 to 7, the segment in 9 to 17, 23 and 24, the later timestamp of the first falling
-// pair in 34, the row in 51 (0 for slice lengths or no rows, which are tested first), else 0. Each call names its refusals
-// in the order of its tests: 4 to 7 source by source, 9 to 17 and 23 with 24 segment by segment, a join's 51 of its first
-// map and then of its second.
+// pair in 34, the range in 50 of st_cuts (a last one without its end is tested first), the row in 51 (0 for slice lengths or
+// no rows, which are tested first), else 0. Each call names its refusals in the order of its tests: 4 to 7 source by
+// source, 9 to 17 and 23 with 24 segment by segment, 50 of st_cuts range by range, a join's 51 of its first map and then of
+// its second.
 //  1 a slice length isn't a multiple of its record, the two segment slices disagree, a flag or kind is outside its set,
 //    or a present creation time's range leaves the text
 //  2 over 64 sources or 512 segments
@@ -70,9 +71,9 @@
 // 40 no MTRM box: no moov, no udta in it, or none in that
 // 41 more than one MTRM box
 // 42 a search range outside the bytes, or starting past its end; an offset past the bytes
-// 50 cut range: a >= b, or b past the map
+// 50 cut range: a >= b, or b past the map; of st_cuts also an odd number of words
 // 51 map rows malformed, slice lengths that disagree, or no rows
-// 52 over 1,024 rows in or out, or lent room too small
+// 52 over 1,024 rows in or out (all cuts of st_cuts together may have more), or lent room too small
 // 53 joined frames pass 2^64 - 1
 // 54 frame past the map
 pub mod clock;

@@ -1,4 +1,4 @@
-// Lent slices of i64: clear and copy.
+// Lent slices: clear and copy.
 ghost use mathlib.Core.Path.{_≡_};
 ghost use Prim.Native.Nat.{_≤_};
 ghost use lib.ListN.{length};
@@ -23,6 +23,18 @@ pub fn copy(src: &[i64], dst: &mut [i64])
     let mut i = 0;
     while i < src.len() {
         dst[i] = src[i];
+        i += 1;
+    }
+}
+
+// Copies the words of `from` over the first of `to`.
+pub fn copy_words(from: &[u64], to: &mut [u64])
+    requires { ⌜ length (now from) ≤ length (now to) ⌝ }
+    ensures { λ _. ⌜ now (to .exit) ≡ laid (now (from .entry)) (now (to .entry)) ⌝ }
+{
+    let mut i = 0;
+    while i < from.len() {
+        to[i] = from[i];
         i += 1;
     }
 }

@@ -7,7 +7,7 @@ use mathlib.Core.List.{List}
 use lib.ListN.{length}
 use lib.Dec.{eqb}
 use lib.IntN.{ℤ}
-use borrow.Author.Tests.{eqb-true, not-false}
+use borrow.Author.Tests.{eq-eqb, eqb-true, not-false}
 use Rattle.choice.specs.declared.Refusal.{Refusal}
 use Rattle.choice.specs.declared.Refusal.the-variants.{Never, At}
 use Rattle.choice.specs.Choice.{when}
@@ -16,11 +16,12 @@ use Rattle.choice.proofs.Tests.{or-false, called}
 use Rattle.choice.proofs.Runs.{length-run}
 use Rattle.rules.specs.declared.Source.{Source}
 use Rattle.rules.specs.declared.Checked.{Checked}
-use Rattle.rules.specs.declared.Checked.the-variants.{Refused}
+use Rattle.rules.specs.declared.Checked.the-variants.{Frames, Refused}
 use Rattle.rules.specs.Rules.{badSource, badSegment, malformed, frontRefusal, checkOf}
 use Rattle.rules.specs.Steps.{walked}
 use Rattle.rules.proofs.Walks.{check-stops, check-goes}
 use Rattle.table.specs.Layout.{sourceWords, segmentWords, segmentStamps, sourceAt, segmentAt, sourcesOf, segmentsOf, badLengths, tableOf}
+use Rattle.table.specs.Steps.{FineLengths, FineFront, FineSegments}
 
 pub length-sources : (s : List ℕ) → length (sourcesOf s) ≡ length s / sourceWords
 unfolding sourcesOf
@@ -73,3 +74,11 @@ module _ (s u : List ℕ) (t : List ℤ) (log : Bool) (text : List ℕ) {a b c :
       let p = or-false (a || b) c (front-free log text (sourcesOf s) ((a || b) || c) (length u / segmentWords) (called er e)) in
       let q : badLengths (length s) (length u) (length t) ≡ false = called ea (or-false a b (p .0) .0) in
       omega (arith, even (length s) (length u) (length t) q .agree)
+
+-- a table that nothing refuses
+pub check-accepted : (s u : List ℕ) (t : List ℤ) (log : Bool) (text : List ℕ) {n : ℕ} → FineLengths (length u) (length t) → FineFront s log text (length u / segmentWords)
+    → FineSegments (sourcesOf s) (segmentsOf u t) n → Frames n ≡ checkOf (tableOf s u t log text)
+check-accepted s u t log text l f g =
+    let e : false ≡ badLengths (length s) (length u) (length t) =
+    rw (f .even, l .words, l .stamps, eq-eqb (length u / segmentWords) (length t / segmentStamps) (l .agree)) in
+    check-walked s u t log text e (sym (f .words)) (sym (g .flags)) (sym (f .none)) refl (g .frames)

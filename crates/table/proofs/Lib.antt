@@ -5,4 +5,3 @@ pub mod Mapped
 pub mod Alike
 pub mod Lengths
 pub mod Examples
-mod Signs

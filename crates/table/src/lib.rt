@@ -9,7 +9,7 @@ use rules::Source;
 use rules::Turn;
 use rules::Words;
 ghost use mathlib.Core.Path.{_≡_};
-ghost use mathlib.Core.Bool.{false};
+ghost use mathlib.Core.Bool.{true, false};
 ghost use mathlib.Core.List.{List, map};
 ghost use Prim.Native.Nat.{_+_, _-_, _*_, _/_, _≤_, _<_, min};
 ghost use lib.ListN.{length, getD};
@@ -19,12 +19,13 @@ ghost use Rattle.choice.specs.Choice.{maxU64};
 ghost use Rattle.rules.specs.Limits.{maxI64};
 ghost use Rattle.rules.specs.Rules.{negative, badSource, badSegment, sourceRefusal, stampTimes, frontRefusal, checkOf};
 ghost use Rattle.rules.specs.Lookups.{segmentOfFrame, segmentOfTime, sameShift, segmentRunsOn, continuesAt};
-ghost use Rattle.rules.specs.Steps.{turnOf, walked, endedBy, Ordered};
+ghost use Rattle.rules.specs.Steps.{turnOf, walked, endedBy, Ordered, FineSource, PassesOf};
+ghost use Rattle.rules.specs.declared.Checked.the-variants.{Frames};
 ghost use Rattle.table.specs.Layout.{sourceWords, segmentWords, segmentStamps, sourceAt, wordsAt, stampsAt, segmentAt, sourcesOf, segmentsOf, badLengths, tableOf};
 ghost use Rattle.slices.specs.Slices.{laid};
 ghost use Rattle.rows.specs.Lent.{shiftsOf};
 ghost use Rattle.table.specs.Rows.{rowOf, Rowed};
-ghost use Rattle.table.specs.Steps.{endAt, endUsAt, Searchable, indexIn};
+ghost use Rattle.table.specs.Steps.{endAt, endUsAt, Searchable, indexIn, FineLengths, FineFront, FineSegments};
 
 // Words of a source, unsigned words of a segment, signed words of a segment.
 pub const SOURCE: usize = 10;
@@ -84,20 +85,12 @@ fn magnitude_at(t: &[i64], i: usize) -> u64
     signed::magnitude(t[i])
 }
 
-// A number that isn't negative.
-fn plain(x: i64) -> u64
-    requires { ⌜ negative x ≡ false ⌝ }
-    ensures { λ r. ⌜ r ≡ natAbs x ⌝ }
-{
-    x as u64
-}
-
 // A signed word that isn't negative.
 fn plain_at(t: &[i64], i: usize) -> u64
     requires { ⌜ (i < length (now t)) × (negative (getD (now t) i (pos 0)) ≡ false) ⌝ }
     ensures { λ r. ⌜ r ≡ natAbs (getD (now (t .entry)) i (pos 0)) ⌝ }
 {
-    plain(t[i])
+    rules::plain(t[i])
 }
 
 // Whether any of the six times of segment k is negative.
@@ -284,8 +277,8 @@ fn segments(sources: &[u64], u: &[u64], t: &[i64]) -> Checked
     Checked::Frames(prev.frame)
 }
 
-// Checks a table: its frame total, or a refusal's number and index. The Rust's check.
-pub fn check(sources: &[u64], u: &[u64], t: &[i64], log: bool, text: &[u8]) -> Checked
+// Checks a table by all of 1 to 17, in their order.
+fn tested(sources: &[u64], u: &[u64], t: &[i64], log: bool, text: &[u8]) -> Checked
     ensures { λ r. ⌜ r ≡ checkOf (tableOf (now (sources .entry)) (now (u .entry)) (now (t .entry)) log (now (text .entry))) ⌝ }
 {
     let lengths = bad_lengths(sources.len(), u.len(), t.len());
@@ -294,6 +287,148 @@ pub fn check(sources: &[u64], u: &[u64], t: &[i64], log: bool, text: &[u8]) -> C
         Refusal::At(n, i) => Checked::Refused(n, i),
         Refusal::Never => segments(sources, u, t),
     }
+}
+
+// Whether the lengths of the segments' slices are whole and agree: the second is the first and two more a segment.
+fn fine_lengths(u: usize, t: usize) -> bool
+    ensures { λ r. ⌜ (r ≡ true → FineLengths u t) ⌝ }
+{
+    let m = u / WORDS;
+    if m * WORDS != u {
+        return false;
+    }
+    if t < u {
+        return false;
+    }
+    t - u == m * 2
+}
+
+// Whether neither 1 nor any of 4 to 7 refuses source k.
+fn fine_any_source_at(s: &[u64], log: bool, text: &[u8], k: usize) -> bool
+    requires { ⌜ k * sourceWords + sourceWords ≤ length (now s) ⌝ }
+    ensures { λ r. ⌜ (r ≡ true → FineSource log (now (text .entry)) (sourceAt (now (s .entry)) k)) ⌝ }
+{
+    if bad_source_at(s, text.len() as u64, k) {
+        return false;
+    }
+    source_refusal_at(s, log, text, k) == 0
+}
+
+// The same; of one without creation time and clock three words are left to test.
+fn fine_source_at(s: &[u64], log: bool, text: &[u8], k: usize) -> bool
+    requires { ⌜ k * sourceWords + sourceWords ≤ length (now s) ⌝ }
+    ensures { λ r. ⌜ (r ≡ true → FineSource log (now (text .entry)) (sourceAt (now (s .entry)) k)) ⌝ }
+{
+    let b = k * SOURCE;
+    if (s[b + 3] != 0) | (s[b + 6] != 0) {
+        return fine_any_source_at(s, log, text, k);
+    }
+    if log {
+        return false;
+    }
+    if s[b] == 0 {
+        return false;
+    }
+    if s[b + 1] == 0 {
+        return false;
+    }
+    s[b + 2] != 0
+}
+
+// Whether neither 1, of sources, nor any of 2 to 8 refuses, where n segments are lent.
+pub fn fine_front(s: &[u64], log: bool, text: &[u8], n: usize) -> bool
+    ensures { λ r. ⌜ (r ≡ true → FineFront (now (s .entry)) log (now (text .entry)) n) ⌝ }
+{
+    let m = s.len() / SOURCE;
+    if m * SOURCE != s.len() {
+        return false;
+    }
+    if rules::over_limit(m, n) {
+        return false;
+    }
+    if (m == 0) | (n == 0) {
+        return false;
+    }
+    let mut k = 0;
+    while k < m {
+        if !fine_source_at(s, log, text, k) {
+            return false;
+        }
+        k += 1;
+    }
+    true
+}
+
+// Passes segment k, after one that ends at prev: where it ends, or no end where 1 or one of 9 to 17 may refuse it.
+fn pass_at(sources: &[u64], u: &[u64], t: &[i64], prev: Ends, k: usize) -> Ends
+    requires { ⌜ (k * segmentWords + segmentWords ≤ length (now u)) × (k * segmentStamps + segmentStamps ≤ length (now t)) ⌝ }
+    ensures { λ r. ⌜ (r .some ≡ true → PassesOf (sourcesOf (now (sources .entry))) prev (segmentAt (now (u .entry)) (now (t .entry)) k) r) ⌝ }
+{
+    let w = words_at(u, k);
+    let from = w.source as usize;
+    if from >= sources.len() / SOURCE {
+        return rules::no_end();
+    }
+    let s = source_at(sources, from);
+    let d = k * STAMPS;
+    rules::pass(
+        s,
+        prev,
+        w,
+        t[d],
+        t[d + 1],
+        t[d + 2],
+        t[d + 3],
+        t[d + 4],
+        t[d + 5],
+        t[d + 6],
+    )
+}
+
+// No frame total: every accepted table has frames.
+const NO_FRAMES: u64 = 0;
+
+// The frame total of segments that all pass; none where one may be refused.
+fn pass_all(sources: &[u64], u: &[u64], t: &[i64]) -> u64
+    requires { ⌜ length (now u) / segmentWords ≤ length (now t) / segmentStamps ⌝ }
+    ensures { λ r. ⌜ ((r ≡ 0 → ⊥) → FineSegments (sourcesOf (now (sources .entry))) (segmentsOf (now (u .entry)) (now (t .entry))) r) ⌝ }
+{
+    let m = u.len() / WORDS;
+    let mut prev = rules::no_end();
+    let mut k = 0;
+    while k < m {
+        let next = pass_at(sources, u, t, prev, k);
+        if !next.some {
+            return NO_FRAMES;
+        }
+        prev = next;
+        k += 1;
+    }
+    prev.frame
+}
+
+// The frame total of a table that is accepted, by tests that say only whether nothing refuses: in any order, each word and sum once. None where something may.
+fn accepted(sources: &[u64], u: &[u64], t: &[i64], log: bool, text: &[u8]) -> u64
+    ensures { λ r. ⌜ ((r ≡ 0 → ⊥) → Frames r ≡ checkOf (tableOf (now (sources .entry)) (now (u .entry)) (now (t .entry)) log (now (text .entry)))) ⌝ }
+{
+    if !fine_lengths(u.len(), t.len()) {
+        return NO_FRAMES;
+    }
+    if !fine_front(sources, log, text, u.len() / WORDS) {
+        return NO_FRAMES;
+    }
+    pass_all(sources, u, t)
+}
+
+// Checks a table: its frame total, or a refusal's number and index. Most tables are accepted: that is asked first. The Rust's check.
+pub fn check(sources: &[u64], u: &[u64], t: &[i64], log: bool, text: &[u8]) -> Checked
+    ensures { λ r. ⌜ r ≡ checkOf (tableOf (now (sources .entry)) (now (u .entry)) (now (t .entry)) log (now (text .entry))) ⌝ }
+{
+    let n = accepted(sources, u, t, log, text);
+    if n == NO_FRAMES {
+        return tested(sources, u, t, log, text);
+    }
+    Checked::Frames(n)
 }
 
 // The smaller of two.
@@ -466,18 +601,6 @@ fn shift_at(u: &[u64], t: &[i64], k: usize) -> i64
     t[k * STAMPS + 6]
 }
 
-// A segment's unsigned words are its row's: all are copied.
-fn write_words(u: &[u64], ou: &mut [u64])
-    requires { ⌜ length (now u) ≤ length (now ou) ⌝ }
-    ensures { λ _. ⌜ now (ou .exit) ≡ laid (now (u .entry)) (now (ou .entry)) ⌝ }
-{
-    let mut i = 0;
-    while i < u.len() {
-        ou[i] = u[i];
-        i += 1;
-    }
-}
-
 // The shifts of the rows.
 fn write_shifts(u: &[u64], t: &[i64], os: &mut [i64])
     requires { ⌜ (length (now u) / segmentWords ≤ length (now t) / segmentStamps) × (length (now u) / segmentWords ≤ length (now os)) ⌝ }
@@ -512,7 +635,8 @@ pub fn rows_of_table(
     if (ou.len() < n * WORDS) | (os.len() < n) {
         return Filled::NoRows(32, 0);
     }
-    write_words(u, ou);
+    // a segment's unsigned words are its row's
+    slices::copy_words(u, ou);
     write_shifts(u, t, os);
     Filled::Rows(n)
 }

@@ -24,22 +24,22 @@ loop-holds : tie.Need-loop-holds Inv-loop μ-loop
 loop-holds c = (omega arith, judge-start (c .before .args .u .now) (c .before .args .s .now))
 
 ok-row-requires : tie.Need-ok-row-requires Inv-loop μ-loop
-ok-row-requires c κs = tt
+ok-row-requires c κs = c .wrapping-add-u64 .ensures
 
 returns : tie.Need-returns Inv-loop μ-loop
 returns c =
-    let k = c .before .before .row-at in
-    sym (judge-bad _ (c .before .before .before .before .loop .p) (c .before .before .before .before .loop .i) _ (k .result) (k .ensures) (omega arith) _ (called (c .before .ok-row .ensures) (not-true _ (c .if1 .taken)))) ∙ c .before .before .before .before .loop .inv .1
-
-add-p : tie.Need-add-p Inv-loop μ-loop
-add-p c =
-    let o = ok-facts (c .before .before .before .before .before .loop .p) (c .before .before .before .row-at .result) (called (c .before .before .ok-row .ensures) (not-false _ (c .before .if1 .left))) in
-    record { fits = omega (arith, o .out, o .last) }
+    let k = c .before .before .before .row-at in
+    let l = c .before .before .before .before .before .loop in
+    sym (judge-bad _ (l .p) (l .i) _ (k .result) (k .ensures) (omega arith) _ (called (c .before .ok-row .ensures) (not-true _ (c .if1 .taken)))) ∙ l .inv .1
 
 loop-again : tie.Need-loop-again Inv-loop μ-loop
 loop-again c =
     let k = c .before .before .before .row-at in
-    (omega arith, sym (judge-ok _ (c .before .before .before .before .before .loop .p) (c .before .before .before .before .before .loop .i) _ (k .result) (k .ensures) (omega arith) (called (c .before .before .ok-row .ensures) (not-false _ (c .before .if1 .left)))) ∙ c .before .before .before .before .before .loop .inv .1)
+    let l = c .before .before .before .before .before .loop in
+    let ok = called (c .before .ok-row .ensures) (not-false _ (c .if1 .left)) in
+    let o = ok-facts (l .p) (k .result) ok in
+    let e : c .before .before .wrapping-add-u64 .result ≡ l .p + k .result .count = omega (arith, o .out, o .last, c .before .before .wrapping-add-u64 .ensures) in
+    (omega arith, rw e (sym (judge-ok _ (l .p) (l .i) _ (k .result) (k .ensures) (omega arith) ok) ∙ l .inv .1))
 
 returns-2 : tie.Need-returns-2 Inv-loop μ-loop
 returns-2 c = sym (judge-end _ (c .before .loop .p) (c .before .loop .i) _ (c .loop-test .left)) ∙ c .before .loop .inv .1
@@ -47,5 +47,5 @@ returns-2 c = sym (judge-end _ (c .before .loop .p) (c .before .loop .i) _ (c .l
 pub judge-spec : {M : Type 1} → statement M
 judge-spec =
     tie.close (tie.spec
-    Inv-loop μ-loop loop-holds (λ c κs. omega arith) ok-row-requires returns add-p (λ c. omega arith) (λ c. omega arith) loop-again
+    Inv-loop μ-loop loop-holds (λ c κs. omega arith) (λ c κs. tt) ok-row-requires returns (λ c. omega arith) (λ c. omega arith) loop-again
     returns-2)

@@ -9,7 +9,7 @@ plain-requires c κs = rw (reads (sfits-of (c .plain-arg .given))) (c .before .p
 
 returns : tie.Need-returns
 returns c =
-    rw (reads (sfits-of (c .before .plain-arg .given))) at (c .plain .ensures)
+    rw (reads (sfits-of (c .before .plain-arg .given))) at (c .plain .ensures .0)
 
 pub plain-at-spec : {M : Type 1} → statement M
 plain-at-spec =

@@ -1,7 +1,7 @@
 use native.Mathlib.Omega.{arith}
 use Rattle.choice.proofs.Tests.{called}
 use Rattle.rules.specs.Rules.{stampTimes}
-use Rattle.table.proofs.Signs.{plain}
+use Rattle.rules.proofs.Signs.{plain}
 use borrow.Author.Needs.{needs}
 use Rattle.table.proofs.times_at.Statement.{statement}
 use Rattle.table.proofs.times_at.Tie as tie

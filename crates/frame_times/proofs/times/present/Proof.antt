@@ -40,16 +40,16 @@ module _ (s : tie.Start) where
   a-long : length (s .args .b .now) ≡ length (s .args .a .now)
   a-long = b-long ∙ length-per-frame (entriesOf (s .args .n) (s .args .stts .now)) ∙ sym (s .pre .0 .2)
 
-sort-requires : tie.Need-sort-requires
-sort-requires c κs = omega (arith, a-long (c .before .before .before .before))
+sort-any-requires : tie.Need-sort-any-requires
+sort-any-requires c κs = omega (arith, a-long (c .before .before .before .before))
 
 -- past the sort
-module _ (c : tie.After-sort) where
+module _ (c : tie.After-sort-any) where
   abbrev start : tie.Start
   start = c .before .before .before .before .before
 
-  sorted-is : c .sort .last .0 ≡ sorted (map pos (ds start))
-  sorted-is = c .sort .ensures ∙ ap sorted (b-is start)
+  sorted-is : c .sort-any .last .0 ≡ sorted (map pos (ds start))
+  sorted-is = c .sort-any .ensures ∙ ap sorted (b-is start)
 
 nominal-of-requires : tie.Need-nominal-of-requires
 nominal-of-requires c κs = let k = c .before .before .before in subst Asc (sym (sorted-is k)) (asc-sorted (map pos (ds (start k))))
@@ -142,7 +142,7 @@ show-requires c κs =
     let s = first k in
     let long = front-long (fs s) (k .keep .result) (times k) (told k) in
     let within = front-within (fs s) (k .keep .result) (times k) (told k) in
-    let sort = frequent k .before .before .before .before .sort in (
+    let sort = frequent k .before .before .before .before .sort-any in (
       showable-as (s .args .e) (told k .front) (first-read h) (last-read l) (showable (s .args .e) _ (fs s) refl (some-kept h) (told k .good) (s .pre .1 .1)),
       omega (arith, long, told k .count, some-kept h),
       omega (arith, long, within, k .keep .kept, sort .kept, a-long s),
@@ -161,4 +161,4 @@ returns-3 c =
 
 pub present-spec : {M : Type 1} → statement M
 present-spec = tie.close (tie.spec
-    sort-requires nominal-of-requires (λ c κs. search needs) (λ c. search needs) (λ c. search needs) returns (λ c κs. search needs) (λ c κs. search needs) (λ c. search needs) (λ c. search needs) returns-2 cast-last add-last slice-relend-prefix-show slice-aggregate-show cast-show show-requires (λ c. search needs) (λ c. search needs) (λ c. search needs) returns-3)
+    sort-any-requires nominal-of-requires (λ c κs. search needs) (λ c. search needs) (λ c. search needs) returns (λ c κs. search needs) (λ c κs. search needs) (λ c. search needs) (λ c. search needs) returns-2 cast-last add-last slice-relend-prefix-show slice-aggregate-show cast-show show-requires (λ c. search needs) (λ c. search needs) (λ c. search needs) returns-3)

@@ -1,0 +1,4 @@
+pub mod Refused
+pub mod Rows
+pub mod Single
+pub mod Lawful

@@ -1,19 +1,26 @@
 //! How long each call takes beside the Rust, on the same input in one run.
 
+mod editor;
+mod field;
+mod instructions;
 mod lookups;
 
 use std::hint::black_box;
 use released::segment_table::{ SegmentTable, TrimSegment, VideoFrameTimes, VideoFrames, reach };
+use field::recording;
 use crate::{ case::{ Call, Case, Lent, Map, Row, Table }, generate::{ boxes::{ Form, boxed }, moovs::{ Edits, Head, Moov } }, ours, plain, random::Random, reference, rust };
 
 /// The microseconds that the turns of one measurement take together, at least
 const LEAST: f64 = 20_000.0;
 /// The lookup over records takes at most this many times as long as the lookup over words
 const MOST_OF_RECORDS: f64 = 10.0;
+/// The check of the most segments takes at most this many times as long as the Rust's: far less than where its first walk never said yes
+const MOST_OF_CHECK: f64 = 1.3;
 
 /// What is kept of a line of the table
 struct Line {
-    call: Call,
+    /// The call's name, or that of a row of calls
+    call: &'static str,
     input: String,
     /// The median of the library's runs, in microseconds
     library: f64,
@@ -22,19 +29,49 @@ struct Line {
     accepted: bool,
 }
 
-/// Measures all, and prints a table; whether every input is accepted, and the lookups over records and of lists are fast enough
+/// What is measured: the median of so many runs, or the instructions of one turn
+#[derive(Clone, Copy, PartialEq)]
+enum Measure { Times(usize), Turns }
+
+/// Measures all, and prints a table; whether every input is accepted, and the check, the lookups over records and of lists, and many cuts are fast enough
 pub fn run(runs: usize) -> bool {
     println!("| call | input | the Rust, µs | library, µs | library / Rust |\n|---|---|---:|---:|---:|");
-    let inputs = small().into_iter().chain(tables()).chain(lookups::lists()).chain(maps());
-    let lines: Vec<Line> = inputs.chain(moovs()).chain(recordings()).chain(slow()).map(|(input, case)| measured(input, &case, runs)).collect();
-    for line in lines.iter().filter(|line| !line.accepted) { eprintln!("compare: {}, {}: not accepted", line.call.name(), line.input); }
-    let fast = !ours::LINKED || records(&lines) & lookups::fast(&lines, runs);
-    fast && lines.iter().all(|line| line.accepted)
+    let lines = lines(Measure::Times(runs));
+    let fast = !ours::LINKED || check(&lines) & records(&lines) & lookups::fast(&lines, runs) & editor::shares(&lines, runs);
+    fast && all_accepted(&lines)
+}
+
+/// Prints the instructions of a turn of each line, which don't depend on what else runs
+pub fn instructions() -> bool { instructions::print() }
+
+/// Makes one counted turn of each side of each line, for `instructions` to count; whether every input is accepted
+pub fn counted_turns() -> bool { all_accepted(&lines(Measure::Turns)) }
+
+/// Measures every line. The largest inputs are left out where instructions are counted, which takes fifty times as long
+fn lines(measure: Measure) -> Vec<Line> {
+    let cases = small().into_iter().chain(tables()).chain(lookups::lists()).chain(maps());
+    let mut lines: Vec<Line> = cases.map(|(input, case)| of_case(input, &case, measure)).collect();
+    lines.extend(editor::lines(measure));
+    let cases = moovs().into_iter().chain(recordings()).chain(field::inputs(measure != Measure::Turns));
+    lines.extend(cases.map(|(input, case)| of_case(input, &case, measure)));
+    lines
+}
+
+fn all_accepted(lines: &[Line]) -> bool {
+    for line in lines.iter().filter(|line| !line.accepted) { eprintln!("compare: {}, {}: not accepted", line.call, line.input); }
+    lines.iter().all(|line| line.accepted)
+}
+
+/// Whether the check of the most segments is fast enough
+fn check(lines: &[Line]) -> bool {
+    let line = lines.iter().rfind(|line| line.call == Call::Check.name()).unwrap();
+    if line.ratio > MOST_OF_CHECK { println!("\n{}: the check takes {:.2} times as long as the Rust's", line.input, line.ratio); }
+    line.ratio <= MOST_OF_CHECK
 }
 
 /// Prints how the lookup over records stands beside that over words; whether it is fast enough
 fn records(lines: &[Line]) -> bool {
-    let of = |call: Call| lines.iter().filter(move |line| line.call == call);
+    let of = |call: Call| lines.iter().filter(move |line| line.call == call.name());
     println!();
     of(Call::SegmentOfFrameRecords).zip(of(Call::SegmentOfFrame)).fold(true, |all, (records, words)| {
         let ratio = records.library / words.library;
@@ -43,26 +80,42 @@ fn records(lines: &[Line]) -> bool {
     })
 }
 
-/// Measures one line, and prints it: the medians of both sides, and of the runs' ratios. The sides take turns at being first
-fn measured(input: String, case: &Case, runs: usize) -> Line {
+/// Measures one case
+fn of_case(input: String, case: &Case, measure: Measure) -> Line {
     let mut lent = ours::Lent::of(case);
-    let mut rust = rust_side(case);
+    let rust = rust_side(case);
     let mut library = lent.as_mut().map_or_else(|| Box::new(|| 0u64) as Work, |lent| lent.ready(case));
     let accepted = reference::answer(case).number == 0 && library() == 0 && plain_agrees(case);
-    let turns = turns(&mut rust);
+    measured(case.call().name(), input, accepted, rust, library, measure)
+}
+
+/// Measures one line, and prints it
+fn measured<'a>(call: &'static str, input: String, accepted: bool, mut rust: Work<'a>, mut library: Work<'a>, measure: Measure) -> Line {
+    let (mut times, mut ratio) = ([0.0; 2], 0.0);
+    match measure {
+        Measure::Turns => instructions::turns(call, &input, &mut rust, &mut library),
+        Measure::Times(runs) => {
+            (times, ratio) = medians(runs, &mut rust, &mut library);
+            let said = if ours::LINKED { format!("{:.3} | {ratio:.2}", times[1]) } else { " | ".into() };
+            println!("| `{call}` | {input} | {:.3} | {said} |", times[0]);
+        }
+    }
+    Line { call, input, library: times[1], ratio, accepted }
+}
+
+/// The medians of both sides, and of the runs' ratios. The sides take turns at being first
+fn medians<'a>(runs: usize, rust: &mut Work<'a>, library: &mut Work<'a>) -> ([f64; 2], f64) {
+    let turns = turns(rust);
     let (mut theirs, mut ours, mut ratios) = (vec![], vec![], vec![]);
     for run in 0..runs {
-        let first = timed(turns, if run % 2 == 0 { &mut rust } else { &mut library });
-        let second = timed(turns, if run % 2 == 0 { &mut library } else { &mut rust });
+        let first = timed(turns, if run % 2 == 0 { &mut *rust } else { &mut *library });
+        let second = timed(turns, if run % 2 == 0 { &mut *library } else { &mut *rust });
         let (a, b) = if run % 2 == 0 { (first, second) } else { (second, first) };
         theirs.push(a);
         ours.push(b);
         ratios.push(b / a);
     }
-    let (call, rust, library, ratio) = (case.call(), median(&mut theirs), median(&mut ours), median(&mut ratios));
-    let said = if ours::LINKED { format!("{library:.3} | {ratio:.2}") } else { " | ".into() };
-    println!("| `{}` | {input} | {rust:.3} | {said} |", call.name());
-    Line { call, input, library, ratio, accepted }
+    ([median(&mut theirs), median(&mut ours)], median(&mut ratios))
 }
 
 /// How many turns a measurement has
@@ -133,6 +186,7 @@ fn rust_side(case: &Case) -> Work<'_> {
         }
         Case::ValidateNoVideo { .. } => unreachable!("it is never accepted"),
         Case::Cut { .. } | Case::Join { .. } | Case::Merge { .. } | Case::Origin { .. } => plain_side(case),
+        Case::Cuts { .. } => unreachable!("many cuts are timed beside single ones, in editor.rs"),
     }
 }
 
@@ -281,25 +335,6 @@ fn moovs() -> Inputs {
     inputs
 }
 
-/// What the library is slow at: times that fall, many different durations, and a recording with a pause of an hour
-fn slow() -> Inputs {
-    let mut inputs = Inputs::new();
-    let mut r = Random::new(5);
-    for n in [100u32, 10_000, 1_000_000] {
-        let falling = (0..n).map(|k| (1, (n - k) as i32 * 1024)).collect();
-        inputs.push((format!("{n} frames, times that fall"), lasting(vec![(n, 512)], Some(falling), None)));
-        let durations = (0..n).map(|_| (1, 1 + r.below(1 << 20) as u32)).collect();
-        inputs.push((format!("{n} frames, any durations"), lasting(durations, None, None)));
-        let mut left = n / 2;
-        let timestamps = recording(n as usize, || {
-            left = left.wrapping_sub(1);
-            if left == 0 { 3_600_000_000_000 } else { 40_000_000 + r.below(2000) }
-        });
-        inputs.push((format!("{n} timestamps, one pause"), Case::McrawTimes { timestamps, room: [n as usize; 2] }));
-    }
-    inputs
-}
-
 /// Recordings at about 25 frames a second, and tables of up to 32 segments for them
 fn recordings() -> Inputs {
     let mut inputs = Inputs::new();
@@ -316,12 +351,6 @@ fn recordings() -> Inputs {
         inputs.push((format!("{n} timestamps, intervals of any length"), Case::McrawTimes { timestamps, room: [n; 2] }));
     }
     inputs
-}
-
-/// `n` timestamps with these intervals
-fn recording(n: usize, mut interval: impl FnMut() -> u64) -> Vec<i64> {
-    let mut at = 1_000_000_000;
-    (0..n).map(|_| { at += interval() as i64; at }).collect()
 }
 
 /// A table of `segments` segments that fits a recording

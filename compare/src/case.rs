@@ -1,5 +1,5 @@
-//! A case is a call with its arguments; an answer is what document 01 says of it, or for a list of frames document 02; an
-//! outcome is the answer together with every lent word and slice afterwards.
+//! A case is a call with its arguments; an answer is what document 01 says of it, or for a list of frames document 02, or for
+//! cuts the header; an outcome is the answer together with every lent word and slice afterwards.
 
 use std::{ cell::OnceCell, hash::{ DefaultHasher, Hash, Hasher }, rc::Rc };
 use oracle::segment_table::SegmentTable;
@@ -9,16 +9,16 @@ use oracle::segment_table::SegmentTable;
 pub enum Call {
     IsUtcSecond, TicksToUs, Check, SegmentOfFrame, SegmentOfFrameRecords, SegmentOfTimeUs, Continues, RowsOfTable,
     ValidateNoVideo, ValidateConstant, ValidateTimes, BoxSize, Child, FindBox, TableText, VideoFrameTimesOfMoov,
-    McrawTimes, CheckMcraw, Cut, Join, Merge, Origin, Children, SegmentsOfFrames,
+    McrawTimes, CheckMcraw, Cut, Join, Merge, Origin, Children, SegmentsOfFrames, Cuts,
 }
 
 impl Call {
-    pub const ALL: [Call; 24] = [
+    pub const ALL: [Call; 25] = [
         Call::IsUtcSecond, Call::TicksToUs, Call::Check, Call::SegmentOfFrame, Call::SegmentOfFrameRecords,
         Call::SegmentOfTimeUs, Call::Continues, Call::RowsOfTable, Call::ValidateNoVideo, Call::ValidateConstant,
         Call::ValidateTimes, Call::BoxSize, Call::Child, Call::FindBox, Call::TableText, Call::VideoFrameTimesOfMoov,
         Call::McrawTimes, Call::CheckMcraw, Call::Cut, Call::Join, Call::Merge, Call::Origin, Call::Children,
-        Call::SegmentsOfFrames,
+        Call::SegmentsOfFrames, Call::Cuts,
     ];
 
     /// The name of the call, without the library's prefix
@@ -45,6 +45,7 @@ impl Call {
             Call::McrawTimes => "mcraw_times",
             Call::CheckMcraw => "check_mcraw",
             Call::Cut => "cut",
+            Call::Cuts => "cuts",
             Call::Join => "join",
             Call::Merge => "merge",
             Call::Origin => "origin",
@@ -132,6 +133,8 @@ impl Map {
         let row = |(w, shift): (&[u64], &i64)| Row { source: w[0], source_first: w[1], count: w[2], out_first: w[3], flag: w[4], shift: *shift };
         self.words.chunks_exact(5).zip(&self.shifts).map(row).collect()
     }
+
+    pub fn lent(&self) -> (&[u64], &[i64]) { (&self.words, &self.shifts) }
 }
 
 /// A call with its arguments. A room is the length of a slice that is lent to be written
@@ -158,6 +161,7 @@ pub enum Case {
     McrawTimes { timestamps: Vec<i64>, room: [usize; 2] },
     CheckMcraw { table: Rc<Lent>, timestamps: Vec<i64>, room: [usize; 2] },
     Cut { map: Map, a: u64, b: u64, room: [usize; 2] },
+    Cuts { map: Map, ranges: Vec<u64>, room: [usize; 3] },
     Join { first: Map, second: Map, room: [usize; 2] },
     Merge { map: Map, room: [usize; 2] },
     Origin { map: Map, frame: u64 },
@@ -208,6 +212,7 @@ impl Case {
             Case::McrawTimes { .. } => Call::McrawTimes,
             Case::CheckMcraw { .. } => Call::CheckMcraw,
             Case::Cut { .. } => Call::Cut,
+            Case::Cuts { .. } => Call::Cuts,
             Case::Join { .. } => Call::Join,
             Case::Merge { .. } => Call::Merge,
             Case::Origin { .. } => Call::Origin,
@@ -239,6 +244,7 @@ impl Case {
             Call::McrawTimes => Case::McrawTimes { timestamps: vec![], room: [0; 2] },
             Call::CheckMcraw => Case::CheckMcraw { table, timestamps: vec![], room: [0; 2] },
             Call::Cut => Case::Cut { map, a: 0, b: 0, room: [0; 2] },
+            Call::Cuts => Case::Cuts { map, ranges: vec![], room: [0; 3] },
             Call::Join => Case::Join { first: map.clone(), second: map, room: [0; 2] },
             Call::Merge => Case::Merge { map, room: [0; 2] },
             Call::Origin => Case::Origin { map, frame: 0 },
@@ -275,6 +281,7 @@ impl Case {
             Case::McrawTimes { timestamps, room } => { parts.push(Longs(timestamps)); room }
             Case::CheckMcraw { table, timestamps, room } => { parts.extend([Table(table), Longs(timestamps)]); room }
             Case::Cut { map, a, b, room } => { parts.extend([Map(map), Word(a), Word(b)]); room }
+            Case::Cuts { map, ranges, room } => { parts.extend([Map(map), Words(ranges)]); room }
             Case::Join { first, second, room } => { parts.extend([Map(first), Map(second)]); room }
             Case::Merge { map, room } => { parts.push(Map(map)); room }
             Case::Origin { map, frame } => { parts.extend([Map(map), Word(frame)]); &mut [] }
@@ -294,6 +301,8 @@ pub struct Answer {
     pub words: Vec<u64>,
     /// The starts, or the shifts of the rows written
     pub longs: Vec<i64>,
+    /// How many rows each cut has
+    pub counts: Vec<u64>,
 }
 
 impl Answer {
@@ -313,6 +322,7 @@ pub struct Outcome {
     pub values: [i128; 4],
     pub words: Vec<u64>,
     pub longs: [Vec<i64>; 3],
+    pub counts: Vec<u64>,
 }
 
 /// What a value word holds when it is lent
@@ -334,11 +344,11 @@ pub fn outcome(case: &Case, answer: &Answer) -> Outcome {
         after.values[k] = if accepted { answer.values[k] } else { call.lent(k) };
     }
     match case {
-        Case::RowsOfTable { room, .. } | Case::Cut { room, .. } | Case::Join { room, .. } | Case::Merge { room, .. } => {
-            after.words = lent_words(room[0]);
-            after.longs[0] = lent_longs(room[1]);
-            after.words[..answer.words.len()].copy_from_slice(&answer.words);
-            after.longs[0][..answer.longs.len()].copy_from_slice(&answer.longs);
+        Case::RowsOfTable { room, .. } | Case::Cut { room, .. } | Case::Join { room, .. } | Case::Merge { room, .. } => rows(&mut after, answer, room),
+        Case::Cuts { room, .. } => {
+            rows(&mut after, answer, room);
+            after.counts = lent_words(room[2]);
+            after.counts[..answer.counts.len()].copy_from_slice(&answer.counts);
         }
         Case::SegmentsOfFrames { room, .. } => {
             after.words = lent_words(*room);
@@ -353,6 +363,14 @@ pub fn outcome(case: &Case, answer: &Answer) -> Outcome {
         _ => {}
     }
     after
+}
+
+/// The rows' words and shifts, over what was lent
+fn rows(after: &mut Outcome, answer: &Answer, room: &[usize]) {
+    after.words = lent_words(room[0]);
+    after.longs[0] = lent_longs(room[1]);
+    after.words[..answer.words.len()].copy_from_slice(&answer.words);
+    after.longs[0][..answer.longs.len()].copy_from_slice(&answer.longs);
 }
 
 /// The first slice holds the starts over what was lent, the others are working slices

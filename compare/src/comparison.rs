@@ -1,7 +1,7 @@
 //! The comparison of a case, and its count.
 
 use std::{ collections::BTreeMap, ops::RangeInclusive, time::{ Duration, Instant } };
-use crate::{ case::{ Answer, Call, Case, Outcome, outcome }, generate, ours, random::Random, reference::{ self, MOST_BYTES }, rust::{ self, Said }, shrink, text };
+use crate::{ case::{ Answer, Call, Case, Map, Outcome, Row, outcome }, generate, ours, plain, random::Random, reference::{ self, MOST_BYTES }, rust::{ self, Said }, shrink, text };
 
 /// How a case differs
 #[derive(Debug)]
@@ -14,6 +14,8 @@ pub enum Difference {
     Written,
     /// The children that are reached from offset to offset, and the Rust's
     Walk { rust: Vec<Child>, reached: Vec<Child> },
+    /// All cuts together, and each alone, one after the other
+    Alone { reading: Answer, alone: Answer },
 }
 
 /// A child's type, and its payload's start and length
@@ -45,6 +47,7 @@ pub fn compare(case: &Case) -> Result<Answer, Difference> {
         if library != expected { return Err(Difference::Library { expected: Box::new(expected), library: Box::new(library) }); }
     }
     walked(case)?;
+    cut_alone(case, &reading)?;
     Ok(reading)
 }
 
@@ -65,6 +68,40 @@ fn walked(case: &Case) -> Result<(), Difference> {
     let rust: Vec<Child> = rust::children(payload).into_iter().map(|(kind, start, length)| (kind as i128, start as i128, length as i128)).collect();
     if reached == rust { Ok(()) } else { Err(Difference::Walk { rust, reached }) }
 }
+
+/// Each cut made alone must have the rows that it has among all; so must the plain Rust's, since the unchanged Rust has no maps
+fn cut_alone(case: &Case, reading: &Answer) -> Result<(), Difference> {
+    let Case::Cuts { map, ranges, .. } = case else { return Ok(()) };
+    if reading.number != 0 { return Ok(()); }
+    let ranges = ranges.as_chunks().0;
+    for alone in [plainly(map, ranges), one_by_one(map, ranges, &reading.counts)] {
+        if alone != *reading { return Err(Difference::Alone { reading: reading.clone(), alone }); }
+    }
+    Ok(())
+}
+
+/// What the plain Rust says of cuts
+fn plainly(map: &Map, ranges: &[[u64; 2]]) -> Answer {
+    let (mut rows, mut counts) = (Vec::new(), Vec::new());
+    if plain::cuts(&map.rows(), ranges, &mut rows, &mut counts).is_err() { return Answer::refused((50, 0)); }
+    Answer { counts: counts.iter().map(|count| *count as u64).collect(), ..rows_of(rows) }
+}
+
+/// The library's single cuts, one after the other, each with room for as many rows as it has
+fn one_by_one(map: &Map, ranges: &[[u64; 2]], counts: &[u64]) -> Answer {
+    let (mut rows, mut written) = (Map::default(), Vec::new());
+    let mut single = Case::Cut { map: map.clone(), a: 0, b: 0, room: [0; 2] };
+    for ([from, to], count) in ranges.iter().zip(counts) {
+        if let Case::Cut { a, b, room, .. } = &mut single { (*a, *b, *room) = (*from, *to, [5 * *count as usize, *count as usize]); }
+        let after = answered(&single);
+        rows.words.extend(after.words);
+        rows.shifts.extend(&after.longs[0]);
+        written.push(after.values[0] as u64);
+    }
+    Answer { counts: written, ..rows_of(rows.rows()) }
+}
+
+fn rows_of(rows: Vec<Row>) -> Answer { reference::maps::write(rows, &[usize::MAX; 2], 52).unwrap_or_else(Answer::refused) }
 
 /// The library's outcome; without it, that of the reading of document 01
 fn answered(case: &Case) -> Outcome {
@@ -135,6 +172,7 @@ pub fn show(case: &Case) -> bool {
         Err(Difference::Library { expected, library }) => println!("  differs: expected           {}\n           the library says   {}", shown(format!("{expected:?}")), shown(format!("{library:?}"))),
         Err(Difference::Written) => println!("  differs: the library wrote into what it may only read"),
         Err(Difference::Walk { rust, reached }) => println!("  differs: the Rust's children {}\n           reached are        {}", shown(format!("{rust:?}")), shown(format!("{reached:?}"))),
+        Err(Difference::Alone { reading, alone }) => println!("  differs: each cut alone is  {}\n           all together are   {}", shown(format!("{alone:?}")), shown(format!("{reading:?}"))),
         Ok(answer) => println!("  agreed: {}", shown(format!("{answer:?}"))),
     }
     compared.is_ok()
@@ -163,6 +201,7 @@ fn turns(call: Call) -> u64 {
         Call::Children => 4_000,
         Call::Child | Call::FindBox | Call::TableText | Call::McrawTimes | Call::Check | Call::ValidateConstant | Call::ValidateTimes | Call::CheckMcraw => 10_000,
         Call::Cut | Call::Join | Call::Merge | Call::Origin => 5_000,
+        Call::Cuts => 3_000,
         _ => 2_000,
     }
 }

@@ -1,5 +1,5 @@
-//! The numbers that document 01 works out, those of docs/AUDIT.md and crates/audit/specs/Examples.antt, and lists of frames by
-//! request a of document 02, each with its answer in the form of `text`.
+//! The numbers that document 01 works out, those of docs/AUDIT.md and crates/audit/specs/Examples.antt, lists of frames by request a
+//! of document 02, and lists of cuts, each with its answer in the form of `text`.
 
 use std::rc::Rc;
 use crate::{ case::{ Case, Lent, Map, Table }, comparison, generate::{ moovs, tables, videos }, text };
@@ -17,7 +17,7 @@ pub fn holds() -> bool {
 }
 
 /// All of them
-pub fn worked() -> Vec<Worked> { [numbers(), table(), lists(), maps(), times(), clip(), clip_maps(), exports()].concat() }
+pub fn worked() -> Vec<Worked> { [numbers(), table(), lists(), maps(), cuts(), times(), clip(), clip_maps(), exports()].concat() }
 
 /// Ticks, ends that are near, and days
 fn numbers() -> Vec<Worked> {
@@ -117,6 +117,36 @@ fn maps() -> Vec<Worked> {
         (merge(&continued, 1), "0 0 1 0 0 20 0 0 0"),
         (merge(&[(0, 0, 10, 0, None), (0, 10, 10, 10, Some(0))], 2), "0 0 2 0 0 10 0 0 0 10 10 10 1 0 0"),
         (merge(&[(0, 0, 10, 0, Some(5)), (0, 10, 10, 10, Some(6))], 2), "0 0 2 0 0 10 0 1 0 10 10 10 1 5 6"),
+    ]
+}
+
+/// Lists of cuts of T, in both orders, overlapping, none at all, with ranges that are no cuts, half a one at the end, and without
+/// room; with room one short of words, of shifts and of counts; of T with a gap before its second row; and of the clip, the cuts
+/// of `clip_maps` at once
+fn cuts() -> Vec<Worked> {
+    let of_t = [(0, 10, 30, 0, None), (1, 5, 20, 30, None)];
+    let gap = [(0, 10, 30, 0, None), (1, 5, 20, 31, None)];
+    let of = |rows: &[Shown], ranges: &[u64], room| Case::Cuts { map: map(rows), ranges: ranges.to_vec(), room };
+    vec![
+        (of(&of_t, &[25, 40, 28, 33], [20, 4, 2]), "0 0 4 0 35 5 0 0 1 5 10 5 0 0 38 2 0 0 1 5 3 2 0 0 0 0 0 2 2"),
+        (of(&of_t, &[28, 30, 25, 40], [15, 3, 2]), "0 0 3 0 38 2 0 0 0 35 5 0 0 1 5 10 5 0 0 0 0 1 2"),
+        (of(&of_t, &[30, 50, 0, 30, 29, 31], [20, 4, 3]), "0 0 4 1 5 20 0 0 0 10 30 0 0 0 39 1 0 0 1 5 1 1 0 0 0 0 0 1 1 2"),
+        (of(&of_t, &[], [0; 3]), "0 0 0"),
+        (of(&of_t, &[0, 50, 20, 51, 7, 7], [0; 3]), "50 1"),
+        (of(&of_t, &[0, 50, 20], [0; 3]), "50 1"),
+        (of(&of_t, &[0, 50], [0; 3]), "52 0"),
+        (of(&of_t, &[25, 40, 28, 33, 0, 51], [30, 6, 3]), "50 2"),
+        (of(&of_t, &[40, 25, 28], [30, 6, 3]), "50 1"),
+        (of(&of_t, &[25, 40, 28, 33], [19, 4, 2]), "52 0"),
+        (of(&of_t, &[25, 40, 28, 33], [20, 3, 2]), "52 0"),
+        (of(&of_t, &[25, 40, 28, 33], [20, 4, 1]), "52 0"),
+        (of(&gap, &[], [0; 3]), "51 1"),
+        (of(&gap, &[0, 0], [0; 3]), "51 1"),
+        (
+            of(&CLIP, &[15000, 95000, 0, 50000, 50000, 108500], [35, 7, 3]),
+            "0 0 7 0 16500 25000 0 0 1 12000 38500 25000 1 2 0 16500 63500 0 0 1500 40000 0 0 1 12000 10000 40000 1 \
+             1 22000 28500 0 1 2 0 30000 28500 0 0 -1800 0 0 -1800 -1800 0 3 2 2",
+        ),
     ]
 }
 

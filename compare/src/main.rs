@@ -20,7 +20,7 @@ use case::Call;
 use comparison::Plan;
 
 const USAGE: &str = "usage: compare/run [--src DIR] [--archive FILE | --no-library] [--long MINUTES] [--only CALL] [--seed N]
-       compare/run [..] case LINE | replay DIR | media DIR | bench [--runs N]";
+       compare/run [..] case LINE | replay DIR | media DIR | bench [--runs N | --instructions]";
 
 /// What is asked for on the command line
 enum Asked {
@@ -29,6 +29,9 @@ enum Asked {
     Replay(PathBuf),
     Media(PathBuf),
     Bench(usize),
+    Instructions,
+    /// What `Instructions` runs, and counts
+    Counted,
 }
 
 fn main() {
@@ -42,6 +45,8 @@ fn main() {
         Ok(Asked::Replay(folder)) => replay::write(&folder).map_err(|e| eprintln!("compare: {}: {e}", folder.display())).is_ok(),
         Ok(Asked::Media(folder)) => media::compare(&folder).map_err(|e| eprintln!("compare: {}: {e}", folder.display())).unwrap_or(false),
         Ok(Asked::Bench(runs)) => bench::run(runs),
+        Ok(Asked::Instructions) => bench::instructions(),
+        Ok(Asked::Counted) => bench::counted_turns(),
         Err(why) => { eprintln!("compare: {why}\n{USAGE}"); exit(2) }
     };
     exit(if done { 0 } else { 1 });
@@ -54,6 +59,8 @@ fn asked(words: &[String]) -> Result<Asked, String> {
         ("replay", [folder]) => Ok(Asked::Replay(folder.into())),
         ("media", [folder]) => Ok(Asked::Media(folder.into())),
         ("bench", []) => Ok(Asked::Bench(5)),
+        ("bench", [flag]) if flag == "--instructions" => Ok(Asked::Instructions),
+        ("bench", [flag]) if flag == "--counted" => Ok(Asked::Counted),
         ("bench", [flag, runs]) if flag == "--runs" => number(runs).filter(|n| *n > 0).map(|n| Asked::Bench(n as usize)).ok_or(format!("{runs} is no number of runs")),
         _ => Err(format!("{} isn't understood", words.join(" "))),
     }

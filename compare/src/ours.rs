@@ -3,6 +3,8 @@
 #[cfg(feature = "archive")]
 mod linked;
 #[cfg(feature = "archive")]
+pub mod maps;
+#[cfg(feature = "archive")]
 pub use linked::Lent;
 
 /// Whether the library is there
@@ -18,4 +20,14 @@ impl Lent {
     pub fn call(&mut self, _: &crate::case::Case) -> u64 { match *self {} }
     pub fn ready<'a>(&'a mut self, _: &'a crate::case::Case) -> Box<dyn FnMut() -> u64 + 'a> { match *self {} }
     pub fn outcome(self, _: &crate::case::Case, _: u64) -> crate::case::Outcome { match self {} }
+}
+
+#[cfg(not(feature = "archive"))]
+pub mod maps {
+    type Lent<'a> = (&'a [u64], &'a [i64]);
+    type Room<'a> = (&'a mut [u64], &'a mut [i64]);
+    pub fn cut(_: Lent, _: u64, _: u64, _: Room) -> Result<usize, u64> { Err(0) }
+    pub fn cuts(_: Lent, _: &[u64], _: Room, _: &mut [u64]) -> Result<usize, u64> { Err(0) }
+    pub fn join(_: Lent, _: Lent, _: Room) -> Result<usize, u64> { Err(0) }
+    pub fn merge(_: Lent, _: Room) -> Result<usize, u64> { Err(0) }
 }

@@ -30,10 +30,29 @@ pub fn cut(rows: &[Row], a: u64, b: u64, out: &mut Vec<Row>) -> Result<usize, Re
     let frames = frames(rows)?;
     if a >= b || b > frames { return Err(Refused::Range); }
     out.clear();
+    append(rows, a, b, out);
+    Ok(out.len())
+}
+
+/// Each row's overlap with a..b, counted from a
+fn append(rows: &[Row], a: u64, b: u64, out: &mut Vec<Row>) {
     for row in &rows[row_of(rows, a)..] {
         if row.out_first >= b { break; }
         let (from, to) = (row.out_first.max(a), (row.out_first + row.count).min(b));
         out.push(Row { source_first: row.source_first + (from - row.out_first), count: to - from, out_first: from - a, ..*row });
+    }
+}
+
+/// The cut of each range, one after the other; how many rows each has goes into `counts`. The rows are tested once
+pub fn cuts(rows: &[Row], ranges: &[[u64; 2]], out: &mut Vec<Row>, counts: &mut Vec<usize>) -> Result<usize, Refused> {
+    let frames = frames(rows)?;
+    out.clear();
+    counts.clear();
+    for &[a, b] in ranges {
+        if a >= b || b > frames { return Err(Refused::Range); }
+        let before = out.len();
+        append(rows, a, b, out);
+        counts.push(out.len() - before);
     }
     Ok(out.len())
 }

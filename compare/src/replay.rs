@@ -10,7 +10,7 @@ const PROGRAMS: [(&str, &[Call]); 6] = [
     ("replay_judge", &[Call::ValidateNoVideo, Call::ValidateConstant, Call::ValidateTimes, Call::CheckMcraw]),
     ("replay_boxes", &[Call::BoxSize, Call::Child, Call::FindBox, Call::TableText, Call::Children]),
     ("replay_times", &[Call::VideoFrameTimesOfMoov, Call::McrawTimes]),
-    ("replay_maps", &[Call::Cut, Call::Join, Call::Merge, Call::Origin]),
+    ("replay_maps", &[Call::Cut, Call::Join, Call::Merge, Call::Origin, Call::Cuts]),
 ];
 
 const SEED: u64 = 9;
@@ -28,7 +28,7 @@ fn wanted(call: Call) -> (usize, usize) {
     match call {
         Call::VideoFrameTimesOfMoov => (150, 40),
         Call::IsUtcSecond | Call::TicksToUs | Call::BoxSize | Call::Children | Call::Child | Call::FindBox | Call::TableText | Call::McrawTimes => (120, 30),
-        Call::Cut | Call::Join | Call::Merge | Call::Origin => (100, 20),
+        Call::Cut | Call::Join | Call::Merge | Call::Origin | Call::Cuts => (100, 20),
         _ => (40, 3),
     }
 }

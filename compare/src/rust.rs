@@ -79,7 +79,7 @@ fn said(case: &Case) -> Said {
         Case::McrawTimes { timestamps, .. } if outside(timestamps) => Said::Outside,
         Case::McrawTimes { timestamps, .. } => times(reach::mcraw_times(timestamps)),
         Case::CheckMcraw { table, timestamps, .. } => of_table(table, |t| check_mcraw(table, t, timestamps)),
-        Case::Cut { .. } | Case::Join { .. } | Case::Merge { .. } | Case::Origin { .. } => Said::Silent,
+        Case::Cut { .. } | Case::Join { .. } | Case::Merge { .. } | Case::Origin { .. } | Case::Cuts { .. } => Said::Silent,
     }
 }
 

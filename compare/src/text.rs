@@ -48,6 +48,7 @@ pub fn answer_line(call: Call, answer: &Answer) -> String {
         words.extend(answer.values[..call.values()].iter().map(i128::to_string));
         words.extend(answer.words.iter().map(u64::to_string));
         words.extend(answer.longs.iter().map(i64::to_string));
+        words.extend(answer.counts.iter().map(u64::to_string));
     }
     words.join(" ")
 }

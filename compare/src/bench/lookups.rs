@@ -50,7 +50,7 @@ pub fn rust_side(table: SegmentTable, frames: &[u64]) -> Work<'_> {
 /// Prints how each list stands beside single calls and beside the Rust's lookups; whether it is fast enough
 pub fn fast(lines: &[Line], runs: usize) -> bool {
     println!();
-    let lines = lines.iter().filter(|line| line.call == Call::SegmentsOfFrames);
+    let lines = lines.iter().filter(|line| line.call == Call::SegmentsOfFrames.name());
     lists().iter().zip(lines).fold(true, |all, ((input, case), line)| {
         let Case::SegmentsOfFrames { table, frames, .. } = case else { unreachable!() };
         let times = single(table, frames, runs) / line.library;

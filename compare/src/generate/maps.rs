@@ -3,15 +3,15 @@
 use super::{ Emit, room };
 use crate::{ case::{ Call, Case, Map }, random::Random };
 
-const MOST_ROWS: usize = 1024;
+pub(super) const MOST_ROWS: usize = 1024;
 
 /// How many frames a map of chained rows has
-fn frames(map: &Map) -> u64 {
+pub(super) fn frames(map: &Map) -> u64 {
     map.words.chunks_exact(5).fold(0u64, |n, w| n.wrapping_add(w[2]))
 }
 
 /// A well-formed map of `n` rows; some rows continue the one before, with the same shift or another
-fn well_formed(r: &mut Random, n: usize) -> Map {
+pub(super) fn well_formed(r: &mut Random, n: usize) -> Map {
     let huge = n < 8 && r.one_in(6);
     let most = if huge { u64::MAX / n.max(1) as u64 } else { r.pick(&[1, 3, 40]) };
     let mut map = Map::default();
@@ -38,7 +38,7 @@ fn rows(r: &mut Random) -> usize {
 }
 
 /// The map with a length, a count, a chain, a sum, a flag or a shift that can't be
-fn malformed(r: &mut Random, mut map: Map) -> Map {
+pub(super) fn malformed(r: &mut Random, mut map: Map) -> Map {
     let n = map.shifts.len();
     if n == 0 || map.words.len() != n * 5 { return map; }
     let k = r.size(n);
@@ -60,7 +60,7 @@ fn malformed(r: &mut Random, mut map: Map) -> Map {
 }
 
 /// A map, well formed mostly
-fn map(r: &mut Random) -> Map {
+pub(super) fn map(r: &mut Random) -> Map {
     let n = rows(r);
     let mut map = well_formed(r, n);
     if r.one_in(10) { map = malformed(r, map); }
@@ -69,7 +69,7 @@ fn map(r: &mut Random) -> Map {
 }
 
 /// A frame at or near a boundary of the map
-fn boundary(r: &mut Random, map: &Map) -> u64 {
+pub(super) fn boundary(r: &mut Random, map: &Map) -> u64 {
     let all = map.words.chunks_exact(5);
     let k = r.size(all.len().max(1));
     let at = all.clone().nth(k).map_or(0, |w| w[3]);
@@ -111,7 +111,7 @@ fn join(r: &mut Random, first: &Map) -> Case {
 }
 
 /// The rows of table T of document 01
-fn t() -> Map { Map { words: vec![0, 10, 30, 0, 0, 1, 5, 20, 30, 0], shifts: vec![0, 0] } }
+pub(super) fn t() -> Map { Map { words: vec![0, 10, 30, 0, 0, 1, 5, 20, 30, 0], shifts: vec![0, 0] } }
 
 /// Every cut and every frame of T; rows at the limit; all small maps
 pub fn fixed(call: Call, emit: Emit) {

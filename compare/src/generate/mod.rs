@@ -2,6 +2,7 @@
 //! seed (good inputs, damaged ones, random ones).
 
 pub mod boxes;
+mod cuts;
 mod limit;
 mod lists;
 pub mod maps;
@@ -30,6 +31,7 @@ pub fn fixed(call: Call, emit: Emit) {
             | Call::RowsOfTable | Call::ValidateNoVideo | Call::SegmentsOfFrames => tables::fixed(call, emit),
         Call::ValidateConstant => videos::near_in_the_document(emit),
         Call::Cut | Call::Join | Call::Merge | Call::Origin => maps::fixed(call, emit),
+        Call::Cuts => cuts::fixed(emit),
         Call::TableText | Call::ValidateTimes | Call::CheckMcraw => {}
     }
     limit::cases(call, emit);
@@ -53,6 +55,7 @@ pub fn random(call: Call, r: &mut Random, emit: Emit) {
         Call::Check | Call::SegmentOfFrame | Call::SegmentOfFrameRecords | Call::SegmentOfTimeUs | Call::Continues
             | Call::RowsOfTable | Call::ValidateNoVideo | Call::SegmentsOfFrames => tables::cases(call, r, emit),
         Call::Cut | Call::Join | Call::Merge | Call::Origin => maps::cases(call, r, emit),
+        Call::Cuts => cuts::cases(r, emit),
     }
 }
 

@@ -103,13 +103,21 @@ impl Moov {
     pub fn to_the_end(&self) -> Vec<u8> { self.ending_in(Last::Ctts) }
 
     /// The moov's payload in the usual order, with these bytes before the sample tables
-    pub fn in_order(&self, before: &[u8]) -> Vec<u8> {
+    pub fn in_order(&self, before: &[u8]) -> Vec<u8> { [self.mvhd(), self.track(&[], before)].concat() }
+
+    /// The moov's payload with these boxes between its header and its track
+    pub fn after(&self, boxes: &[u8]) -> Vec<u8> { [&self.mvhd(), boxes, &self.track(&[], &[])].concat() }
+
+    pub fn mvhd(&self) -> Vec<u8> { boxed(Form::Short, b"mvhd", &self.movie.payload()) }
+
+    /// The track in the usual order, with these bytes before its mdia, and before the sample tables
+    pub fn track(&self, before_mdia: &[u8], before_tables: &[u8]) -> Vec<u8> {
         let put = |kind: &[u8; 4], payload: &[u8]| boxed(Form::Short, kind, payload);
         let ctts = self.ctts().map_or(vec![], |c| put(b"ctts", &c));
-        let stbl = put(b"stbl", &[before, &put(b"stts", &self.stts()), &ctts].concat());
+        let stbl = put(b"stbl", &[before_tables, &put(b"stts", &self.stts()), &ctts].concat());
         let mdia = [put(b"mdhd", &self.media.payload()), put(b"hdlr", &self.hdlr()), put(b"minf", &stbl)].concat();
         let edts = self.elst.as_ref().map_or(vec![], |e| put(b"edts", &put(b"elst", &e.payload())));
-        [put(b"mvhd", &self.movie.payload()), put(b"trak", &[edts, put(b"mdia", &mdia)].concat())].concat()
+        put(b"trak", &[&edts, before_mdia, &put(b"mdia", &mdia)].concat())
     }
 
     /// The moov's payload with boxes in any form and order, others among them, and parts that aren't whole now and then

@@ -58,6 +58,7 @@ pub struct Lent {
     index: u64,
     words: Vec<u64>,
     longs: [Vec<i64>; 3],
+    counts: Vec<u64>,
     records: Vec<TrimSegment>,
 }
 
@@ -65,11 +66,16 @@ impl Lent {
     /// What is lent for a case; none for a case that can't be put to the library
     pub fn of(case: &Case) -> Option<Self> {
         let (value, none) = (LENT_VALUE, [vec![], vec![], vec![]]);
-        let mut lent = Self { kind: value as u32, u: [value; 3], i: [value as i64; 2], index: value, words: vec![], longs: none, records: vec![] };
+        let mut lent = Self { kind: value as u32, u: [value; 3], i: [value as i64; 2], index: value, words: vec![], longs: none, counts: vec![], records: vec![] };
         let rooms: &[usize] = match case {
             Case::RowsOfTable { room, .. } | Case::Cut { room, .. } | Case::Join { room, .. } | Case::Merge { room, .. } => {
                 lent.words = lent_words(room[0]);
                 &room[1..]
+            }
+            Case::Cuts { room, .. } => {
+                lent.words = lent_words(room[0]);
+                lent.counts = lent_words(room[2]);
+                &room[1..2]
             }
             Case::SegmentsOfFrames { room, .. } => { lent.words = lent_words(*room); &[] }
             Case::McrawTimes { room, .. } | Case::CheckMcraw { room, .. } => room,
@@ -90,7 +96,7 @@ impl Lent {
             Case::Check { .. } | Case::SegmentOfFrame { .. } | Case::SegmentOfFrameRecords { .. } | Case::SegmentOfTimeUs { .. }
                 | Case::Continues { .. } | Case::RowsOfTable { .. } | Case::SegmentsOfFrames { .. } => self.of_table(case),
             Case::ValidateNoVideo { .. } | Case::ValidateConstant { .. } | Case::ValidateTimes { .. } | Case::CheckMcraw { .. } => self.of_judge(case),
-            Case::Cut { .. } | Case::Join { .. } | Case::Merge { .. } | Case::Origin { .. } => self.of_maps(case),
+            Case::Cut { .. } | Case::Join { .. } | Case::Merge { .. } | Case::Origin { .. } | Case::Cuts { .. } => self.of_maps(case),
             _ => self.of_the_rest(case),
         }
     }
@@ -133,11 +139,14 @@ impl Lent {
 
     fn of_maps<'a>(&'a mut self, case: &'a Case) -> Ready<'a> {
         let ([value, source_frame, flag], [shift, _], index) = (&mut self.u, &mut self.i, &mut self.index);
-        let (words, shifts) = (&mut self.words, &mut self.longs[0]);
+        let (words, shifts, counts) = (&mut self.words, &mut self.longs[0], &mut self.counts);
         let (room, more) = (words.len(), shifts.len());
         let (words, shifts) = (mut_ptr(words), mut_ptr(shifts));
         match case {
             Case::Cut { map, a, b, .. } => Box::new(move || with_map!(st_cut, map, *a, *b, words, room, shifts, more, value, index)),
+            Case::Cuts { map, ranges, .. } => Box::new(move || {
+                with_map!(st_cuts, map, ptr(ranges), ranges.len(), words, room, shifts, more, mut_ptr(counts), counts.len(), value, index)
+            }),
             Case::Join { first, second, .. } => Box::new(move || {
                 with_map!(st_join, first, ptr(&second.words), second.words.len(), ptr(&second.shifts), second.shifts.len(), words, room, shifts, more, value, index)
             }),
@@ -183,7 +192,7 @@ impl Lent {
             Call::Origin => [u[0], u[1], u[2], i[0]],
             _ => [u[0], u[1], u[2], 0],
         };
-        let mut after = Outcome { number, index: if call.refuses() { self.index } else { 0 }, words: self.words, longs: self.longs, ..Outcome::default() };
+        let mut after = Outcome { number, index: if call.refuses() { self.index } else { 0 }, words: self.words, longs: self.longs, counts: self.counts, ..Outcome::default() };
         after.values[..call.values()].copy_from_slice(&values[..call.values()]);
         after
     }

@@ -1,4 +1,4 @@
-//! Frame maps: cut, join, merge and origin, with their refusals.
+//! Frame maps: cut, cuts, join, merge and origin, with their refusals.
 
 use super::Refusal;
 use crate::case::{ Answer, Map, Row };
@@ -56,6 +56,19 @@ pub fn cut(map: &Map, a: u64, b: u64, room: &[usize; 2]) -> Result<Answer, Refus
     let (rows, frames) = taken(map)?;
     if a >= b || b > frames { return Err((50, 0)); }
     out(cut_rows(&rows, a, b), room)
+}
+
+/// The cut of each range, given as two words, one after the other, and how many rows each has. The ranges are tested before any
+/// room: 50 with the number of the first that is no cut, or of the half one at the end. Together they may have over 1,024 rows
+pub fn cuts(map: &Map, ranges: &[u64], room: &[usize; 3]) -> Result<Answer, Refusal> {
+    let (rows, frames) = taken(map)?;
+    let (ranges, half) = ranges.as_chunks::<2>();
+    if !half.is_empty() { return Err((50, ranges.len() as u64)); }
+    if let Some(k) = ranges.iter().position(|[a, b]| a >= b || *b > frames) { return Err((50, k as u64)); }
+    if ranges.len() > room[2] { return Err((52, 0)); }
+    let each: Vec<Vec<Row>> = ranges.iter().map(|[a, b]| cut_rows(&rows, *a, *b)).collect();
+    let counts = each.iter().map(|cut| cut.len() as u64).collect();
+    Ok(Answer { counts, ..write(each.concat(), &[room[0], room[1]], 52)? })
 }
 
 pub fn cut_rows(rows: &[Row], a: u64, b: u64) -> Vec<Row> {

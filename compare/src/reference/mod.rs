@@ -1,5 +1,6 @@
 //! A plain reading of document 01, and of request a of document 02, call by call, for every input. It is written from the
-//! documents' words alone, so that where it and the unchanged Rust agree, they say what the Rust does.
+//! documents' words alone, so that where it and the unchanged Rust agree, they say what the Rust does. Of `cuts`, which no document
+//! lists, it is a reading of the header.
 
 pub mod boxes;
 pub mod frame_times;
@@ -56,6 +57,7 @@ fn answered(case: &Case) -> Result<Answer, Refusal> {
         Case::McrawTimes { timestamps, room } => mcraw::times(timestamps, room)?.answer(),
         Case::CheckMcraw { table, timestamps, room } => one(validate::mcraw(&Table::checked(&table.table)?, timestamps, room)?),
         Case::Cut { map, a, b, room } => maps::cut(map, *a, *b, room)?,
+        Case::Cuts { map, ranges, room } => maps::cuts(map, ranges, room)?,
         Case::Join { first, second, room } => maps::join(first, second, room)?,
         Case::Merge { map, room } => maps::merge(map, room)?,
         Case::Origin { map, frame } => maps::origin(map, *frame)?,

@@ -5,7 +5,7 @@ use Rattle.rules.specs.Rules.{checkOf}
 use Rattle.rules.specs.Absent.{stripped}
 use Rattle.rules.specs.Lookups.{segmentOfFrame, segmentOfTime, continuesAt}
 use Rattle.rules.proofs.Ignored.{check-stripped, frame-stripped, time-stripped, continues-stripped, alike}
-use Rattle.table.proofs.Alike.{rows-alike}
+use Rattle.table_rows.proofs.Alike.{rows-alike}
 use Rattle.lookups.proofs.Alike.{indices-alike}
 use Rattle.judge.specs.Video.{shownBy}
 use Rattle.judge.specs.Judge.{validateOf, checkMcraw}

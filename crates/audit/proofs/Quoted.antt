@@ -12,10 +12,10 @@ use Rattle.audit.specs.Calls as calls
 use Rattle.ticks.proofs.ticks_to_us as ticks-to-us·
 use Rattle.utc.proofs.is_utc_second as is-utc-second·
 use Rattle.table.proofs.check as check·
-use Rattle.table.proofs.segment_of_frame as segment-of-frame·
-use Rattle.table.proofs.segment_of_time_us as segment-of-time-us·
-use Rattle.table.proofs.continues as continues·
-use Rattle.table.proofs.rows_of_table as rows-of-table·
+use Rattle.lookup.proofs.segment_of_frame as segment-of-frame·
+use Rattle.lookup.proofs.segment_of_time_us as segment-of-time-us·
+use Rattle.lookup.proofs.continues as continues·
+use Rattle.table_rows.proofs.rows_of_table as rows-of-table·
 use Rattle.lookups.proofs.segments_of_frames as segments-of-frames·
 use Rattle.judge.proofs.validate as validate·
 use Rattle.judge.proofs.check_mcraw as check-mcraw·

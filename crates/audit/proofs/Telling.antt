@@ -13,7 +13,7 @@ use Rattle.boxes.specs.declared.Reached.{Reached}
 use Rattle.rules.specs.declared.Checked.{Checked}
 use Rattle.rules.specs.declared.Lookup.{Lookup}
 use Rattle.rules.specs.declared.Continued.{Continued}
-use Rattle.table.specs.declared.Filled.{Filled}
+use Rattle.table_rows.specs.declared.Filled.{Filled}
 use Rattle.lookups.specs.declared.Indexed.{Indexed}
 use Rattle.judge.specs.Video.{shownBy}
 use Rattle.maps.specs.declared.Mapped.{Mapped}

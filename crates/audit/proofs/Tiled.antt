@@ -29,10 +29,10 @@ use Rattle.rules.specs.Rules.{checkOf}
 use Rattle.rules.proofs.Answers.{then-rest}
 use Rattle.rules.proofs.Accepted.{accepted}
 use Rattle.rules.proofs.Holder.{Holds, holder}
-use Rattle.table.specs.declared.Filled.{Filled}
-use Rattle.table.specs.declared.Filled.the-variants.{Rows}
-use Rattle.table.specs.Rows.{rowOf, rowsOf, rowsRefusal, filled, Rowed}
-use Rattle.table.proofs.Mapped.{mapped}
+use Rattle.table_rows.specs.declared.Filled.{Filled}
+use Rattle.table_rows.specs.declared.Filled.the-variants.{Rows}
+use Rattle.table_rows.specs.Rows.{rowOf, rowsOf, rowsRefusal, filled, Rowed}
+use Rattle.table_rows.proofs.Mapped.{mapped}
 use Rattle.maps.specs.declared.Traced.{Traced}
 use Rattle.maps.specs.declared.Traced.the-variants as traced
 use Rattle.maps.specs.declared.Mapped.the-variants as answers

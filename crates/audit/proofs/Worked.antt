@@ -25,7 +25,7 @@ use Rattle.rules.specs.Records.{Table, noSource, noSegment, segment, frameTotal
 use Rattle.rules.specs.Rules.{badSource, badSegment, malformed, sourceRefusal, stampTimes, judged, segmentRefusal, start, endsOf, ends, segmentsFrom, frontRefusal, refusal, checkedOf, checkOf}
 use Rattle.rules.specs.Lookups.{countSuch, ended, lookedUp, segmentOfFrame, segmentOfTime}
 use Rattle.table.specs.Layout.{sourcesOf, segmentsOf, tableOf}
-use Rattle.table.specs.Rows.{rowOf, rowsOf, rowsRefusal, filled}
+use Rattle.table_rows.specs.Rows.{rowOf, rowsOf, rowsRefusal, filled}
 use Rattle.lookups.specs.Indices.{indicesOf, indicesRefusal, indexed}
 use Rattle.judge.specs.Video.{shownBy}
 use Rattle.judge.specs.Judge.{startsAt, startRefusal, videoRefusal, validateOf, single, recordingRefusal, checkMcraw}

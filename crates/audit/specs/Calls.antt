@@ -15,14 +15,14 @@ use Rattle.utc.proofs.is_utc_second as is-utc-second·
 use Rattle.utc.proofs.is_utc_second.Reads as is-utc-second·reads
 use Rattle.table.proofs.check as check·
 use Rattle.table.proofs.check.Reads as check·reads
-use Rattle.table.proofs.segment_of_frame as segment-of-frame·
-use Rattle.table.proofs.segment_of_frame.Reads as segment-of-frame·reads
-use Rattle.table.proofs.segment_of_time_us as segment-of-time-us·
-use Rattle.table.proofs.segment_of_time_us.Reads as segment-of-time-us·reads
-use Rattle.table.proofs.continues as continues·
-use Rattle.table.proofs.continues.Reads as continues·reads
-use Rattle.table.proofs.rows_of_table as rows-of-table·
-use Rattle.table.proofs.rows_of_table.Reads as rows-of-table·reads
+use Rattle.lookup.proofs.segment_of_frame as segment-of-frame·
+use Rattle.lookup.proofs.segment_of_frame.Reads as segment-of-frame·reads
+use Rattle.lookup.proofs.segment_of_time_us as segment-of-time-us·
+use Rattle.lookup.proofs.segment_of_time_us.Reads as segment-of-time-us·reads
+use Rattle.lookup.proofs.continues as continues·
+use Rattle.lookup.proofs.continues.Reads as continues·reads
+use Rattle.table_rows.proofs.rows_of_table as rows-of-table·
+use Rattle.table_rows.proofs.rows_of_table.Reads as rows-of-table·reads
 use Rattle.lookups.proofs.segments_of_frames as segments-of-frames·
 use Rattle.lookups.proofs.segments_of_frames.Reads as segments-of-frames·reads
 use Rattle.judge.proofs.validate as validate·
@@ -94,7 +94,7 @@ Check sources u t log text ans = check .Learnt ([], ([], ([], ([], tt)))) (lent 
 pub check·anywhere : Anywhere check (λ κs a e. Check (now (a .0)) (now (a .1 .0)) (now (a .1 .1 .0)) (a .1 .1 .1 .0) (now (a .1 .1 .1 .1 .0)) (e .result))
 check·anywhere κs a e = refl
 
--- table::segment_of_frame
+-- lookup::segment_of_frame
 abbrev pub segment-of-frame : Promise
 segment-of-frame = record { types = segment-of-frame·.ended; Asked = segment-of-frame·reads.Asked; Learnt = segment-of-frame·reads.Learnt }
 
@@ -105,7 +105,7 @@ SegmentOfFrame sources u t log text frame ans = segment-of-frame .Learnt ([], ([
 pub segment-of-frame·anywhere : Anywhere segment-of-frame (λ κs a e. SegmentOfFrame (now (a .0)) (now (a .1 .0)) (now (a .1 .1 .0)) (a .1 .1 .1 .0) (now (a .1 .1 .1 .1 .0)) (a .1 .1 .1 .1 .1 .0) (e .result))
 segment-of-frame·anywhere κs a e = refl
 
--- table::segment_of_time_us
+-- lookup::segment_of_time_us
 abbrev pub segment-of-time-us : Promise
 segment-of-time-us = record { types = segment-of-time-us·.ended; Asked = segment-of-time-us·reads.Asked; Learnt = segment-of-time-us·reads.Learnt }
 
@@ -116,7 +116,7 @@ SegmentOfTimeUs sources u t log text time ans = segment-of-time-us .Learnt ([], 
 pub segment-of-time-us·anywhere : Anywhere segment-of-time-us (λ κs a e. SegmentOfTimeUs (now (a .0)) (now (a .1 .0)) (now (a .1 .1 .0)) (a .1 .1 .1 .0) (now (a .1 .1 .1 .1 .0)) (a .1 .1 .1 .1 .1 .0) (e .result))
 segment-of-time-us·anywhere κs a e = refl
 
--- table::continues
+-- lookup::continues
 abbrev pub continues : Promise
 continues = record { types = continues·.ended; Asked = continues·reads.Asked; Learnt = continues·reads.Learnt }
 
@@ -127,7 +127,7 @@ Continues sources u t log text r ans = continues .Learnt ([], ([], ([], ([], tt)
 pub continues·anywhere : Anywhere continues (λ κs a e. Continues (now (a .0)) (now (a .1 .0)) (now (a .1 .1 .0)) (a .1 .1 .1 .0) (now (a .1 .1 .1 .1 .0)) (a .1 .1 .1 .1 .1 .0) (e .result))
 continues·anywhere κs a e = refl
 
--- table::rows_of_table
+-- table_rows::rows_of_table
 abbrev pub rows-of-table : Promise
 rows-of-table = record { types = rows-of-table·.ended; Asked = rows-of-table·reads.Asked; Learnt = rows-of-table·reads.Learnt }
 

@@ -29,10 +29,10 @@ use Rattle.rules.specs.Rules.{checkOf}
 use Rattle.rules.specs.Paper.{tests, Rightly}
 use Rattle.rules.specs.Absent.{stripped}
 use Rattle.rules.specs.Lookups.{segmentOfFrame, segmentOfTime, continuesAt}
-use Rattle.table.specs.declared.Filled.{Filled}
-use Rattle.table.specs.declared.Filled.the-variants.{Rows}
+use Rattle.table_rows.specs.declared.Filled.{Filled}
+use Rattle.table_rows.specs.declared.Filled.the-variants.{Rows}
 use Rattle.table.specs.Layout.{Uneven}
-use Rattle.table.specs.Rows.{rowOf, rowsOf, Rowed}
+use Rattle.table_rows.specs.Rows.{rowOf, rowsOf, Rowed}
 use Rattle.lookups.specs.declared.Indexed.{Indexed}
 use Rattle.lookups.specs.declared.Indexed.the-variants.{Indices, NoIndices}
 use Rattle.lookups.specs.Indices.{Indexing}

@@ -13,8 +13,8 @@ use Rattle.rules.specs.declared.Checked.{Checked}
 use Rattle.rules.specs.declared.Checked.the-variants.{Frames, Refused}
 use Rattle.rules.specs.declared.Lookup.{Lookup}
 use Rattle.rules.specs.declared.Lookup.the-variants.{Index}
-use Rattle.table.specs.declared.Filled.{Filled}
-use Rattle.table.specs.declared.Filled.the-variants as filled
+use Rattle.table_rows.specs.declared.Filled.{Filled}
+use Rattle.table_rows.specs.declared.Filled.the-variants as filled
 use Rattle.lookups.specs.declared.Indexed.{Indexed}
 use Rattle.lookups.specs.declared.Indexed.the-variants.{Indices, NoIndices}
 use Rattle.judge.specs.declared.Video.{Video}
@@ -56,10 +56,10 @@ pub data Example : Type 0 where
   -- the rows of a table
   map : (l : Lent) (are : List Row) → Example
   -- the frames a to b of a map are these rows
-  cuts : (m : List Row) (a b : ℕ) (are : List Row) → Example
+  cutTo : (m : List Row) (a b : ℕ) (are : List Row) → Example
   -- the cuts of ranges of a map, two words each, are these rows, so many of each; or are refused, with no room lent
-  many : (m : List Row) (ranges : List ℕ) (are : List Row) (counts : List ℕ) → Example
-  none : (m : List Row) (ranges : List ℕ) (number index : ℕ) → Example
+  cutsAre : (m : List Row) (ranges : List ℕ) (are : List Row) (counts : List ℕ) → Example
+  cutsRefused : (m : List Row) (ranges : List ℕ) (number index : ℕ) → Example
   -- two maps joined, and a map merged
   joins : (m n : List Row) (are : List Row) → Example
   merges : (m : List Row) (are : List Row) → Example
@@ -92,14 +92,14 @@ Holds (list l frames room is are) = (r : Indexed) (out : List ℕ) → SegmentsO
 Holds (map l are) =
     (r : Filled) (ou : List ℕ) (os : List ℤ) → RowsOfTable l (replicate (5 * length are) 0) (replicate (length are) (pos 0)) r ou os
     → (r ≡ filled.Rows (length are)) × (mapWritten (length are) ou os ≡ are)
-Holds (cuts m a b are) =
+Holds (cutTo m a b are) =
     (r : Mapped) (ou : List ℕ) (os : List ℤ) → Cut (wordsOf m) (shiftsOf m) a b (replicate (5 * length are) 0) (replicate (length are) (pos 0)) r ou os
     → (r ≡ mapped.Rows (length are)) × (mapWritten (length are) ou os ≡ are)
-Holds (many m ranges are counts) =
+Holds (cutsAre m ranges are counts) =
     (r : Mapped) (ou : List ℕ) (os : List ℤ) (counts′ : List ℕ)
     → Cuts (wordsOf m) (shiftsOf m) ranges (replicate (5 * length are) 0) (replicate (length are) (pos 0)) (replicate (length counts) 0) r ou os counts′
     → (r ≡ mapped.Rows (length are)) × (mapWritten (length are) ou os ≡ are) × (counts′ ≡ counts)
-Holds (none m ranges number index) =
+Holds (cutsRefused m ranges number index) =
     (r : Mapped) (ou : List ℕ) (os : List ℤ) (counts′ : List ℕ) → Cuts (wordsOf m) (shiftsOf m) ranges [] [] [] r ou os counts′ → r ≡ mapped.Refused number index
 Holds (joins m n are) =
     (r : Mapped) (ou : List ℕ) (os : List ℤ) → Join (wordsOf m) (shiftsOf m) (wordsOf n) (shiftsOf n) (replicate (5 * length are) 0) (replicate (length are) (pos 0)) r ou os
@@ -260,9 +260,9 @@ examples =
     ∷ time stillBetween (pos 10) (Index 2)
     -- T cut 25..40, that cut 3..8, and T cut 28..33
     ∷ map (tableT (plain 100) []) T
-    ∷ cuts T 25 40 (row 0 35 5 0 ∷ row 1 5 10 5 ∷ [])
-    ∷ cuts (row 0 35 5 0 ∷ row 1 5 10 5 ∷ []) 3 8 (row 0 38 2 0 ∷ row 1 5 3 2 ∷ [])
-    ∷ cuts T 28 33 (row 0 38 2 0 ∷ row 1 5 3 2 ∷ [])
+    ∷ cutTo T 25 40 (row 0 35 5 0 ∷ row 1 5 10 5 ∷ [])
+    ∷ cutTo (row 0 35 5 0 ∷ row 1 5 10 5 ∷ []) 3 8 (row 0 38 2 0 ∷ row 1 5 3 2 ∷ [])
+    ∷ cutTo T 28 33 (row 0 38 2 0 ∷ row 1 5 3 2 ∷ [])
     -- M1, M2, and durations 5, 7, 7, 5: nominal 5
     ∷ movie (M []) (Presented 3 100 (pos 10) (pos 50)) (pos 10 ∷ pos 20 ∷ pos 40 ∷ [])
     ∷ movie M2 (Presented 3 100 (pos 10) (pos 40)) (pos 0 ∷ pos 10 ∷ pos 30 ∷ [])
@@ -275,19 +275,19 @@ examples =
     ∷ checked clipTable (Frames 108500)
     ∷ against clipTable (Constant 108500 25 1) (Frames 108500)
     ∷ map clipTable clipRows
-    ∷ cuts clipRows 5000 105000 clipCut
-    ∷ cuts clipCut 10000 90000 clipTwice
-    ∷ cuts clipRows 15000 95000 clipTwice
+    ∷ cutTo clipRows 5000 105000 clipCut
+    ∷ cutTo clipCut 10000 90000 clipTwice
+    ∷ cutTo clipRows 15000 95000 clipTwice
     ∷ comes clipTwice 41200 (From 1 28200 1 clipShift)
     ∷ comes clipRows 56200 (From 1 28200 1 clipShift)
     ∷ frame clipTable 56200 (Index 1)
     -- its frames up to 50,000 and those after them, joined: four rows, which merged are the clip again
-    ∷ cuts clipRows 0 50000 clipHead
-    ∷ cuts clipRows 50000 108500 clipTail
+    ∷ cutTo clipRows 0 50000 clipHead
+    ∷ cutTo clipRows 50000 108500 clipTail
     ∷ joins clipHead clipTail (row 0 1500 40000 0 ∷ shifted 1 12000 10000 40000 clipShift ∷ shifted 1 22000 28500 50000 clipShift ∷ row 2 0 30000 78500 ∷ [])
     ∷ merges (row 0 1500 40000 0 ∷ shifted 1 12000 10000 40000 clipShift ∷ shifted 1 22000 28500 50000 clipShift ∷ row 2 0 30000 78500 ∷ []) clipRows
     -- a cut merges nothing, and neighbours whose shifts differ stay apart: an absent shift isn't a shift of 0
-    ∷ cuts (row 0 0 10 0 ∷ row 0 10 10 10 ∷ []) 0 20 (row 0 0 10 0 ∷ row 0 10 10 10 ∷ [])
+    ∷ cutTo (row 0 0 10 0 ∷ row 0 10 10 10 ∷ []) 0 20 (row 0 0 10 0 ∷ row 0 10 10 10 ∷ [])
     ∷ merges (row 0 0 10 0 ∷ row 0 10 10 10 ∷ []) (row 0 0 20 0 ∷ [])
     ∷ merges (row 0 0 10 0 ∷ shifted 0 10 10 10 (pos 0) ∷ []) (row 0 0 10 0 ∷ shifted 0 10 10 10 (pos 0) ∷ [])
     ∷ merges (shifted 0 0 10 0 (pos 5) ∷ shifted 0 10 10 10 (pos 6) ∷ []) (shifted 0 0 10 0 (pos 5) ∷ shifted 0 10 10 10 (pos 6) ∷ [])
@@ -304,10 +304,10 @@ examples =
     ∷ list (tableT (plain 100) []) (29 ∷ 30 ∷ []) (9 ∷ []) (NoIndices 32 0) (9 ∷ [])
     ∷ list (tableT (plain 0) []) [] [] (NoIndices 4 0) []
     -- T cut 25..40 and 28..33 in one call, and 28..30 and 25..40, each counted from its own a; no range at all; and of three the second past T's end, before the lack of room
-    ∷ many T (25 ∷ 40 ∷ 28 ∷ 33 ∷ []) (row 0 35 5 0 ∷ row 1 5 10 5 ∷ row 0 38 2 0 ∷ row 1 5 3 2 ∷ []) (2 ∷ 2 ∷ [])
-    ∷ many T (28 ∷ 30 ∷ 25 ∷ 40 ∷ []) (row 0 38 2 0 ∷ row 0 35 5 0 ∷ row 1 5 10 5 ∷ []) (1 ∷ 2 ∷ [])
-    ∷ many T [] [] []
-    ∷ none T (0 ∷ 50 ∷ 20 ∷ 51 ∷ 7 ∷ 7 ∷ []) 50 1
-    ∷ none T (0 ∷ 50 ∷ 20 ∷ []) 50 1
-    ∷ none T (0 ∷ 50 ∷ []) 52 0
+    ∷ cutsAre T (25 ∷ 40 ∷ 28 ∷ 33 ∷ []) (row 0 35 5 0 ∷ row 1 5 10 5 ∷ row 0 38 2 0 ∷ row 1 5 3 2 ∷ []) (2 ∷ 2 ∷ [])
+    ∷ cutsAre T (28 ∷ 30 ∷ 25 ∷ 40 ∷ []) (row 0 38 2 0 ∷ row 0 35 5 0 ∷ row 1 5 10 5 ∷ []) (1 ∷ 2 ∷ [])
+    ∷ cutsAre T [] [] []
+    ∷ cutsRefused T (0 ∷ 50 ∷ 20 ∷ 51 ∷ 7 ∷ 7 ∷ []) 50 1
+    ∷ cutsRefused T (0 ∷ 50 ∷ 20 ∷ []) 50 1
+    ∷ cutsRefused T (0 ∷ 50 ∷ []) 52 0
     ∷ []

@@ -10,7 +10,7 @@ use Rattle.rules.specs.declared.Checked.{Checked}
 use Rattle.rules.specs.declared.Lookup.{Lookup}
 use Rattle.rules.specs.declared.Continued.{Continued}
 use Rattle.rules.specs.Records.{Table}
-use Rattle.table.specs.declared.Filled.{Filled}
+use Rattle.table_rows.specs.declared.Filled.{Filled}
 use Rattle.table.specs.Layout.{tableOf}
 use Rattle.lookups.specs.declared.Indexed.{Indexed}
 use Rattle.judge.specs.declared.Video.{Video}

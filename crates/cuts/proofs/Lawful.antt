@@ -25,6 +25,7 @@ use Rattle.cuts.specs.Laws.{sum, rowsBefore, Accepted, CountsAsLent, Cut
 use Rattle.cuts.proofs.Refused.{Cuttable, cuts-never, cuts-accepted, length-cuts}
 use Rattle.cuts.proofs.Rows.{cut-at, count-at}
 use Rattle.cuts.proofs.Single.{one}
+use Rattle.cuts.proofs.Which.{map-refused, torn-refused, range-refused, room-refused}
 
 -- ---- one list of many
 module _ {A : Type 0} where
@@ -180,5 +181,9 @@ lawful = record {
   one = λ u ou ou′ ou″ counts counts′ s os os′ os″ a b r q h p x. one u s a b ou os counts h p x;
   accepted = λ u ranges ou ou′ counts counts′ s os os′ n p. what u s ranges ou os counts p;
   accepts = λ u ranges ou ou′ counts counts′ s os os′ r a p. accept a p;
+  map-refused = λ u ranges ou ou′ counts counts′ pu pu′ s os os′ ps ps′ a b r q h p c. map-refused u s ranges ou os counts p a b pu ps h c;
+  torn-refused = λ u ranges ou ou′ counts counts′ s os os′ r m e p. torn-refused u s ranges ou os counts p m e;
+  range-refused = λ u ranges ou ou′ counts counts′ s os os′ k r m e h b q p. range-refused u s ranges ou os counts p m k e h b q;
+  room-refused = λ u ranges ou ou′ counts counts′ s os os′ r m e b q p. room-refused u s ranges ou os counts p m e b q;
   leaves = λ u ranges ou ou′ counts counts′ s os os′ r p. (as-lent r (p .placed), counts-kept u s ranges ou os counts r ou′ os′ counts′ p);
 }

@@ -1,4 +1,5 @@
 pub mod Refused
 pub mod Rows
 pub mod Single
+pub mod Which
 pub mod Lawful

@@ -1,20 +1,20 @@
 -- The refusals of the cuts: what it says that a range, all ranges, or the whole chain isn't refused, and what each test of the chain gives. Assumes nothing.
-use Prim.Native.Nat.{ℕ, zero, suc, _+_, _*_, _/_, _%_, _≤_, _<_, suc-le-suc, zero-le}
-use native.Mathlib.Nat.{not-suc-le-zero, le-of-suc-le-suc}
+use Prim.Native.Nat.{ℕ, _+_, _*_, _/_, _%_, _≤_, _<_}
+use native.Mathlib.Nat.{zero-add}
 use native.Mathlib.Omega.{arith}
 use mathlib.Core.Bool.{Bool, true, false, not, _&&_}
 use mathlib.Core.List.{List}
 use mathlib.Core.Path.{_≡_, refl, sym, _∙_, ap, subst}
 use lib.IntN.{ℤ}
 use lib.Dec.{ltb, leb, eqb}
-use lib.ListN.{length, length-map}
+use lib.ListN.{length, getD, length-map}
 use borrow.Author.Tests.{lt-ltb, le-ltb, le-leb, lt-leb, eq-eqb, ne-eqb, ltb-false, leb-true, leb-false, eqb-true, eqb-false, not-false}
 use Rattle.choice.specs.Choice.{when}
-use Rattle.choice.specs.Records.{run, firstRefused, orRefused}
+use Rattle.choice.specs.Records.{firstRefused, orRefused}
 use Rattle.choice.specs.declared.Refusal.the-variants.{Never, At}
 use Rattle.choice.proofs.Tests.{decide, and-false, and-left, and-right}
 use Rattle.choice.proofs.Chains.{when-zero, when-never, or-never}
-use Rattle.choice.proofs.Runs.{length-run}
+use Rattle.choice.proofs.Runs.{length-run, getD-run, none-refused, refuses-none, first-refused}
 use Rattle.rows.specs.declared.Row.{Row}
 use Rattle.rows.specs.Rows.{total}
 use Rattle.rows.specs.Lent.{rows}
@@ -32,35 +32,31 @@ inside t r e =
     let p = when-zero (ltb t (r .to)) badRange 0 (λ z. absurd (omega arith)) (o .1) in
     record { some = leb-false (r .to) (r .from) (o .0); within = ltb-false t (r .to) (p .0) }
 
+refused : (t : ℕ) (r : Range) → (Inside t r → ⊥) → rangeRefusal t r ≡ badRange
+unfolding rangeRefusal when
+refused t r q =
+    decide (leb (r .to) (r .from)) (λ x. rw x)
+    (λ x. decide (ltb t (r .to)) (λ y. rw (x, y)) (λ y. absurd (q (record { some = leb-false (r .to) (r .from) x; within = ltb-false t (r .to) y }))))
+
 accepted : (t : ℕ) (r : Range) → Inside t r → rangeRefusal t r ≡ 0
 unfolding rangeRefusal when
 accepted t r i = rw (lt-leb (r .to) (r .from) (i .some), le-ltb t (r .to) (i .within))
 
--- no record of a run is refused
-module _ {A : Type 0} (g : A → ℕ) (f : ℕ → A) where
-  none-refused : (n i j : ℕ) → firstRefused g i (run f j n) ≡ Never → (k : ℕ) → k < n → g (f (j + k)) ≡ 0
-  unfolding firstRefused run when
-  none-refused zero i j e k h = absurd (not-suc-le-zero h)
-  none-refused (suc n) i j e k h =
-      decide (eqb (g (f j)) 0) (λ z. each z (λ l m. none-refused n (suc i) (suc j) (rw z at e) l m) k h)
-      (λ z. let r = rw z at e in let x : _≡_ {A = ℕ} 0 1 = cc in absurd (omega arith))
-    where
-      each : eqb (g (f j)) 0 ≡ true → ((k : ℕ) → k < n → g (f (suc j + k)) ≡ 0) → (k : ℕ) → k < suc n → g (f (j + k)) ≡ 0
-      each z r zero h = subst (λ (x : ℕ). g (f x) ≡ 0) (omega arith) (eqb-true (g (f j)) 0 z)
-      each z r (suc k) h = subst (λ (x : ℕ). g (f x) ≡ 0) (omega arith) (r k (le-of-suc-le-suc h))
-
-  refuses-none : (n i j : ℕ) → ((k : ℕ) → k < n → g (f (j + k)) ≡ 0) → firstRefused g i (run f j n) ≡ Never
-  unfolding firstRefused run when
-  refuses-none zero i j h = refl
-  refuses-none (suc n) i j h =
-      let z : g (f j) ≡ 0 = subst (λ (x : ℕ). g (f x) ≡ 0) (omega arith) (h 0 (suc-le-suc zero-le)) in
-      rw (eq-eqb (g (f j)) 0 z) (refuses-none n (suc i) (suc j) (λ k l. subst (λ (x : ℕ). g (f x) ≡ 0) (omega arith) (h (suc k) (suc-le-suc l))))
+-- what stands past the end of a list of ranges, which no answer rests on
+noRange : Range
+noRange = record { from = 0; to = 0 }
 
 -- all ranges
 odd-rest : (n : ℕ) → eqb (n % 2) 1 ≡ false → n % 2 ≡ 0
 odd-rest n e = decide (eqb (n % 2) 0) (λ z. eqb-true (n % 2) 0 z) (λ z. let a = eqb-false (n % 2) 1 e in let b = eqb-false (n % 2) 0 z in absurd (omega arith))
 
 module _ (t : ℕ) (l : List ℕ) where
+  read : (k : ℕ) → k < length l / 2 → getD (rangesOf l) k noRange ≡ rangeAt l k
+  read k h = getD-run (rangeAt l) 0 (length l / 2) k noRange h ∙ ap (rangeAt l) (zero-add k)
+
+  all-read : length (rangesOf l) ≡ length l / 2
+  all-read = length-run (rangeAt l) 0 (length l / 2)
+
   pub ranges-odd : length l % 2 ≡ 1 → At badRange (length l / 2) ≡ rangesRefusal t l
   unfolding rangesRefusal when
   ranges-odd e = rw (eq-eqb (length l % 2) 1 e)
@@ -73,12 +69,23 @@ module _ (t : ℕ) (l : List ℕ) where
   unfolding rangesRefusal
   ranges-never e =
       let o = when-never (eqb (length l % 2) 1) badRange (length l / 2) (firstRefused (rangeRefusal t) 0 (rangesOf l)) e in
-      (odd-rest (length l) (o .0), λ k h. inside t (rangeAt l k) (subst (λ (x : ℕ). rangeRefusal t (rangeAt l x) ≡ 0) (omega arith) (none-refused (rangeRefusal t) (rangeAt l) (length l / 2) 0 0 (o .1) k h)))
+      (odd-rest (length l) (o .0), λ k h. inside t (rangeAt l k) (subst (λ (x : Range). rangeRefusal t x ≡ 0) (read k h) (none-refused (rangeRefusal t) 0 (rangesOf l) noRange (o .1) k (omega (arith, all-read)))))
 
   pub ranges-accepted : length l % 2 ≡ 0 → ((k : ℕ) → k < length l / 2 → Inside t (rangeAt l k)) → rangesRefusal t l ≡ Never
   ranges-accepted e h =
       sym (ranges-even (λ z. absurd (omega arith)))
-      ∙ refuses-none (rangeRefusal t) (rangeAt l) (length l / 2) 0 0 (λ k b. let z : k ≡ 0 + k = omega arith in subst (λ (x : ℕ). rangeRefusal t (rangeAt l x) ≡ 0) z (accepted t (rangeAt l k) (h k b)))
+      ∙ refuses-none (rangeRefusal t) 0 (rangesOf l) noRange
+      (λ k b. let c : k < length l / 2 = omega (arith, all-read) in subst (λ (x : Range). rangeRefusal t x ≡ 0) (sym (read k c)) (accepted t (rangeAt l k) (h k c)))
+
+  -- the first that leaves the map, or is empty
+  pub ranges-first : (k : ℕ) → length l % 2 ≡ 0 → k < length l / 2 → ((j : ℕ) → j < k → Inside t (rangeAt l j)) → (Inside t (rangeAt l k) → ⊥) → rangesRefusal t l ≡ At badRange k
+  ranges-first k e h p q =
+      let z : rangeRefusal t (rangeAt l k) ≡ badRange = refused t (rangeAt l k) q in
+      sym (ranges-even (λ x. absurd (omega arith)))
+      ∙ first-refused (rangeRefusal t) 0 (rangesOf l) noRange k (omega (arith, all-read))
+      (λ j b. subst (λ (x : Range). rangeRefusal t x ≡ 0) (sym (read j (omega arith))) (accepted t (rangeAt l j) (p j b)))
+      (λ x. absurd (omega (arith, z, ap (rangeRefusal t) (read k h), x)))
+      ∙ (λ i. At ((ap (rangeRefusal t) (read k h) ∙ z) i) (zero-add k i))
 
 -- ---- 52 of the room
 -- room for n rows in words and shifts is room in rows

@@ -9,22 +9,15 @@ ghost use mathlib.Core.Path.{_≡_};
 ghost use Prim.Native.Nat.{_+_, _*_, _/_, _≤_};
 ghost use lib.Dec.{leb};
 ghost use lib.ListN.{length};
-ghost use Rattle.rows.specs.Rows.{total};
 ghost use Rattle.rows.specs.Lent.{rows};
-ghost use Rattle.maps.specs.Steps.{Sound, Room, Span};
+ghost use Rattle.maps.specs.Steps.{Room};
 ghost use Rattle.cuts.specs.Answers.{rangeAt, rangesOf, cutsOf, concat, rangeRefusal, rangesRefusal, cutsRefusal, Cuts};
-ghost use Rattle.cuts.specs.Steps.{Inside, ReadyToCut, AllWritten, roomOf};
+ghost use Rattle.cuts.specs.Steps.{ReadyToCut, AllWritten, roomOf};
 
 // The frames of a map from `from` on that come before `to`.
 pub struct Range {
     pub from: u64,
     pub to: u64,
-}
-
-// The rows that a cut takes: the first of them, and how many.
-pub struct Taken {
-    pub first: usize,
-    pub rows: usize,
 }
 
 // Range k of the lent words.
@@ -66,16 +59,6 @@ fn refuse_ranges(ranges: &[u64], t: u64) -> Refusal
     Refusal::Never
 }
 
-// The rows that the cut of a range takes.
-fn part_of(u: &[u64], s: &[i64], r: Range) -> Taken
-    requires { ⌜ Sound (now u) (now s) × Inside (total (rows (now u) (now s))) r ⌝ }
-    ensures { λ t. ⌜ Span (now (u .entry)) (now (s .entry)) (r .from) (r .to) (t .first) (t .rows) ⌝ }
-{
-    let i = maps::row_of(u, s, r.from);
-    let k = maps::row_of(u, s, r.to - 1) - i + 1;
-    Taken { first: i, rows: k }
-}
-
 // Whether room for so many rows holds those of all cuts, counted cut by cut, so that no sum passes the room.
 fn holds_counted(u: &[u64], s: &[i64], ranges: &[u64], room: usize) -> bool
     requires { ⌜ ReadyToCut (now u) (now s) (now ranges) ⌝ }
@@ -85,7 +68,8 @@ fn holds_counted(u: &[u64], s: &[i64], ranges: &[u64], room: usize) -> bool
     let mut left = room;
     let mut k: usize = 0;
     while k < n {
-        let t = part_of(u, s, range_at(ranges, k));
+        let r = range_at(ranges, k);
+        let t = maps::part_of(u, s, r.from, r.to);
         if left < t.rows {
             return false;
         }
@@ -155,7 +139,7 @@ fn write_cuts(
     let mut k: usize = 0;
     while k < n {
         let r = range_at(ranges, k);
-        let t = part_of(u, s, r);
+        let t = maps::part_of(u, s, r.from, r.to);
         let m = 5 * w;
         maps::write_cut(
             u,

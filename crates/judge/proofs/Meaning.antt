@@ -35,30 +35,12 @@ use Rattle.mcraw.specs.declared.RecordingTimes.the-variants.{Timed, Refused}
 use Rattle.mcraw.specs.Mcraw.{nanoseconds, startsOf, nominal, end, refusalOf, timesUnless, mcrawTimes}
 use Rattle.mcraw.proofs.Holds.{held}
 use Rattle.choice.proofs.Chains.{when-never, or-never}
+use Rattle.choice.proofs.Runs.{none-refused, refuses-none}
 use Rattle.mcraw.proofs.Answers as answers
 use Rattle.judge.specs.Video.{Shown, timed}
 use Rattle.judge.specs.Judge.{startsAt, startRefusal, lastSegment, videoRefusal, validateOf, single, timesRefusal, recordingRefusal, checkMcraw}
 use Rattle.judge.specs.Means.{Fits, Recorded}
 use Rattle.judge.proofs.Chains.{fits, rest-accepts, one-timestamp, by-times}
-
--- no record is refused exactly where the rule gives 0 for each
-none-refused : {A : Type 0} (f : A → ℕ) (i : ℕ) (l : List A) (d : A) → firstRefused f i l ≡ Never → (k : ℕ) → k < length l → f (getD l k d) ≡ 0
-unfolding firstRefused when
-none-refused f i [] d e k h = absurd (not-suc-le-zero h)
-none-refused {A} f i (x ∷ l) d e k h =
-    decide (eqb (f x) 0)
-    (λ t. at k h (eqb-true (f x) 0 t) (λ j b. none-refused f (suc i) l d (sym (rw t) ∙ e) j b))
-    (λ t. let z : At (f x) i ≡ Never = sym (rw t) ∙ e in let n : _≡_ {A = ℕ} 0 1 = cc in absurd (omega arith))
-  where
-    at : (k : ℕ) → k < suc (length l) → f x ≡ 0 → ((j : ℕ) → j < length l → f (getD l j d) ≡ 0) → f (getD (x ∷ l) k d) ≡ 0
-    at zero h p q = p
-    at (suc k) h p q = q k (le-of-suc-le-suc h)
-
-refuses-none : {A : Type 0} (f : A → ℕ) (i : ℕ) (l : List A) (d : A) → ((k : ℕ) → k < length l → f (getD l k d) ≡ 0) → firstRefused f i l ≡ Never
-unfolding firstRefused when
-refuses-none f i [] d h = refl
-refuses-none f i (x ∷ l) d h =
-    rw (eq-eqb (f x) 0 (h 0 (omega arith))) (refuses-none f (suc i) l d (λ k b. h (suc k) (omega arith)))
 
 -- a segment that starts at its first frame's time
 starts-right : (h : Held) (out : ℤ) → startsAt h out ≡ 0 → h ≡ Is out

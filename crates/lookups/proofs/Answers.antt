@@ -24,8 +24,8 @@ use Rattle.rules.specs.Rules.{refusal, checkedOf, checkOf}
 use Rattle.rules.specs.Lookups.{lookedUp, segmentOfFrame}
 use Rattle.rules.proofs.Answers.{check-first, then-rest}
 use Rattle.table.specs.Layout.{tableOf}
-use Rattle.table.specs.Steps.{indexIn}
-use Rattle.table.proofs.Asked.{index-lent}
+use Rattle.lookup.specs.Steps.{indexIn}
+use Rattle.lookup.proofs.Found.{index-lent}
 use Rattle.lookups.specs.declared.Indexed.{Indexed}
 use Rattle.lookups.specs.declared.Indexed.the-variants.{Indices, NoIndices}
 use Rattle.lookups.specs.Indices.{indicesOf, indicesRefusal, indexed, Indexing}

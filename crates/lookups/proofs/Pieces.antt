@@ -12,7 +12,7 @@ use Rattle.choice.proofs.Tests.{decide, and-left, and-right}
 use Rattle.rules.specs.Steps.{endedBy, Ordered}
 use Rattle.rules.proofs.Search.{bracket-end}
 use Rattle.table.specs.Layout.{segmentWords}
-use Rattle.table.specs.Steps.{endAt, Searchable, indexIn}
+use Rattle.lookup.specs.Steps.{endAt, Searchable, indexIn}
 use Rattle.lookups.specs.declared.Piece.{Piece}
 use Rattle.lookups.specs.Steps.{pieceFrom, pieceEnd, pieceAt, Covers}
 

@@ -6,7 +6,7 @@ use lib.Dec.{eqb}
 use lib.ListN.{length}
 use Rattle.choice.specs.Choice.{when, maxU64}
 use Rattle.table.specs.Layout.{segmentWords}
-use Rattle.table.specs.Steps.{endAt, indexIn}
+use Rattle.lookup.specs.Steps.{endAt, indexIn}
 use Rattle.lookups.specs.declared.Piece.{Piece}
 
 -- where the frames of segment k begin: where the one before it ends

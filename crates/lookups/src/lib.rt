@@ -11,7 +11,7 @@ ghost use lib.Dec.{leb, ltb};
 ghost use lib.ListN.{length};
 ghost use Rattle.slices.specs.Slices.{laid};
 ghost use Rattle.table.specs.Layout.{segmentWords, tableOf};
-ghost use Rattle.table.specs.Steps.{Searchable, indexIn};
+ghost use Rattle.lookup.specs.Steps.{Searchable, indexIn};
 ghost use Rattle.lookups.specs.Indices.{Indexing};
 ghost use Rattle.lookups.specs.Steps.{pieceFrom, pieceEnd, pieceAt, Covers};
 
@@ -36,7 +36,7 @@ fn piece_from(u: &[u64], k: usize) -> u64
     if k == 0 {
         return 0;
     }
-    table::end_at(u, k - 1)
+    lookup::end_at(u, k - 1)
 }
 
 // Where they end. All frames past the table go to the last segment.
@@ -47,7 +47,7 @@ fn piece_end(u: &[u64], k: usize) -> u64
     if k + 1 == u.len() / WORDS {
         return MAX_U64;
     }
-    table::end_at(u, k)
+    lookup::end_at(u, k)
 }
 
 // The frames of segment k.
@@ -80,7 +80,7 @@ fn guessed(u: &[u64], frame: u64, guess: usize) -> Piece
             return next;
         }
     }
-    piece_at(u, table::index_of_frame(u, frame))
+    piece_at(u, lookup::index_of_frame(u, frame))
 }
 
 // A frame's segment, where the frame before it in the list lay in p: mostly that one again, or the one after it.
@@ -108,7 +108,7 @@ fn write_indices(u: &[u64], frames: &[u64], out: &mut [u64])
     }
 }
 
-// The segment of each frame of a list, into lent room: each index is what `table::segment_of_frame` answers.
+// The segment of each frame of a list, into lent room: each index is what `lookup::segment_of_frame` answers.
 pub fn segments_of_frames(
     sources: &[u64],
     u: &[u64],

@@ -8,7 +8,7 @@ use lib.IntN.{ℤ, pos}
 use lib.ListN.{length, getD, take, drop, drop-of-length-le, length-append, length-map}
 use lib.Seq.{drop-cons, sets}
 use Rattle.choice.specs.Records.{run}
-use Rattle.choice.proofs.Runs.{length-run}
+use Rattle.choice.proofs.Runs.{length-run, map-run}
 use Rattle.slices.specs.Slices.{laid}
 use Rattle.slices.proofs.Laid.{length-laid, sets-laid, laid-laid}
 use Rattle.rows.specs.declared.Row.{Row}
@@ -17,47 +17,15 @@ use Rattle.rows.specs.Lent.{rowAt, rows, words, wordsOf, shiftsOf}
 use Rattle.maps.specs.Steps.{Room}
 use Rattle.maps.proofs.Chains.{Joinable}
 use Rattle.maps.proofs.Spans.{run-append}
-use Rattle.rows.proofs.Flat.{words-append, shifts-append, length-words, length-shifts}
+use Rattle.rows.proofs.Flat.{words-append, shifts-append, length-words, length-shifts, words-read}
 
 -- the rows of a map, moved, as they are written
 abbrev pub later : List ℕ → List ℤ → ℕ → List Row
 later u s d = run (λ j. moved d (rowAt u s j)) 0 (length s)
 
-map-run : (f : ℕ → Row) (g : Row → Row) (i n : ℕ) → map g (run f i n) ≡ run (λ j. g (f j)) i n
-unfolding run
-map-run f g i zero = refl
-map-run f g i (suc n) = ap (λ (l : List Row). g (f i) ∷ l) (map-run f g (suc i) n)
-
 -- a map's words and shifts are those of its rows
-next : (u : List ℕ) (i j : ℕ) → i < length u → suc i ≡ j → drop i u ≡ getD u i 0 ∷ drop j u
-next u i j h e = drop-cons u i 0 h ∙ ap (λ (k : ℕ). getD u i 0 ∷ drop k u) e
-
-five : (u : List ℕ) (b : ℕ) → b + 5 ≤ length u
-    → drop b u ≡ getD u b 0 ∷ getD u (b + 1) 0 ∷ getD u (b + 2) 0 ∷ getD u (b + 3) 0 ∷ getD u (b + 4) 0 ∷ drop (b + 5) u
-five u b h =
-    next u b (b + 1) (omega arith) (omega arith)
-    ∙ ap (λ (l : List ℕ). getD u b 0 ∷ l) (next u (b + 1) (b + 2) (omega arith) (omega arith)
-    ∙ ap (λ (l : List ℕ). getD u (b + 1) 0 ∷ l) (next u (b + 2) (b + 3) (omega arith) (omega arith)
-    ∙ ap (λ (l : List ℕ). getD u (b + 2) 0 ∷ l) (next u (b + 3) (b + 4) (omega arith) (omega arith)
-    ∙ ap (λ (l : List ℕ). getD u (b + 3) 0 ∷ l) (next u (b + 4) (b + 5) (omega arith) (omega arith)))))
-
-words-run : (u : List ℕ) (s : List ℤ) (m i : ℕ) → 5 * (i + m) ≤ length u → wordsOf (run (rowAt u s) i m) ++ drop (5 * (i + m)) u ≡ drop (5 * i) u
-unfolding run
-words-run u s zero i h = ap (λ (k : ℕ). drop (5 * k) u) (add-zero i)
-words-run u s (suc m) i h =
-    let w = rowAt u s i in
-    let rest = wordsOf (run (rowAt u s) (suc i) m) in
-    let e : i + suc m ≡ suc i + m = omega arith in
-    let n : 5 * suc i ≡ 5 * i + 5 = omega arith in
-    ap (λ (l : List ℕ). w .source ∷ w .first ∷ w .count ∷ w .out ∷ w .flag ∷ l)
-    (ap (λ (k : ℕ). rest ++ drop (5 * k) u) e ∙ words-run u s m (suc i) (omega arith) ∙ ap (λ (k : ℕ). drop k u) n)
-    ∙ sym (five u (5 * i) (omega arith))
-
 words-all : (u : List ℕ) (s : List ℤ) → length u ≡ 5 * length s → u ≡ wordsOf (rows u s)
-words-all u s h =
-    let n = length s in
-    let w = wordsOf (rows u s) in
-    sym (words-run u s n 0 (omega arith)) ∙ ap (λ (l : List ℕ). w ++ l) (drop-of-length-le u {i = 5 * (0 + n)} (omega arith)) ∙ append-nil w
+words-all u s h = words-read u (rowAt u s) (λ k. refl) (length s) h
 
 shifts-run : (u : List ℕ) (s : List ℤ) (m i : ℕ) → i + m ≤ length s → shiftsOf (run (rowAt u s) i m) ++ drop (i + m) s ≡ drop i s
 unfolding run

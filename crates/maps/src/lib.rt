@@ -46,7 +46,13 @@ pub enum Frames {
     Refused(u64, usize),
 }
 
-// The rows that a cut takes, the first of them and how many; or a refusal.
+// The rows that a cut takes: the first of them, and how many.
+pub struct Taken {
+    pub first: usize,
+    pub rows: usize,
+}
+
+// The same, or a refusal.
 enum Part {
     Rows(usize, usize),
     Refused(u64, usize),
@@ -151,7 +157,7 @@ pub fn frames_of(u: &[u64], s: &[i64]) -> Frames
 
 // The row that holds a frame, by halving: it is one of n rows, and word `at` is the out first of the first of them. The number of turns
 // doesn't depend on what is read, and no product stands before the read, so that a turn waits for little else.
-pub fn row_of(u: &[u64], s: &[i64], frame: u64) -> usize
+fn row_of(u: &[u64], s: &[i64], frame: u64) -> usize
     requires { ⌜ Sound (now u) (now s) × (frame < total (rows (now u) (now s))) ⌝ }
     ensures { λ r. ⌜ Holder (now (u .entry)) (now (s .entry)) frame r ⌝ }
 {
@@ -166,6 +172,16 @@ pub fn row_of(u: &[u64], s: &[i64], frame: u64) -> usize
         }
     }
     at / 5
+}
+
+// The rows that the cut a..b takes.
+pub fn part_of(u: &[u64], s: &[i64], a: u64, b: u64) -> Taken
+    requires { ⌜ Sound (now u) (now s) × (a < b) × (b ≤ total (rows (now u) (now s))) ⌝ }
+    ensures { λ t. ⌜ Span (now (u .entry)) (now (s .entry)) a b (t .first) (t .rows) ⌝ }
+{
+    let i = row_of(u, s, a);
+    let k = row_of(u, s, b - 1) - i + 1;
+    Taken { first: i, rows: k }
 }
 
 // Whether k rows are no more than a map may have, nor than nu words and ns shifts hold.
@@ -230,12 +246,11 @@ fn plan_cut(u: &[u64], s: &[i64], a: u64, b: u64, nu: usize, ns: usize) -> Part
             if t < b {
                 return Part::Refused(BAD_RANGE, 0);
             }
-            let i = row_of(u, s, a);
-            let k = row_of(u, s, b - 1) - i + 1;
-            if !has_room(k, nu, ns) {
+            let part = part_of(u, s, a, b);
+            if !has_room(part.rows, nu, ns) {
                 return Part::Refused(ROWS_OVER, 0);
             }
-            Part::Rows(i, k)
+            Part::Rows(part.first, part.rows)
         }
     }
 }

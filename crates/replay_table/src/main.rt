@@ -13,7 +13,7 @@ use choice::MAX_U64;
 use found::say_found;
 use rules::Checked;
 use rules::Continued;
-use table::Filled;
+use table_rows::Filled;
 
 // The most elements of lent room.
 const ROOM: usize = 64;
@@ -49,7 +49,7 @@ fn segment_of_frame(
         say::unreadable();
         return;
     }
-    say_found(table::segment_of_frame(sources, u, t, log, text, frame.number));
+    say_found(lookup::segment_of_frame(sources, u, t, log, text, frame.number));
 }
 
 // segment_of_time_us TABLE TIME
@@ -67,7 +67,7 @@ fn segment_of_time_us(
         say::unreadable();
         return;
     }
-    say_found(table::segment_of_time_us(sources, u, t, log, text, time.signed));
+    say_found(lookup::segment_of_time_us(sources, u, t, log, text, time.signed));
 }
 
 // continues TABLE SEGMENT
@@ -85,7 +85,7 @@ fn continues(
         say::unreadable();
         return;
     }
-    match table::continues(sources, u, t, log, text, segment.number as usize) {
+    match lookup::continues(sources, u, t, log, text, segment.number as usize) {
         Continued::Answer(yes) => {
             say::accepted();
             say::value(yes as u64);
@@ -120,7 +120,7 @@ fn rows_over(
     ou: &mut [u64],
     os: &mut [i64],
 ) {
-    let answer = table::rows_of_table(sources, u, t, log, text, ou, os);
+    let answer = table_rows::rows_of_table(sources, u, t, log, text, ou, os);
     say_rows(answer, ou, os);
 }
 

@@ -1,11 +1,12 @@
--- Rows as words and shifts: lengths, joined lists, and that rows which are written read back as they are. Assumes nothing.
-use Prim.Native.Nat.{ℕ, suc, _+_, _*_}
+-- Rows as words and shifts: lengths, joined lists, that rows which are written read back as they are, and words that are read as rows are theirs. Assumes nothing.
+use Prim.Native.Nat.{ℕ, zero, suc, _+_, _*_, _≤_, _<_}
+use native.Mathlib.Nat.{add-zero}
 use native.Mathlib.Omega.{arith}
-use mathlib.Core.List.{List, [], _∷_, _++_, append-assoc}
+use mathlib.Core.List.{List, [], _∷_, _++_, append-assoc, append-nil}
 use mathlib.Core.Path.{_≡_, refl, sym, _∙_, ap}
 use lib.IntN.{ℤ, pos}
-use lib.ListN.{length, getD, length-append}
-use lib.Seq.{getD-append-add}
+use lib.ListN.{length, getD, drop, length-append, drop-of-length-le}
+use lib.Seq.{getD-append-add, drop-cons}
 use Rattle.choice.specs.Records.{run}
 use Rattle.rows.specs.declared.Row.{Row}
 use Rattle.rows.specs.Lent.{rowAt, rows, words, wordsOf, shiftsOf}
@@ -56,3 +57,38 @@ read-rows (r ∷ m) pu ps i e f =
 
 pub rows-flat : (m : List Row) → rows (wordsOf m) (shiftsOf m) ≡ m
 rows-flat m = ap (λ (n : ℕ). run (rowAt (wordsOf m) (shiftsOf m)) 0 n) (length-shifts m) ∙ read-rows m [] [] 0 refl refl
+
+-- ---- words that are read as rows
+next : (u : List ℕ) (i j : ℕ) → i < length u → suc i ≡ j → drop i u ≡ getD u i 0 ∷ drop j u
+next u i j h e = drop-cons u i 0 h ∙ ap (λ (k : ℕ). getD u i 0 ∷ drop k u) e
+
+-- the five words of row i
+abbrev pub fiveAt : List ℕ → ℕ → List ℕ
+fiveAt u i = getD u (5 * i) 0 ∷ getD u (5 * i + 1) 0 ∷ getD u (5 * i + 2) 0 ∷ getD u (5 * i + 3) 0 ∷ getD u (5 * i + 4) 0 ∷ []
+
+five : (u : List ℕ) (i : ℕ) → 5 * i + 5 ≤ length u → drop (5 * i) u ≡ fiveAt u i ++ drop (5 * i + 5) u
+five u i h =
+    let b = 5 * i in
+    next u b (b + 1) (omega arith) (omega arith)
+    ∙ ap (λ (l : List ℕ). getD u b 0 ∷ l) (next u (b + 1) (b + 2) (omega arith) (omega arith)
+    ∙ ap (λ (l : List ℕ). getD u (b + 1) 0 ∷ l) (next u (b + 2) (b + 3) (omega arith) (omega arith)
+    ∙ ap (λ (l : List ℕ). getD u (b + 2) 0 ∷ l) (next u (b + 3) (b + 4) (omega arith) (omega arith)
+    ∙ ap (λ (l : List ℕ). getD u (b + 3) 0 ∷ l) (next u (b + 4) (b + 5) (omega arith) (omega arith)))))
+
+-- rows f 0, f 1, .. that are read from words, whatever their shifts: their words are these
+module _ (u : List ℕ) (f : ℕ → Row) (read : (k : ℕ) → words (f k) ≡ fiveAt u k) where
+  words-run : (m i : ℕ) → 5 * (i + m) ≤ length u → wordsOf (run f i m) ++ drop (5 * (i + m)) u ≡ drop (5 * i) u
+  unfolding run
+  words-run zero i h = ap (λ (k : ℕ). drop (5 * k) u) (add-zero i)
+  words-run (suc m) i h =
+      let rest = wordsOf (run f (suc i) m) in
+      let e : i + suc m ≡ suc i + m = omega arith in
+      let n : 5 * suc i ≡ 5 * i + 5 = omega arith in
+      ap (λ (l : List ℕ). (l ++ rest) ++ drop (5 * (i + suc m)) u) (read i)
+      ∙ ap (λ (l : List ℕ). fiveAt u i ++ l) (ap (λ (k : ℕ). rest ++ drop (5 * k) u) e ∙ words-run m (suc i) (omega arith) ∙ ap (λ (k : ℕ). drop k u) n)
+      ∙ sym (five u i (omega arith))
+
+  pub words-read : (n : ℕ) → length u ≡ 5 * n → u ≡ wordsOf (run f 0 n)
+  words-read n h =
+      let w = wordsOf (run f 0 n) in
+      sym (words-run n 0 (omega arith)) ∙ ap (λ (l : List ℕ). w ++ l) (drop-of-length-le u {i = 5 * (0 + n)} (omega arith)) ∙ append-nil w

@@ -9,7 +9,7 @@ use Rattle.rows.specs.declared.Row.{Row}
 use Rattle.rows.specs.Rows.{origin, cut, join, merge}
 use Rattle.rows.specs.Lent.{rows, wordsOf, shiftsOf}
 use Rattle.rules.specs.Records.{Table}
-use Rattle.table.specs.Rows as table
+use Rattle.table_rows.specs.Rows as table
 use Rattle.lookups.specs.Indices.{indicesOf, indicesRefusal, indexed}
 use Rattle.maps.specs.declared.Traced.{Traced}
 use Rattle.maps.specs.Answers.{cutRefusal, joinRefusal, mergeRefusal, originRefusal, mappedOf, tracedOf}

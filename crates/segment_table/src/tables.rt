@@ -42,7 +42,7 @@ pub extern "C" fn st_segment_of_frame(
 ) -> u64
     ensures { λ r. ⌜ (r, now (segment .exit), now (index .exit)) ≡ lookupTold (segmentOfFrame (tableOf (now (sources .entry)) (now (segments .entry)) (now (times .entry)) log (now (text .entry))) frame) (now (segment .entry)) ⌝ }
 {
-    let found = table::segment_of_frame(sources, segments, times, log, text, frame);
+    let found = lookup::segment_of_frame(sources, segments, times, log, text, frame);
     told::tables::tell_lookup(found, segment, index)
 }
 
@@ -91,7 +91,7 @@ pub extern "C" fn st_segment_of_time_us(
 ) -> u64
     ensures { λ r. ⌜ (r, now (segment .exit), now (index .exit)) ≡ lookupTold (segmentOfTime (tableOf (now (sources .entry)) (now (segments .entry)) (now (times .entry)) log (now (text .entry))) time) (now (segment .entry)) ⌝ }
 {
-    let found = table::segment_of_time_us(sources, segments, times, log, text, time);
+    let found = lookup::segment_of_time_us(sources, segments, times, log, text, time);
     told::tables::tell_lookup(found, segment, index)
 }
 
@@ -111,7 +111,7 @@ pub extern "C" fn st_continues(
 ) -> u64
     ensures { λ r. ⌜ (r, now (answer .exit), now (index .exit)) ≡ continuedTold (continuesAt (tableOf (now (sources .entry)) (now (segments .entry)) (now (times .entry)) log (now (text .entry))) segment) (now (answer .entry)) ⌝ }
 {
-    let continued = table::continues(sources, segments, times, log, text, segment as usize);
+    let continued = lookup::continues(sources, segments, times, log, text, segment as usize);
     told::tables::tell_continued(continued, answer, index)
 }
 
@@ -131,6 +131,14 @@ pub extern "C" fn st_rows_of_table(
 ) -> u64
     ensures { λ r. ⌜ RowedTold (tableOf (now (sources .entry)) (now (segments .entry)) (now (times .entry)) log (now (text .entry))) (now («out_words» .entry)) (now («out_shifts» .entry)) (now (rows .entry)) r (now («out_words» .exit)) (now («out_shifts» .exit)) (now (rows .exit)) (now (index .exit)) ⌝ }
 {
-    let filled = table::rows_of_table(sources, segments, times, log, text, out_words, out_shifts);
+    let filled = table_rows::rows_of_table(
+        sources,
+        segments,
+        times,
+        log,
+        text,
+        out_words,
+        out_shifts,
+    );
     told::tables::tell_filled(filled, rows, index)
 }

@@ -1,30 +1,17 @@
--- A lent table that is accepted, and what each call answers then. Assumes nothing.
-use Prim.Native.Nat.{ℕ, _+_, _-_, _/_, _≤_, _<_, min}
+-- A lent table that is accepted: its segments in its words, and what its lengths say. Assumes nothing.
+use Prim.Native.Nat.{ℕ, _/_, _<_}
 use native.Mathlib.Nat.{zero-add}
-use native.Mathlib.Omega.{arith}
-use mathlib.Core.Path.{_≡_, refl, sym, ap, _∙_}
-use mathlib.Core.Bool.{Bool, true, false}
+use mathlib.Core.Path.{_≡_, ap, _∙_}
+use mathlib.Core.Bool.{Bool}
 use mathlib.Core.List.{List}
 use lib.ListN.{length}
-use lib.Dec.{leb}
-use lib.IntN.{ℤ, pos, negsuc, natAbs}
-use lib.Signed.{leZ}
-use borrow.Author.Tests.{le-leb, lt-leb, lt-ltb, le-ltb}
-use Rattle.choice.specs.Choice.{maxU64}
-use Rattle.choice.proofs.Tests.{tf, and-false}
+use lib.IntN.{ℤ}
 use Rattle.choice.proofs.Runs.{getD-run}
-use Rattle.rules.specs.declared.Checked.the-variants.{Frames, Refused}
-use Rattle.rules.specs.declared.Lookup.the-variants.{Index, NoIndex}
-use Rattle.rules.specs.declared.Continued.the-variants.{Answer, NoAnswer}
-use Rattle.rules.specs.Limits.{maxI64}
-use Rattle.rules.specs.Records.{Segment, noSegment, segment, outEnd, outEndUs}
-use Rattle.rules.specs.Rules.{negative, checkOf}
-use Rattle.rules.specs.Lookups.{ended, overBy, overByUs, lookedUp, segmentOfFrame, segmentOfTime, segmentRunsOn, continued, continuesAt}
-use Rattle.rules.specs.Steps.{endedBy, Ordered}
+use Rattle.rules.specs.declared.Checked.the-variants.{Frames}
+use Rattle.rules.specs.Records.{noSegment, segment}
+use Rattle.rules.specs.Rules.{checkOf}
 use Rattle.rules.proofs.Accepted.{Accepted, accepted}
-use Rattle.rules.proofs.Search.{count-none, count-ended, ordered-same, frames-ordered, times-ordered}
 use Rattle.table.specs.Layout.{segmentAt, segmentsOf, tableOf}
-use Rattle.table.specs.Steps.{endAt, endUsAt, Searchable, indexIn}
 use Rattle.table.proofs.Lent.{length-segments, Even, even}
 
 module _ (s u : List ℕ) (t : List ℤ) (log : Bool) (text : List ℕ) where
@@ -36,33 +23,13 @@ module _ (s u : List ℕ) (t : List ℤ) (log : Bool) (text : List ℕ) where
   unfolding tableOf
   table-length = length-segments u t
 
-  -- the number of segments that have ended, in the table and in its words
-  pub index-lent : (frame : ℕ) → indexIn u frame ≡ ended (overBy frame) (tableOf s u t log text .segments)
-  unfolding indexIn ended tableOf segmentsOf
-  index-lent frame =
-      rw (count-ended (overBy frame) (segmentAt u t) (endAt u) (length u / 5) frame (λ k h. refl), length-segments u t)
-
-  -- a table that is refused
-  module _ {n i : ℕ} (e : checkOf (tableOf s u t log text) ≡ Refused n i) where
-    pub frame-refused : (frame : ℕ) → NoIndex n i ≡ segmentOfFrame (tableOf s u t log text) frame
-    unfolding segmentOfFrame lookedUp
-    frame-refused frame = rw e
-
-    pub time-refused : (time : ℤ) → NoIndex n i ≡ segmentOfTime (tableOf s u t log text) time
-    unfolding segmentOfTime lookedUp
-    time-refused time = rw e
-
-    pub continues-refused : (r : ℕ) → NoAnswer n i ≡ continuesAt (tableOf s u t log text) r
-    unfolding continuesAt continued
-    continues-refused r = rw e
-
   -- a table that is accepted
   module _ {N : ℕ} (e : checkOf (tableOf s u t log text) ≡ Frames N) where
     -- what it gives
     pub given : Accepted (tableOf s u t log text) N
     given = accepted (tableOf s u t log text) N e
 
-    inside : (k : ℕ) → k < length u / 5 → k < length (tableOf s u t log text .segments)
+    pub inside : (k : ℕ) → k < length u / 5 → k < length (tableOf s u t log text .segments)
     inside k h = rw table-length h
 
     pub lengths : Even (length s) (length u) (length t)
@@ -71,66 +38,3 @@ module _ (s u : List ℕ) (t : List ℤ) (log : Bool) (text : List ℕ) where
 
     pub some : 0 < length u / 5
     some = rw table-length at (given .some-segments)
-
-    frames : Ordered (endAt u) (length u / 5) maxU64
-    frames =
-        ordered-same (endAt u) (λ k h. ap outEnd (segment-lent k h))
-        (rw table-length at (frames-ordered given))
-
-    pub times : Ordered (endUsAt t) (length u / 5) maxI64
-    times =
-        ordered-same (endUsAt t) (λ k h. ap (λ (x : Segment). natAbs (x .stamps .outstart) + natAbs (x .stamps .duration)) (segment-lent k h))
-        (rw table-length at (times-ordered given))
-
-    pub source-sum : (k : ℕ) → k < length u / 5 → segmentAt u t k .words .first + segmentAt u t k .words .count ≤ maxU64
-    source-sum k h = rw (segment-lent k h) at (given .segments k (inside k h) .src-fits)
-
-    end-us : (k : ℕ) → k < length u / 5 → outEndUs (segmentAt u t k) ≡ pos (endUsAt t k)
-    end-us k h = rw (segment-lent k h) at (given .segments k (inside k h) .out-time .sum)
-
-    -- the frame lookup
-    pub searchable : Searchable u
-    searchable = record { some = some; ends = frames }
-
-    pub frame-index : (frame : ℕ) → Index (indexIn u frame) ≡ segmentOfFrame (tableOf s u t log text) frame
-    unfolding segmentOfFrame lookedUp
-    frame-index frame = rw (e, index-lent frame)
-
-    -- the time lookup
-    over-not : (time : ℤ) → negative time ≡ true → (a : ℕ) → leZ (pos a) time ≡ false
-    over-not (pos n) h a = tf (sym h ∙ le-ltb n 0 (omega arith))
-    over-not (negsuc n) h a = refl
-
-    over : (time : ℤ) → negative time ≡ false → (a : ℕ) → leZ (pos a) time ≡ leb a (natAbs time)
-    over (pos n) h a = refl
-    over (negsuc n) h a = tf h
-
-    pub time-before : (time : ℤ) → negative time ≡ true → Index 0 ≡ segmentOfTime (tableOf s u t log text) time
-    unfolding segmentOfTime lookedUp ended tableOf segmentsOf
-    time-before time h =
-        rw (e, count-none (overByUs time) (segmentAt u t) (length u / 5) (λ k b. ap (λ (z : ℤ). leZ z time) (end-us k b) ∙ over-not time h (endUsAt t k)))
-        (ap Index (omega arith))
-
-    pub time-index : (time : ℤ) → negative time ≡ false
-        → Index (min (endedBy (endUsAt t) (length u / 5) (natAbs time)) (length u / 5 - 1)) ≡ segmentOfTime (tableOf s u t log text) time
-    unfolding segmentOfTime lookedUp ended tableOf segmentsOf
-    time-index time h =
-        rw (
-          e,
-          count-ended (overByUs time) (segmentAt u t) (endUsAt t) (length u / 5) (natAbs time) (λ k b. ap (λ (z : ℤ). leZ z time) (end-us k b) ∙ over time h (endUsAt t k)),
-          length-segments u t,
-        )
-
-    -- whether a segment continues the one before
-    pub continues-first : (r : ℕ) → r < 1 → Answer false ≡ continuesAt (tableOf s u t log text) r
-    unfolding continuesAt continued
-    continues-first r h = rw (e, lt-leb 1 r h)
-
-    pub continues-past : (r : ℕ) → length u / 5 ≤ r → Answer false ≡ continuesAt (tableOf s u t log text) r
-    unfolding continuesAt continued
-    continues-past r h = rw (e, table-length, le-ltb r (length u / 5) h, and-false (leb 1 r))
-
-    pub continues-here : (r : ℕ) → 1 ≤ r → r < length u / 5 → Answer (segmentRunsOn (segmentAt u t (r - 1)) (segmentAt u t r)) ≡ continuesAt (tableOf s u t log text) r
-    unfolding continuesAt continued
-    continues-here r l h =
-        rw (e, table-length, le-leb 1 r l, lt-ltb r (length u / 5) h, segment-lent (r - 1) (omega arith), segment-lent r h)

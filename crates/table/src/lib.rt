@@ -1,31 +1,23 @@
-// A table lent as rows of words: its check, both lookups, `continues`, and the rows of an accepted table. The Rust's SegmentTable.
+// A table lent as rows of words, and its check. The Rust's SegmentTable.
 use choice::Refusal;
 use rules::Checked;
-use rules::Continued;
 use rules::Ends;
-use rules::Lookup;
 use rules::SixTimes;
 use rules::Source;
 use rules::Turn;
 use rules::Words;
 ghost use mathlib.Core.Path.{_≡_};
 ghost use mathlib.Core.Bool.{true, false};
-ghost use mathlib.Core.List.{List, map};
-ghost use Prim.Native.Nat.{_+_, _-_, _*_, _/_, _≤_, _<_, min};
+ghost use mathlib.Core.List.{List};
+ghost use Prim.Native.Nat.{_+_, _*_, _/_, _≤_, _<_};
 ghost use lib.ListN.{length, getD};
 ghost use lib.IntN.{ℤ, pos, natAbs};
 ghost use Rattle.choice.specs.Records.{any, firstRefused};
-ghost use Rattle.choice.specs.Choice.{maxU64};
-ghost use Rattle.rules.specs.Limits.{maxI64};
 ghost use Rattle.rules.specs.Rules.{negative, badSource, badSegment, sourceRefusal, stampTimes, frontRefusal, checkOf};
-ghost use Rattle.rules.specs.Lookups.{segmentOfFrame, segmentOfTime, sameShift, segmentRunsOn, continuesAt};
-ghost use Rattle.rules.specs.Steps.{turnOf, walked, endedBy, Ordered, FineSource, PassesOf};
+ghost use Rattle.rules.specs.Steps.{turnOf, walked, FineSource, PassesOf};
 ghost use Rattle.rules.specs.declared.Checked.the-variants.{Frames};
 ghost use Rattle.table.specs.Layout.{sourceWords, segmentWords, segmentStamps, sourceAt, wordsAt, stampsAt, segmentAt, sourcesOf, segmentsOf, badLengths, tableOf};
-ghost use Rattle.slices.specs.Slices.{laid};
-ghost use Rattle.rows.specs.Lent.{shiftsOf};
-ghost use Rattle.table.specs.Rows.{rowOf, Rowed};
-ghost use Rattle.table.specs.Steps.{endAt, endUsAt, Searchable, indexIn, FineLengths, FineFront, FineSegments};
+ghost use Rattle.table.specs.Steps.{FineLengths, FineFront, FineSegments};
 
 // Words of a source, unsigned words of a segment, signed words of a segment.
 pub const SOURCE: usize = 10;
@@ -55,7 +47,7 @@ pub fn source_at(s: &[u64], k: usize) -> Source
 }
 
 // The unsigned words of segment k.
-fn words_at(u: &[u64], k: usize) -> Words
+pub fn words_at(u: &[u64], k: usize) -> Words
     requires { ⌜ k * segmentWords + segmentWords ≤ length (now u) ⌝ }
     ensures { λ r. ⌜ r ≡ wordsAt (now (u .entry)) k ⌝ }
 {
@@ -78,19 +70,11 @@ fn negative_at(t: &[i64], i: usize) -> bool
 }
 
 // The magnitude of a signed word.
-fn magnitude_at(t: &[i64], i: usize) -> u64
+pub fn magnitude_at(t: &[i64], i: usize) -> u64
     requires { ⌜ i < length (now t) ⌝ }
     ensures { λ r. ⌜ r ≡ natAbs (getD (now (t .entry)) i (pos 0)) ⌝ }
 {
     signed::magnitude(t[i])
-}
-
-// A signed word that isn't negative.
-fn plain_at(t: &[i64], i: usize) -> u64
-    requires { ⌜ (i < length (now t)) × (negative (getD (now t) i (pos 0)) ≡ false) ⌝ }
-    ensures { λ r. ⌜ r ≡ natAbs (getD (now (t .entry)) i (pos 0)) ⌝ }
-{
-    rules::plain(t[i])
 }
 
 // Whether any of the six times of segment k is negative.
@@ -105,43 +89,20 @@ fn negative_times_at(t: &[i64], k: usize) -> bool
     (a | b) | c
 }
 
-// What the signed words of segment k say, whether or not a time is negative.
-fn any_times_at(t: &[i64], k: usize, negative: bool) -> SixTimes
-    requires { ⌜ (k * segmentStamps + segmentStamps ≤ length (now t)) × (negative ≡ stampTimes (stampsAt (now t) k) .negative) ⌝ }
+// What the signed words of segment k say.
+fn times_at(t: &[i64], k: usize) -> SixTimes
+    requires { ⌜ k * segmentStamps + segmentStamps ≤ length (now t) ⌝ }
     ensures { λ r. ⌜ r ≡ stampTimes (stampsAt (now (t .entry)) k) ⌝ }
 {
     let d = k * STAMPS;
     SixTimes {
-        negative,
+        negative: negative_times_at(t, k),
         srcstart: magnitude_at(t, d),
         outstart: magnitude_at(t, d + 1),
         duration: magnitude_at(t, d + 2),
         srccap: magnitude_at(t, d + 3),
         outcap: magnitude_at(t, d + 4),
         capdur: magnitude_at(t, d + 5),
-        back: negative_at(t, d + 6),
-        shift: magnitude_at(t, d + 6),
-    }
-}
-
-// What the signed words of segment k say. Where no time is negative, as in every accepted table, its words are its numbers.
-fn times_at(t: &[i64], k: usize) -> SixTimes
-    requires { ⌜ k * segmentStamps + segmentStamps ≤ length (now t) ⌝ }
-    ensures { λ r. ⌜ r ≡ stampTimes (stampsAt (now (t .entry)) k) ⌝ }
-{
-    let d = k * STAMPS;
-    let negative = negative_times_at(t, k);
-    if negative {
-        return any_times_at(t, k, negative);
-    }
-    SixTimes {
-        negative,
-        srcstart: plain_at(t, d),
-        outstart: plain_at(t, d + 1),
-        duration: plain_at(t, d + 2),
-        srccap: plain_at(t, d + 3),
-        outcap: plain_at(t, d + 4),
-        capdur: plain_at(t, d + 5),
         back: negative_at(t, d + 6),
         shift: magnitude_at(t, d + 6),
     }
@@ -429,214 +390,4 @@ pub fn check(sources: &[u64], u: &[u64], t: &[i64], log: bool, text: &[u8]) -> C
         return tested(sources, u, t, log, text);
     }
     Checked::Frames(n)
-}
-
-// The smaller of two.
-fn at_most(a: usize, b: usize) -> usize
-    ensures { λ r. ⌜ r ≡ min a b ⌝ }
-{
-    if a <= b {
-        return a;
-    }
-    b
-}
-
-// The frame after the last of segment k.
-pub fn end_at(u: &[u64], k: usize) -> u64
-    requires { ⌜ (k * segmentWords + segmentWords ≤ length (now u)) × (endAt (now u) k ≤ maxU64) ⌝ }
-    ensures { λ r. ⌜ r ≡ endAt (now (u .entry)) k ⌝ }
-{
-    let b = k * WORDS;
-    u[b + 3] + u[b + 2]
-}
-
-// How many segments end at or before the frame, by halving.
-fn ended(u: &[u64], frame: u64) -> usize
-    requires { ⌜ Ordered (endAt (now u)) (length (now u) / segmentWords) maxU64 ⌝ }
-    ensures { λ r. ⌜ r ≡ endedBy (endAt (now (u .entry))) (length (now (u .entry)) / segmentWords) frame ⌝ }
-{
-    let mut lo = 0;
-    let mut hi = u.len() / WORDS;
-    while lo < hi {
-        let mid = lo + (hi - lo) / 2;
-        if end_at(u, mid) <= frame {
-            lo = mid + 1;
-        } else {
-            hi = mid;
-        }
-    }
-    lo
-}
-
-// The segment that has a frame, in words that were checked; past the last frame, the last segment.
-pub fn index_of_frame(u: &[u64], frame: u64) -> usize
-    requires { ⌜ Searchable (now u) ⌝ }
-    ensures { λ r. ⌜ r ≡ indexIn (now (u .entry)) frame ⌝ }
-{
-    at_most(ended(u, frame), u.len() / WORDS - 1)
-}
-
-// The end time of segment k.
-fn end_us_at(t: &[i64], k: usize) -> u64
-    requires { ⌜ (k * segmentStamps + segmentStamps ≤ length (now t)) × (endUsAt (now t) k ≤ maxI64) ⌝ }
-    ensures { λ r. ⌜ r ≡ endUsAt (now (t .entry)) k ⌝ }
-{
-    let d = k * STAMPS;
-    magnitude_at(t, d + 1) + magnitude_at(t, d + 2)
-}
-
-// How many of n segments end at or before the time, by halving.
-fn ended_us(t: &[i64], n: usize, time: u64) -> usize
-    requires { ⌜ (n ≤ length (now t) / segmentStamps) × Ordered (endUsAt (now t)) n maxI64 ⌝ }
-    ensures { λ r. ⌜ r ≡ endedBy (endUsAt (now (t .entry))) n time ⌝ }
-{
-    let mut lo = 0;
-    let mut hi = n;
-    while lo < hi {
-        let mid = lo + (hi - lo) / 2;
-        if end_us_at(t, mid) <= time {
-            lo = mid + 1;
-        } else {
-            hi = mid;
-        }
-    }
-    lo
-}
-
-// The segment that has a frame; past the last frame, the last segment. The Rust's segment_of_frame.
-pub fn segment_of_frame(
-    sources: &[u64],
-    u: &[u64],
-    t: &[i64],
-    log: bool,
-    text: &[u8],
-    frame: u64,
-) -> Lookup
-    ensures { λ r. ⌜ r ≡ segmentOfFrame (tableOf (now (sources .entry)) (now (u .entry)) (now (t .entry)) log (now (text .entry))) frame ⌝ }
-{
-    match check(sources, u, t, log, text) {
-        Checked::Refused(n, i) => Lookup::NoIndex(n, i),
-        Checked::Frames(_) => Lookup::Index(index_of_frame(u, frame)),
-    }
-}
-
-// The segment that presents a time: before the first one, the first; past the last, the last. The Rust's segment_of_time_us.
-pub fn segment_of_time_us(
-    sources: &[u64],
-    u: &[u64],
-    t: &[i64],
-    log: bool,
-    text: &[u8],
-    time: i64,
-) -> Lookup
-    ensures { λ r. ⌜ r ≡ segmentOfTime (tableOf (now (sources .entry)) (now (u .entry)) (now (t .entry)) log (now (text .entry))) time ⌝ }
-{
-    match check(sources, u, t, log, text) {
-        Checked::Refused(n, i) => return Lookup::NoIndex(n, i),
-        Checked::Frames(_) => {}
-    }
-    if signed::negative(time) {
-        return Lookup::Index(0);
-    }
-    let n = u.len() / WORDS;
-    Lookup::Index(at_most(ended_us(t, n, signed::magnitude(time)), n - 1))
-}
-
-// Whether two shifts are equal; both absent counts as equal.
-fn same_shift(flag: u64, shift: i64, other: u64, second: i64) -> bool
-    ensures { λ r. ⌜ r ≡ sameShift flag shift other second ⌝ }
-{
-    (flag == other) & ((flag == 0) | signed::same(shift, second))
-}
-
-// Whether segment r continues the one before it.
-fn runs_on(u: &[u64], t: &[i64], r: usize) -> bool
-    requires { ⌜ (0 < r) × (r * segmentWords + segmentWords ≤ length (now u)) × (r * segmentStamps + segmentStamps ≤ length (now t)) × (wordsAt (now u) (r - 1) .first + wordsAt (now u) (r - 1) .count ≤ maxU64) ⌝ }
-    ensures { λ b. ⌜ b ≡ segmentRunsOn (segmentAt (now (u .entry)) (now (t .entry)) (r - 1)) (segmentAt (now (u .entry)) (now (t .entry)) r) ⌝ }
-{
-    let p = words_at(u, r - 1);
-    let e = words_at(u, r);
-    let shifts = same_shift(p.flag, t[(r - 1) * STAMPS + 6], e.flag, t[r * STAMPS + 6]);
-    ((p.source == e.source) & (p.first + p.count == e.first)) & shifts
-}
-
-// Whether segment r continues the one before it in their source, as one run of it. The Rust's continues.
-pub fn continues(
-    sources: &[u64],
-    u: &[u64],
-    t: &[i64],
-    log: bool,
-    text: &[u8],
-    r: usize,
-) -> Continued
-    ensures { λ a. ⌜ a ≡ continuesAt (tableOf (now (sources .entry)) (now (u .entry)) (now (t .entry)) log (now (text .entry))) r ⌝ }
-{
-    match check(sources, u, t, log, text) {
-        Checked::Refused(n, i) => return Continued::NoAnswer(n, i),
-        Checked::Frames(_) => {}
-    }
-    if r < 1 {
-        return Continued::Answer(false);
-    }
-    if r >= u.len() / WORDS {
-        return Continued::Answer(false);
-    }
-    Continued::Answer(runs_on(u, t, r))
-}
-
-// What `rows_of_table` answers: how many rows it wrote, or a refusal's number and index.
-pub enum Filled {
-    Rows(usize),
-    NoRows(u64, usize),
-}
-
-// The shift of segment k, an absent one as 0.
-fn shift_at(u: &[u64], t: &[i64], k: usize) -> i64
-    requires { ⌜ (k * segmentWords + segmentWords ≤ length (now u)) × (k * segmentStamps + segmentStamps ≤ length (now t)) ⌝ }
-    ensures { λ r. ⌜ r ≡ rowOf (segmentAt (now (u .entry)) (now (t .entry)) k) .shift ⌝ }
-{
-    if u[k * WORDS + 4] == 0 {
-        return 0;
-    }
-    t[k * STAMPS + 6]
-}
-
-// The shifts of the rows.
-fn write_shifts(u: &[u64], t: &[i64], os: &mut [i64])
-    requires { ⌜ (length (now u) / segmentWords ≤ length (now t) / segmentStamps) × (length (now u) / segmentWords ≤ length (now os)) ⌝ }
-    ensures { λ _. ⌜ now (os .exit) ≡ laid (shiftsOf (map rowOf (segmentsOf (now (u .entry)) (now (t .entry))))) (now (os .entry)) ⌝ }
-{
-    let n = u.len() / WORDS;
-    let mut k = 0;
-    while k < n {
-        let shift = shift_at(u, t, k);
-        os[k] = shift;
-        k += 1;
-    }
-}
-
-// The rows of an accepted table, one a segment, into lent room: five words and a shift a row. The map that document 01 adds to the Rust.
-pub fn rows_of_table(
-    sources: &[u64],
-    u: &[u64],
-    t: &[i64],
-    log: bool,
-    text: &[u8],
-    ou: &mut [u64],
-    os: &mut [i64],
-) -> Filled
-    ensures { λ r. ⌜ Rowed (tableOf (now (sources .entry)) (now (u .entry)) (now (t .entry)) log (now (text .entry))) (now (ou .entry)) (now (os .entry)) r (now (ou .exit)) (now (os .exit)) ⌝ }
-{
-    match check(sources, u, t, log, text) {
-        Checked::Refused(n, i) => return Filled::NoRows(n, i),
-        Checked::Frames(_) => {}
-    }
-    let n = u.len() / WORDS;
-    if (ou.len() < n * WORDS) | (os.len() < n) {
-        return Filled::NoRows(32, 0);
-    }
-    // a segment's unsigned words are its row's
-    slices::copy_words(u, ou);
-    write_shifts(u, t, os);
-    Filled::Rows(n)
 }

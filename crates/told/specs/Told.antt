@@ -16,8 +16,8 @@ use Rattle.rules.specs.declared.Lookup.{Lookup}
 use Rattle.rules.specs.declared.Lookup.the-variants as lookup
 use Rattle.rules.specs.declared.Continued.{Continued}
 use Rattle.rules.specs.declared.Continued.the-variants as continued
-use Rattle.table.specs.declared.Filled.{Filled}
-use Rattle.table.specs.declared.Filled.the-variants as filled
+use Rattle.table_rows.specs.declared.Filled.{Filled}
+use Rattle.table_rows.specs.declared.Filled.the-variants as filled
 use Rattle.lookups.specs.declared.Indexed.{Indexed}
 use Rattle.lookups.specs.declared.Indexed.the-variants as indexed
 use Rattle.frame_times.specs.declared.FrameTimes.{FrameTimes}

@@ -3,7 +3,7 @@ use lookups::Indexed;
 use rules::Checked;
 use rules::Continued;
 use rules::Lookup;
-use table::Filled;
+use table_rows::Filled;
 ghost use mathlib.Core.Path.{_≡_};
 ghost use Rattle.told.specs.Told.{checkedTold, continuedTold, filledTold, indexedTold, lookupTold};
 

@@ -28,7 +28,8 @@ loop-holds c =
 part-of-requires : tie.Need-part-of-requires Inv-loop μ-loop
 part-of-requires c κs =
     let p = c .before .before .before .before .before .pre in
-    (p .sound, rw (c .range-at .ensures) (p .inside _ (c .before .loop-test .taken)))
+    let i = p .inside _ (c .before .loop-test .taken) in
+    (p .sound, rw (c .range-at .ensures) (i .some), rw (c .range-at .ensures) (i .within))
 
 -- the rows of the cut that is looked at
 long : (c : tie.After-part-of Inv-loop μ-loop) → (let v = c .before .before .before .before .before .before in let r = rangeAt (v .args .ranges .now) (c .before .before .before .loop .k) in length (cut (r .from) (r .to) (rows (v .args .u .now) (v .args .s .now))) ≡ c .part-of .result .rows)

@@ -33,7 +33,8 @@ range-at-requires c κs = omega arith
 part-of-requires : tie.Need-part-of-requires Inv-loop μ-loop
 part-of-requires c κs =
     let p = c .before .before .before .before .before .before .before .pre .0 in
-    (p .sound, rw (c .range-at .ensures) (p .inside _ (c .before .loop-test .taken)))
+    let i = p .inside _ (c .before .loop-test .taken) in
+    (p .sound, rw (c .range-at .ensures) (i .some), rw (c .range-at .ensures) (i .within))
 
 -- the rows that are written next
 abbrev next : tie.After-part-of Inv-loop μ-loop → List Row

@@ -1,6 +1,6 @@
 use borrow.Author.Needs.{needs}
 use Rattle.choice.proofs.Tests.{called}
-use Rattle.table.proofs.Asked.{searchable}
+use Rattle.lookup.proofs.Found.{searchable}
 use Rattle.lookups.proofs.Answers.{list-refused, list-short, list-written}
 use Rattle.lookups.proofs.segments_of_frames.Statement.{statement}
 use Rattle.lookups.proofs.segments_of_frames.Tie as tie

@@ -4,7 +4,7 @@ use mathlib.Core.Path.{_≡_, refl, sym, _∙_}
 use native.Mathlib.Omega.{arith}
 use lib.ListN.{length, getD, set, take, drop, length-set, length-map}
 use Rattle.slices.proofs.Lists.{copy-more, copy-all, map-at}
-use Rattle.table.specs.Steps.{indexIn}
+use Rattle.lookup.specs.Steps.{indexIn}
 use Rattle.lookups.specs.Steps.{Covers}
 use Rattle.lookups.proofs.Pieces.{covers}
 use Rattle.lookups.proofs.write_indices.Statement.{statement}

@@ -1,4 +1,4 @@
-use Prim.Native.Nat.{ℕ, _+_, _-_}
+use Prim.Native.Nat.{ℕ}
 use mathlib.Core.Path.{_≡_, _∙_, ap}
 use native.Mathlib.Omega.{arith}
 use borrow.Author.Tests.{not-true, not-false}
@@ -7,18 +7,14 @@ use Rattle.choice.proofs.Tests.{called}
 use Rattle.rows.specs.Rows.{total}
 use Rattle.rows.specs.Lent.{rows}
 use Rattle.maps.specs.Answers.{mapRefusal, roomRefusal}
-use Rattle.maps.specs.Steps.{Span}
 use Rattle.maps.proofs.Chains.{counted-are, counted-refused, sound, room-on, room-off, cut-malformed, cut-rows-in, cut-empty, cut-beyond, cut-room}
-use Rattle.maps.proofs.Spans.{holders-rise, spans, span-length}
+use Rattle.maps.proofs.Spans.{span-length}
 use borrow.Author.Needs.{needs}
 use Rattle.maps.proofs.plan_cut.Statement.{statement}
 use Rattle.maps.proofs.plan_cut.Tie as tie
 
 good : (c : tie.After-t) → (mapRefusal (c .before .before .before .before .args .u .now) (c .before .before .before .before .args .s .now) ≡ Never) × (c .t .given .0 .0 ≡ total (rows (c .before .before .before .before .args .u .now) (c .before .before .before .before .args .s .now)))
 good c = counted-are (mapRefusal (c .before .before .before .before .args .u .now) (c .before .before .before .before .args .s .now)) (total (rows (c .before .before .before .before .args .u .now) (c .before .before .before .before .args .s .now))) _ (called (c .before .before .frames-of .ensures) (c .t .given .1))
-
-span : (c : tie.After-row-of2) → Span (c .before .before .before .before .before .before .before .before .before .before .args .u .now) (c .before .before .before .before .before .before .before .before .before .before .args .s .now) (c .before .before .before .before .before .before .before .before .before .before .args .a) (c .before .before .before .before .before .before .before .before .before .before .args .b) (c .before .row-of .result) (c .row-of2 .result - c .before .row-of .result + 1)
-span c = spans (sound _ _ (good (c .before .before .before .before .before .before) .0)) (c .before .before .before .before .before .before .before .before .before .before .args .a) (c .before .before .before .before .before .before .before .before .before .before .args .b) (c .before .row-of .result) (c .row-of2 .result) (c .before .before .before .if2 .left) (c .before .row-of .ensures) (c .row-of2 .ensures)
 
 returns : tie.Need-returns
 returns c = cut-rows-in _ _ _ _ _ _ (good (c .before .before) .0) (c .if1 .taken)
@@ -29,26 +25,20 @@ returns-2 c = cut-empty _ _ _ _ _ _ (good (c .before .before .before) .0) (c .be
 returns-3 : tie.Need-returns-3
 returns-3 c = cut-beyond _ _ _ _ _ _ (good (c .before .before .before .before) .0) (c .before .before .if1 .left) (c .before .if2 .left) (omega (arith, good (c .before .before .before .before) .1))
 
-row-of-requires : tie.Need-row-of-requires
-row-of-requires c κs = (sound _ _ (good (c .before .before .before .before) .0), omega (arith, good (c .before .before .before .before) .1))
-
-row-of-requires-2 : tie.Need-row-of-requires-2
-row-of-requires-2 c κs = (sound _ _ (good (c .before .before .before .before .before) .0), omega (arith, good (c .before .before .before .before .before) .1))
-
-sub-k : tie.Need-sub-k
-sub-k c = holders-rise (sound _ _ (good (c .before .before .before .before .before .before) .0)) (c .before .before .before .before .before .before .before .before .before .before .args .a) (c .before .before .before .before .before .before .before .before .before .before .args .b) (c .before .row-of .result) (c .row-of2 .result) (c .before .before .before .if2 .left) (c .before .row-of .ensures) (c .row-of2 .ensures)
+part-of-requires : tie.Need-part-of-requires
+part-of-requires c κs = (sound _ _ (good (c .before .before .before .before) .0), omega arith, omega (arith, good (c .before .before .before .before) .1))
 
 returns-4 : tie.Need-returns-4
-returns-4 c = cut-room _ _ _ _ _ _ (good (c .before .before .before .before .before .before .before .before) .0) (c .before .before .before .before .before .before .if1 .left) (c .before .before .before .before .before .if2 .left) (omega (arith, good (c .before .before .before .before .before .before .before .before) .1)) ∙ ap (λ (k : ℕ). roomRefusal k (c .before .before .before .before .before .before .before .before .before .before .before .before .args .nu) (c .before .before .before .before .before .before .before .before .before .before .before .before .args .ns)) (span-length (span (c .before .before))) ∙ room-on _ _ _ (called (c .before .has-room .ensures) (not-true _ (c .if4 .taken)))
+returns-4 c = cut-room _ _ _ _ _ _ (good (c .before .before .before .before .before .before .before) .0) (c .before .before .before .before .before .if1 .left) (c .before .before .before .before .if2 .left) (omega (arith, good (c .before .before .before .before .before .before .before) .1)) ∙ ap (λ (k : ℕ). roomRefusal k (c .before .before .before .before .before .before .before .before .before .before .before .args .nu) (c .before .before .before .before .before .before .before .before .before .before .before .args .ns)) (span-length (c .before .before .part-of .ensures)) ∙ room-on _ _ _ (called (c .before .has-room .ensures) (not-true _ (c .if4 .taken)))
 
 returns-5 : tie.Need-returns-5
 returns-5 c = cut-malformed _ _ _ _ _ _ (counted-refused _ _ _ _ (called (c .before .before .before .frames-of .ensures) (c .before .n .given .1)))
 
 returns-6 : tie.Need-returns-6
-returns-6 c = (cut-room _ _ _ _ _ _ (good (c .before .before .before .before .before .before .before .before) .0) (c .before .before .before .before .before .before .if1 .left) (c .before .before .before .before .before .if2 .left) (omega (arith, good (c .before .before .before .before .before .before .before .before) .1)) ∙ ap (λ (k : ℕ). roomRefusal k (c .before .before .before .before .before .before .before .before .before .before .before .before .args .nu) (c .before .before .before .before .before .before .before .before .before .before .before .before .args .ns)) (span-length (span (c .before .before))) ∙ room-off _ _ _ (called (c .before .has-room .ensures) (not-false _ (c .if4 .left))), span (c .before .before))
+returns-6 c = (cut-room _ _ _ _ _ _ (good (c .before .before .before .before .before .before .before) .0) (c .before .before .before .before .before .if1 .left) (c .before .before .before .before .if2 .left) (omega (arith, good (c .before .before .before .before .before .before .before) .1)) ∙ ap (λ (k : ℕ). roomRefusal k (c .before .before .before .before .before .before .before .before .before .before .before .args .nu) (c .before .before .before .before .before .before .before .before .before .before .before .args .ns)) (span-length (c .before .before .part-of .ensures)) ∙ room-off _ _ _ (called (c .before .has-room .ensures) (not-false _ (c .if4 .left))), c .before .before .part-of .ensures)
 
 pub plan-cut-spec : {M : Type 1} → statement M
 plan-cut-spec =
     tie.close (tie.spec
-    (λ c κs. search needs) (λ c. search needs) (λ c. search needs) returns returns-2 returns-3 row-of-requires (λ c. search needs)
-    row-of-requires-2 sub-k (λ c. search needs) (λ c κs. search needs) returns-4 returns-5 returns-6)
+    (λ c κs. search needs) (λ c. search needs) (λ c. search needs) returns returns-2 returns-3 part-of-requires
+    (λ c κs. search needs) returns-4 returns-5 returns-6)

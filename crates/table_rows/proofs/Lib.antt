@@ -1,0 +1,4 @@
+pub mod Written
+pub mod Mapped
+pub mod Alike
+pub mod Examples

@@ -1,16 +1,17 @@
 -- What the lookups and `continues` answer of a lent table that is refused, and of one that is accepted. Assumes nothing.
-use Prim.Native.Nat.{ℕ, _+_, _-_, _/_, _≤_, _<_, min}
+use Prim.Native.Nat.{ℕ, suc, _+_, _-_, _*_, _/_, _≤_, _<_, min}
 use native.Mathlib.Omega.{arith}
 use mathlib.Core.Path.{_≡_, refl, sym, ap, _∙_}
 use mathlib.Core.Bool.{Bool, true, false}
 use mathlib.Core.List.{List}
-use lib.ListN.{length}
+use lib.ListN.{length, getD}
 use lib.Dec.{leb}
 use lib.IntN.{ℤ, pos, negsuc, natAbs}
 use lib.Signed.{leZ}
 use borrow.Author.Tests.{le-leb, lt-leb, lt-ltb, le-ltb}
 use Rattle.choice.specs.Choice.{maxU64}
 use Rattle.choice.proofs.Tests.{tf, and-false}
+use Rattle.rows.specs.Steps.{outAt}
 use Rattle.rules.specs.declared.Checked.the-variants.{Frames, Refused}
 use Rattle.rules.specs.declared.Lookup.the-variants.{Index, NoIndex}
 use Rattle.rules.specs.declared.Continued.the-variants.{Answer, NoAnswer}
@@ -65,8 +66,20 @@ module _ (s u : List ℕ) (t : List ℤ) (log : Bool) (text : List ℕ) where
     end-us k h = rw (segment-lent s u t log text k h) at (given s u t log text e .segments k (inside s u t log text e k h) .out-time .sum)
 
     -- the frame lookup
+    at-out : (k : ℕ) → outAt u k ≡ segmentAt u t k .words .out
+    at-out k = let z : 5 * k + 3 ≡ k * 5 + 3 = omega arith in ap (λ (j : ℕ). getD u j 0) z
+
     pub searchable : Searchable u
-    searchable = record { some = some s u t log text e; ends = frames }
+    searchable = record {
+      some = some s u t log text e;
+      ends = frames;
+      first = at-out 0 ∙ ap (λ (x : Segment). x .words .out) (sym (segment-lent s u t log text 0 (some s u t log text e))) ∙ given s u t log text e .first;
+      chained = λ k h.
+          let l : suc k < length u / 5 = omega arith in
+          let f = given s u t log text e .follows k (rw (table-length s u t log text) l) .frame in
+          let z : k + 1 ≡ suc k = omega arith in
+          ap (outAt u) z ∙ at-out (suc k) ∙ ap (λ (x : Segment). x .words .out) (sym (segment-lent s u t log text (suc k) l)) ∙ f ∙ ap outEnd (segment-lent s u t log text k (omega arith));
+    }
 
     pub frame-index : (frame : ℕ) → Index (indexIn u frame) ≡ segmentOfFrame (tableOf s u t log text) frame
     unfolding segmentOfFrame lookedUp

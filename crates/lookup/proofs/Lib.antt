@@ -1,2 +1,3 @@
+pub mod Last
 pub mod Found
 pub mod Examples

@@ -1,9 +1,11 @@
 -- Words of inner contracts: where the k-th segment ends, in lent words, and which segment a frame lies in.
 use Prim.Native.Nat.{ℕ, _+_, _-_, _/_, _<_, min}
 use mathlib.Core.List.{List}
+use mathlib.Core.Path.{_≡_}
 use lib.IntN.{ℤ, natAbs}
 use lib.ListN.{length}
 use Rattle.choice.specs.Choice.{maxU64}
+use Rattle.rows.specs.Steps.{outAt}
 use Rattle.rules.specs.Steps.{endedBy, Ordered}
 use Rattle.table.specs.Layout.{segmentWords, wordsAt, stampsAt}
 
@@ -11,10 +13,12 @@ use Rattle.table.specs.Layout.{segmentWords, wordsAt, stampsAt}
 abbrev pub endAt : List ℕ → ℕ → ℕ
 endAt u k = wordsAt u k .out + wordsAt u k .count
 
--- some segments, whose ends never fall: words in which a frame can be searched for
+-- some segments, whose ends never fall, each of which begins where the one before it ends: words in which a frame can be searched for
 pub record Searchable (u : List ℕ) : Type 0 where
   pub some : 0 < length u / segmentWords
   pub ends : Ordered (endAt u) (length u / segmentWords) maxU64
+  pub first : outAt u 0 ≡ 0
+  pub chained : (k : ℕ) → k + 1 < length u / segmentWords → outAt u (k + 1) ≡ endAt u k
 
 -- the segment of a frame, in such words
 unfoldable pub indexIn : List ℕ → ℕ → ℕ

@@ -33,30 +33,13 @@ pub fn end_at(u: &[u64], k: usize) -> u64
     u[b + 3] + u[b + 2]
 }
 
-// How many segments end at or before the frame, by halving.
-fn ended(u: &[u64], frame: u64) -> usize
-    requires { ⌜ Ordered (endAt (now u)) (length (now u) / segmentWords) maxU64 ⌝ }
-    ensures { λ r. ⌜ r ≡ endedBy (endAt (now (u .entry))) (length (now (u .entry)) / segmentWords) frame ⌝ }
-{
-    let mut lo = 0;
-    let mut hi = u.len() / WORDS;
-    while lo < hi {
-        let mid = lo + (hi - lo) / 2;
-        if end_at(u, mid) <= frame {
-            lo = mid + 1;
-        } else {
-            hi = mid;
-        }
-    }
-    lo
-}
-
 // The segment that has a frame, in words that were checked; past the last frame, the last segment.
 pub fn index_of_frame(u: &[u64], frame: u64) -> usize
     requires { ⌜ Searchable (now u) ⌝ }
     ensures { λ r. ⌜ r ≡ indexIn (now (u .entry)) frame ⌝ }
 {
-    at_most(ended(u, frame), u.len() / WORDS - 1)
+    // a segment's unsigned words are its row's
+    rows::last_begun(u, u.len() / WORDS, frame)
 }
 
 // The end time of segment k.

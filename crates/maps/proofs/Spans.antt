@@ -22,6 +22,7 @@ use Rattle.choice.specs.declared.Refusal.the-variants.{Never}
 use Rattle.choice.specs.Choice.{maxU64}
 use Rattle.maps.specs.declared.Traced.the-variants.{From}
 use Rattle.rows.specs.Lent.{rowAt, rows}
+use Rattle.rows.specs.Steps.{outAt, OutsRise, LastBegun}
 use Rattle.maps.specs.Answers.{originRefusal, tracedAs, tracedOf}
 use Rattle.maps.specs.Steps.{Sound, Room, Holder, Span}
 use Rattle.maps.proofs.Chains.{Cuttable}
@@ -109,17 +110,6 @@ cut-append (r ∷ x) y a b = go (test (overlaps a b r)) (cut-append x y a b)
     go (was e) ih = rw (e, ih)
     go (wasnt e) ih = rw (e, ih)
 
--- halving: row lo begins at or before the frame, and row hi after it, if there is a row hi
-pub record Between (u : List ℕ) (s : List ℤ) (k lo hi : ℕ) : Type 0 where
-  pub some : lo < hi
-  pub within : hi ≤ length s
-  pub low : (rowAt u s lo) .out ≤ k
-  pub high : hi < length s → k < (rowAt u s hi) .out
-
-pub record Halved (u : List ℕ) (s : List ℤ) (k at n : ℕ) : Type 0 where
-  pub word : at % 5 ≡ 3
-  pub among : Between u s k (at / 5) (at / 5 + n)
-
 module _ {u : List ℕ} {s : List ℤ} (m : Sound u s) where
   pub row-lies : (k : ℕ) → k < length s → Lies (rowAt u s) k
   row-lies k h = lies (rowAt u s) (length s) k (m .well) h
@@ -131,62 +121,30 @@ module _ {u : List ℕ} {s : List ℤ} (m : Sound u s) where
   pub row-source : (k : ℕ) (r : Row) → r ≡ rowAt u s k → k < length s → r .first + r .count ≤ maxU64
   row-source k r e h = let l = row-lies k h in let z : r .first + r .count ≡ (rowAt u s k) .first + (rowAt u s k) .count = ap (λ (x : Row). x .first + x .count) e in omega (arith, l .source)
 
-  pub between-start : (k : ℕ) → Between u s k 0 (length s)
+  -- the search for a row that holds a frame: rows begin one after another, the first at 0
+  pub outs-rise : OutsRise u (length s)
+  outs-rise = record {
+    some = m .some;
+    sizes = omega (arith, m .sizes);
+    rising = λ i j h l. let p = row-lies i (omega arith) in let q = row-lies j l in omega (arith, p .begins, q .begins, start-rises (rowAt u s) i j h);
+  }
+
+  pub from-zero : (k : ℕ) → outAt u 0 ≤ k
   unfolding run
-  between-start k = let l = row-lies 0 (m .some) in record { some = m .some; within = omega arith; low = omega (arith, l .begins); high = λ h. absurd (omega arith) }
+  from-zero k = let l = row-lies 0 (m .some) in omega (arith, l .begins)
 
-  pub between-up : {k lo hi : ℕ} (x : ℕ) → Between u s k lo hi → x < hi → (rowAt u s x) .out ≤ k → Between u s k x hi
-  between-up x b h l = record { some = h; within = b .within; low = l; high = b .high }
-
-  -- frame k lies before row x, so that it lies before each row from there on
-  pub between-down : {k lo hi : ℕ} (x y : ℕ) → Between u s k lo hi → lo < x → x ≤ y → y ≤ hi → k < (rowAt u s x) .out → Between u s k lo y
-  between-down x y b h l t z =
+  -- the last that begins at or before a frame of the map holds it
+  pub last-holds : {k i : ℕ} → LastBegun u (length s) k i → k < total (rows u s) → Holder u s k i
+  last-holds {k} {i} b t =
+      let lies = row-lies i (b .within) in
       record {
-        some = omega arith;
-        within = omega (arith, b .within);
-        low = b .low;
-        high = λ n.
-            let p = row-lies x (omega arith) in
-            let q = row-lies y n in
-            omega (arith, p .begins, q .begins, start-rises (rowAt u s) x y l);
-      }
-
-  pub between-end : {k lo hi : ℕ} → Between u s k lo hi → hi - lo ≤ 1 → k < total (rows u s) → Holder u s k lo
-  between-end {k} {lo} {hi} b h t =
-      let lies = row-lies lo (omega (arith, b .some, b .within)) in
-      let e : hi ≡ suc lo = omega (arith, b .some) in
-      record {
-        within = omega (arith, b .some, b .within);
+        within = b .within;
         low = b .low;
         high = ⊎-elim
-            (λ (z : length s ≤ suc lo). let g : suc lo ≡ length s = omega (arith, b .within) in omega (arith, lies .ends, ap (λ (n : ℕ). total (run (rowAt u s) 0 n)) g))
-            (λ (z : suc lo < length s). let l = row-lies (suc lo) z in let w : k < (rowAt u s (suc lo)) .out = subst (λ (n : ℕ). k < (rowAt u s n) .out) e (b .high (omega arith)) in omega (arith, lies .ends, l .begins))
-            (le-or-lt (length s) (suc lo));
+            (λ (z : length s ≤ suc i). let g : suc i ≡ length s = omega (arith, b .within) in omega (arith, lies .ends, ap (λ (n : ℕ). total (run (rowAt u s) 0 n)) g))
+            (λ (z : suc i < length s). let l = row-lies (suc i) z in let e : i + 1 ≡ suc i = omega arith in let w : k < (rowAt u s (suc i)) .out = subst (λ (n : ℕ). k < outAt u n) e (b .high (omega arith)) in omega (arith, lies .ends, l .begins))
+            (le-or-lt (length s) (suc i));
       }
-
-  -- halving by words: the out first of the first of n rows is word at
-  pub halved-start : (k : ℕ) → Halved u s k 3 (length s)
-  halved-start k = let e : 0 + length s ≡ length s = omega arith in record { word = refl; among = rw e (between-start k) }
-
-  module _ {k at n : ℕ} (o : Halved u s k at n) (few : 1 < n) where
-    mid-out : (rowAt u s (at / 5 + n / 2)) .out ≡ getD u (at + 5 * (n / 2)) 0
-    mid-out = let e : 5 * (at / 5 + n / 2) + 3 ≡ at + 5 * (n / 2) = omega (arith, o .word) in ap (λ (j : ℕ). getD u j 0) e
-
-    pub halved-read : at + 5 * (n / 2) < length u
-    halved-read = omega (arith, o .word, o .among .within, m .sizes)
-
-    pub halved-up : getD u (at + 5 * (n / 2)) 0 ≤ k → Halved u s k (at + 5 * (n / 2)) (n - n / 2)
-    halved-up h =
-        let x : (at + 5 * (n / 2)) / 5 ≡ at / 5 + n / 2 = omega (arith, o .word) in
-        let y : (at + 5 * (n / 2)) / 5 + (n - n / 2) ≡ at / 5 + n = omega (arith, o .word) in
-        record { word = omega (arith, o .word); among = rw (y, x) (between-up (at / 5 + n / 2) (o .among) (omega arith) (omega (arith, mid-out))) }
-
-    pub halved-down : k < getD u (at + 5 * (n / 2)) 0 → Halved u s k at (n - n / 2)
-    halved-down h =
-        record { word = o .word; among = between-down (at / 5 + n / 2) (at / 5 + (n - n / 2)) (o .among) (omega arith) (omega arith) (omega arith) (omega (arith, mid-out)) }
-
-  pub halved-end : {k at n : ℕ} → Halved u s k at n → n ≤ 1 → k < total (rows u s) → Holder u s k (at / 5)
-  halved-end o h t = between-end (o .among) (omega arith) t
 
   -- the rows that a cut takes: from the one that holds a to the one that holds b - 1
   module _ (a b i j : ℕ) (h : a < b) (x : Holder u s a i) (y : Holder u s (b - 1) j) where

@@ -155,23 +155,12 @@ pub fn frames_of(u: &[u64], s: &[i64]) -> Frames
     judge(u, s)
 }
 
-// The row that holds a frame, by halving: it is one of n rows, and word `at` is the out first of the first of them. The number of turns
-// doesn't depend on what is read, and no product stands before the read, so that a turn waits for little else.
+// The row that holds a frame.
 fn row_of(u: &[u64], s: &[i64], frame: u64) -> usize
     requires { ⌜ Sound (now u) (now s) × (frame < total (rows (now u) (now s))) ⌝ }
     ensures { λ r. ⌜ Holder (now (u .entry)) (now (s .entry)) frame r ⌝ }
 {
-    let mut at: usize = 3;
-    let mut n = s.len();
-    while 1 < n {
-        let half = n / 2;
-        let mid = at + 5 * half;
-        n -= half;
-        if u[mid] <= frame {
-            at = mid;
-        }
-    }
-    at / 5
+    rows::last_begun(u, s.len(), frame)
 }
 
 // The rows that the cut a..b takes.

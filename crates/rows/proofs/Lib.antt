@@ -5,3 +5,4 @@ pub mod Joining
 pub mod Well
 pub mod Demanded
 pub mod Flat
+pub mod Begun

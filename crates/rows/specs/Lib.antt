@@ -1,3 +1,4 @@
 pub mod Rows
 pub mod Demands
 pub mod Lent
+pub mod Steps

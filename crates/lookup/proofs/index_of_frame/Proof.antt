@@ -1,12 +1,15 @@
-use mathlib.Core.Path.{refl}
+use mathlib.Core.Path.{sym, _∙_}
+use native.Mathlib.Omega.{arith}
 use borrow.Author.Needs.{needs}
-use Rattle.lookup.specs.Steps.{indexIn}
+use Rattle.lookup.proofs.Last.{outs-rise, last-index}
 use Rattle.lookup.proofs.index_of_frame.Statement.{statement}
 use Rattle.lookup.proofs.index_of_frame.Tie as tie
 
+last-begun-requires : tie.Need-last-begun-requires
+last-begun-requires c κs = let v = c .before in (outs-rise (v .pre), omega (arith, v .pre .first))
+
 returns : tie.Need-returns
-unfolding indexIn
-returns c = rw (c .at-most .ensures, c .before .ended .ensures) refl
+returns c = last-index (c .before .before .pre) (c .last-begun .ensures)
 
 pub index-of-frame-spec : {M : Type 1} → statement M
-index-of-frame-spec = tie.close (tie.spec (λ c κs. search needs) (λ c. search needs) (λ c κs. search needs) returns)
+index-of-frame-spec = tie.close (tie.spec last-begun-requires returns)

@@ -1,40 +1,13 @@
-use native.Mathlib.Omega.{arith}
-use Rattle.maps.proofs.Spans.{Halved, halved-start, halved-read, halved-up, halved-down, halved-end}
+use borrow.Author.Needs.{needs}
+use Rattle.maps.proofs.Spans.{outs-rise, from-zero, last-holds}
 use Rattle.maps.proofs.row_of.Statement.{statement}
 use Rattle.maps.proofs.row_of.Tie as tie
 
-abbrev Inv-loop : tie.InvT-loop
-Inv-loop u s frame at₀ n₀ at n = Halved u s frame at n
+last-begun-requires : tie.Need-last-begun-requires
+last-begun-requires c κs = let v = c .before in (outs-rise (v .pre .0), from-zero (v .pre .0) (v .args .frame))
 
-abbrev μ-loop : tie.MeasureT-loop
-μ-loop u s frame at₀ n₀ at n = n
-
-loop-holds : tie.Need-loop-holds Inv-loop μ-loop
-loop-holds c = halved-start (c .pre .0) (c .args .frame)
-
-mul-mid : tie.Need-mul-mid Inv-loop μ-loop
-mul-mid c = omega (arith, c .before .before .pre .0 .sizes)
-
-add-mid : tie.Need-add-mid Inv-loop μ-loop
-add-mid c = omega (arith, c .before .before .pre .0 .sizes)
-
-mul-if1 : tie.Need-mul-if1 Inv-loop μ-loop
-mul-if1 c = omega (arith, c .before .before .pre .0 .sizes)
-
-shared-slice-read-if1 : tie.Need-shared-slice-read-if1 Inv-loop μ-loop
-shared-slice-read-if1 c = halved-read (c .before .before .before .pre .0) (c .before .before .loop .inv) (c .before .loop-test .taken)
-
-loop-again : tie.Need-loop-again Inv-loop μ-loop
-loop-again c = halved-up (c .before .before .before .before .pre .0) (c .before .before .before .loop .inv) (c .before .before .loop-test .taken) (c .if1 .taken)
-
-loop-again-2 : tie.Need-loop-again-2 Inv-loop μ-loop
-loop-again-2 c = halved-down (c .before .before .before .before .pre .0) (c .before .before .before .loop .inv) (c .before .before .loop-test .taken) (c .if1 .left)
-
-returns : tie.Need-returns Inv-loop μ-loop
-returns c = halved-end (c .before .before .pre .0) (c .before .loop .inv) (omega arith) (c .before .before .pre .1)
+returns : tie.Need-returns
+returns c = let v = c .before .before in last-holds (v .pre .0) (c .last-begun .ensures) (v .pre .1)
 
 pub row-of-spec : {M : Type 1} → statement M
-row-of-spec =
-    tie.close (tie.spec
-    Inv-loop μ-loop loop-holds mul-mid add-mid (λ c. omega arith) mul-if1 shared-slice-read-if1 (λ c. omega arith) loop-again
-    (λ c. omega arith) loop-again-2 returns)
+row-of-spec = tie.close (tie.spec last-begun-requires returns)

@@ -140,3 +140,8 @@ module _ (sources text : List ℕ) (rs : List TrimSegment) (log : Bool) where
   pub malformed-is : malformed table ≡ badSources sources text
   unfolding malformed
   malformed-is = rw (none-bad rs 0 (length rs)) (or-false _)
+
+-- a record's flag is 0 or 1
+pub flag-fine : (b : Bool) → ltb 1 (cond b 1 0) ≡ false
+flag-fine true = refl
+flag-fine false = refl

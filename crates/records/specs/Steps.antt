@@ -1,8 +1,8 @@
 -- Words of the contracts inside this crate: what is known after some records, and what is answered after all.
-use Prim.Native.Nat.{ℕ, zero, suc, _+_, _-_, _%_, min}
+use Prim.Native.Nat.{ℕ, zero, suc, _+_, _-_, _%_, _^_, min}
 use mathlib.Core.Bool.{Bool, true, false, not, _||_, cond}
 use mathlib.Core.List.{List}
-use lib.Dec.{leb, ltb, eqb}
+use lib.Dec.{leb, eqb}
 use lib.ListN.{length, getD}
 use lib.IntN.{pos}
 use Rattle.choice.specs.declared.Refusal.{Refusal}
@@ -15,7 +15,6 @@ use Rattle.rules.specs.declared.Lookup.{Lookup}
 use Rattle.rules.specs.declared.Lookup.the-variants.{Index, NoIndex}
 use Rattle.rules.specs.declared.Turn.{Turn}
 use Rattle.rules.specs.declared.Turn.the-variants.{Stop, Go}
-use Rattle.rules.specs.Limits.{maxSegments}
 use Rattle.rules.specs.Records.{Stamps, Segment}
 use Rattle.rules.specs.Rules.{start, badSource, frontRefusal}
 use Rattle.rules.specs.Steps.{turnOf}
@@ -68,38 +67,47 @@ abbrev pub recordAt : List TrimSegment → ℕ → TrimSegment
 recordAt rs k = getD rs k noRecord
 
 unfoldable pub begun : ℕ → SoFar
-begun frame = record { frame = frame; prev = start; ended = 0; n = 0; stopped = false; number = 0; at = 0 }
+begun frame = record { frame = frame; prev = start; ended = 0; n = 0; fine = true }
 
 -- one record more, by what its tests say
 unfoldable pub turnedOf : SoFar → Turn → SoFar
-turnedOf s (Stop number) = record { frame = s .frame; prev = s .prev; ended = s .ended; n = s .n + 1; stopped = true; number = number; at = s .n }
-turnedOf s (Go to) = record { frame = s .frame; prev = to; ended = cond (leb (to .frame) (s .frame)) (min (s .ended + 1) (s .n + 1)) (s .ended); n = s .n + 1; stopped = false; number = 0; at = 0 }
+turnedOf s (Stop number) = record { frame = s .frame; prev = s .prev; ended = s .ended; n = s .n; fine = false }
+turnedOf s (Go to) = record { frame = s .frame; prev = to; ended = cond (leb (to .frame) (s .frame)) ((s .ended + 1) % 2 ^ 64) (s .ended); n = (s .n + 1) % 2 ^ 64; fine = true }
 
--- one record more, which is only counted
-unfoldable pub countedOf : SoFar → SoFar
-countedOf s = record { frame = s .frame; prev = s .prev; ended = s .ended; n = s .n + 1; stopped = true; number = s .number; at = s .at }
-
+-- after the first that is refused nothing changes
 unfoldable pub nextOf : List Source → SoFar → TrimSegment → SoFar
-nextOf srcs s r =
-    if ltb maxSegments (s .n) then s
-    else if s .stopped then countedOf s
-    else turnedOf s (turnOf srcs (s .prev) (segmentOf r))
+nextOf srcs s r = if s .fine then turnedOf s (turnOf srcs (s .prev) (segmentOf r)) else s
 
 -- after the first k records
 unfoldable pub after : List Source → ℕ → List TrimSegment → ℕ → SoFar
 after srcs frame rs zero = begun frame
 after srcs frame rs (suc k) = nextOf srcs (after srcs frame rs k) (recordAt rs k)
 
+-- of n records, the one at which the walk stopped; n where it didn't
+unfoldable pub stoppedAt : SoFar → ℕ → ℕ
+stoppedAt s n = if s .fine then n else s .n
+
 -- 1, of sources that are lent as words
 abbrev pub badSources : List ℕ → List ℕ → Bool
 badSources sources text = not (eqb (length sources % sourceWords) 0) || any (badSource (length text)) (sourcesOf sources)
 
--- 1 to 8 first, then the first record refused, then the segment
-unfoldable pub decided : Refusal → Bool → ℕ → ℕ → ℕ → ℕ → Lookup
-decided (At first i) stopped number at ended n = NoIndex first i
-decided Never true number at ended n = NoIndex number at
-decided Never false number at ended n = Index (min ended (n - 1))
+-- 1 to 8, where n records are lent
+abbrev pub frontOf : List ℕ → List ℕ → ℕ → Bool → Refusal
+frontOf sources text n log = frontRefusal log text (sourcesOf sources) (badSources sources text) n
 
-unfoldable pub answerOf : List ℕ → List ℕ → SoFar → Bool → Lookup
-answerOf sources text s log =
-    decided (frontRefusal log text (sourcesOf sources) (badSources sources text) (s .n)) (s .stopped) (s .number) (s .at) (s .ended) (s .n)
+-- 1 to 8 first, and then the rest
+unfoldable pub frontOr : Refusal → Lookup → Lookup
+frontOr (At number i) rest = NoIndex number i
+frontOr Never rest = rest
+
+-- the number of a refusal, or 0
+unfoldable pub numberOf : Turn → ℕ
+numberOf (Stop number) = number
+numberOf (Go to) = 0
+
+-- the answer where the walk over n records stopped at r, and where it went over all of them
+unfoldable pub refusedOf : List ℕ → List ℕ → SoFar → TrimSegment → ℕ → Bool → Lookup
+refusedOf sources text s r n log = frontOr (frontOf sources text n log) (NoIndex (numberOf (turnOf (sourcesOf sources) (s .prev) (segmentOf r))) (s .n))
+
+unfoldable pub answerOf : List ℕ → List ℕ → SoFar → ℕ → Bool → Lookup
+answerOf sources text s n log = frontOr (frontOf sources text n log) (Index (min (s .ended) (n - 1)))

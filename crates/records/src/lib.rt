@@ -3,20 +3,19 @@
 use choice::Refusal;
 use rules::Ends;
 use rules::Lookup;
-use rules::MAX_SEGMENTS;
 use rules::SixTimes;
 use rules::Turn;
 use rules::Words;
 use table::SOURCE;
 ghost use mathlib.Core.Path.{_≡_};
-ghost use Prim.Native.Nat.{_+_, _-_, _≤_, min};
-ghost use Rattle.rules.specs.Limits.{maxSegments};
+ghost use Prim.Native.Nat.{_+_, _-_, _%_, _^_, min};
+ghost use lib.ListN.{length};
 ghost use mathlib.Core.Bool.{cond};
 ghost use Rattle.rules.specs.Rules.{stampTimes};
-ghost use Rattle.rules.specs.Steps.{turnOf};
+ghost use Rattle.rules.specs.Steps.{turnOf, passedOf};
 ghost use Rattle.table.specs.Layout.{sourcesOf};
 ghost use Rattle.records.specs.Records.{locate};
-ghost use Rattle.records.specs.Steps.{begun, turnedOf, countedOf, nextOf, decided, answerOf, wordsOf, stampsOf, segmentOf};
+ghost use Rattle.records.specs.Steps.{wordsOf, stampsOf, segmentOf, begun, nextOf, after, stoppedAt, frontOf, numberOf, refusedOf, answerOf};
 
 // A segment as one record, with its times in microseconds: the Rust's TrimSegment.
 #[repr(C)]
@@ -51,16 +50,14 @@ pub struct TrimSegment {
 pub struct SoFar {
     // The frame that is looked up.
     pub frame: u64,
-    // Where the last record ends, while none is refused.
+    // Where the last record ends that was passed.
     pub prev: Ends,
-    // How many of them end at or before the frame, while none is refused.
+    // How many were passed that end at or before the frame.
     pub ended: usize,
-    // How many there were; all lists beyond a table's limit count as one more than it.
+    // How many were passed.
     pub n: usize,
-    // Whether one was refused; the first refusal's number and index.
-    pub stopped: bool,
-    pub number: u64,
-    pub at: usize,
+    // Whether none was refused; after the first that is, nothing changes.
+    pub fine: bool,
 }
 
 // A record's shift flag as a word.
@@ -103,17 +100,17 @@ fn times_of(r: TrimSegment) -> SixTimes
     }
 }
 
-// 9 to 17 of a record, after one that ends at prev. Most records pass: that is asked first.
-fn turn_of_record(sources: &[u64], prev: Ends, r: TrimSegment) -> Turn
-    ensures { λ t. ⌜ t ≡ turnOf (sourcesOf (now (sources .entry))) prev (segmentOf r) ⌝ }
+// Passes a record, after one that ends at prev: where it ends, or no end where one of 9 to 17 refuses it.
+fn pass_record(sources: &[u64], prev: Ends, r: TrimSegment) -> Ends
+    ensures { λ e. ⌜ e ≡ passedOf (turnOf (sourcesOf (now (sources .entry))) prev (segmentOf r)) ⌝ }
 {
     let w = words_of(r);
     let from = w.source as usize;
     if from >= sources.len() / SOURCE {
-        return Turn::Stop(9);
+        return rules::no_end();
     }
     let s = table::source_at(sources, from);
-    let next = rules::pass(
+    rules::pass(
         s,
         prev,
         w,
@@ -124,104 +121,117 @@ fn turn_of_record(sources: &[u64], prev: Ends, r: TrimSegment) -> Turn
         r.out_capture_start_us,
         r.capture_duration_us,
         r.clock_shift,
-    );
-    if next.some {
-        return Turn::Go(next);
-    }
-    rules::turn_of(s, prev, w, times_of(r))
-}
-
-// How many of n records have ended, where it was `ended` of those before the last.
-fn one_more(ended: usize, n: usize, last: bool) -> usize
-    ensures { λ r. ⌜ r ≡ cond last (min (ended + 1) n) ended ⌝ }
-{
-    if last {
-        if ended < n {
-            return ended + 1;
-        }
-        return n;
-    }
-    ended
+    )
 }
 
 // Before the first record.
-pub fn begin(frame: u64) -> SoFar
+fn begin(frame: u64) -> SoFar
     ensures { λ s. ⌜ s ≡ begun frame ⌝ }
 {
     SoFar {
         frame,
-        prev: Ends {
-            some: false,
-            frame: 0,
-            time: 0,
-            capture: 0,
-        },
+        prev: rules::no_end(),
         ended: 0,
         n: 0,
-        stopped: false,
-        number: 0,
-        at: 0,
+        fine: true,
     }
 }
 
-// One record more, which is only counted.
-fn counted(s: SoFar) -> SoFar
-    requires { ⌜ s .n ≤ maxSegments ⌝ }
-    ensures { λ t. ⌜ t ≡ countedOf s ⌝ }
+// How many have ended with one more record, or without.
+fn one_more(ended: usize, last: bool) -> usize
+    ensures { λ r. ⌜ r ≡ cond last ((ended + 1) % 2 ^ 64) ended ⌝ }
 {
-    let prev = s.prev;
-    SoFar {
-        frame: s.frame,
-        prev,
-        ended: s.ended,
-        n: s.n + 1,
-        stopped: true,
-        number: s.number,
-        at: s.at,
+    if last {
+        return std::num::wrapping_add_usize(ended, 1);
     }
+    ended
 }
 
-// One record more, by what its tests say.
-fn turned(s: SoFar, turn: Turn) -> SoFar
-    requires { ⌜ s .n ≤ maxSegments ⌝ }
-    ensures { λ t. ⌜ t ≡ turnedOf s turn ⌝ }
+// One record more. Which number refuses it isn't asked, so that the loop is short; `refused` asks.
+fn next(sources: &[u64], s: SoFar, r: TrimSegment) -> SoFar
+    ensures { λ t. ⌜ t ≡ nextOf (sourcesOf (now (sources .entry))) s r ⌝ }
 {
-    let n = s.n + 1;
+    if !s.fine {
+        return s;
+    }
     let prev = s.prev;
-    match turn {
-        Turn::Stop(number) => SoFar {
+    let to = pass_record(sources, prev, r);
+    if !to.some {
+        return SoFar {
             frame: s.frame,
             prev,
             ended: s.ended,
-            n,
-            stopped: true,
-            number,
-            at: s.n,
-        },
-        Turn::Go(to) => SoFar {
-            frame: s.frame,
-            prev: to,
-            ended: one_more(s.ended, n, to.frame <= s.frame),
-            n,
-            stopped: false,
-            number: 0,
-            at: 0,
-        },
+            n: s.n,
+            fine: false,
+        };
+    }
+    SoFar {
+        frame: s.frame,
+        prev: to,
+        ended: one_more(s.ended, to.frame <= s.frame),
+        n: std::num::wrapping_add_usize(s.n, 1),
+        fine: true,
     }
 }
 
-// One record more.
-pub fn next(sources: &[u64], s: SoFar, r: TrimSegment) -> SoFar
-    ensures { λ t. ⌜ t ≡ nextOf (sourcesOf (now (sources .entry))) s r ⌝ }
+// After all records.
+fn walk(sources: &[u64], records: &[TrimSegment], frame: u64) -> SoFar
+    ensures { λ s. ⌜ s ≡ after (sourcesOf (now (sources .entry))) frame (now (records .entry)) (length (now (records .entry))) ⌝ }
 {
-    if s.n > MAX_SEGMENTS {
-        return s;
+    let mut so_far = begin(frame);
+    let mut k = 0;
+    while k < records.len() {
+        so_far = next(sources, so_far, records[k]);
+        k += 1;
     }
-    if s.stopped {
-        return counted(s);
+    so_far
+}
+
+// The record at which the walk over n of them stopped; n where it didn't.
+fn stopped_at(s: SoFar, n: usize) -> usize
+    ensures { λ r. ⌜ r ≡ stoppedAt s n ⌝ }
+{
+    if s.fine {
+        return n;
     }
-    let prev = s.prev;
-    turned(s, turn_of_record(sources, prev, r))
+    s.n
+}
+
+// 1 to 8, where n records are lent.
+fn front_of(sources: &[u64], text: &[u8], n: usize, log: bool) -> Refusal
+    ensures { λ r. ⌜ r ≡ frontOf (now (sources .entry)) (now (text .entry)) n log ⌝ }
+{
+    let bad = (sources.len() % SOURCE != 0) | table::bad_sources(sources, text.len() as u64);
+    table::front(sources, log, text, bad, n)
+}
+
+// 9 to 17 of a record, after one that ends at prev: a number, or 0.
+fn number_of(sources: &[u64], prev: Ends, r: TrimSegment) -> u64
+    ensures { λ n. ⌜ n ≡ numberOf (turnOf (sourcesOf (now (sources .entry))) prev (segmentOf r)) ⌝ }
+{
+    let w = words_of(r);
+    let from = w.source as usize;
+    if from >= sources.len() / SOURCE {
+        return 9;
+    }
+    let s = table::source_at(sources, from);
+    match rules::turn_of(s, prev, w, times_of(r)) {
+        Turn::Stop(n) => n,
+        Turn::Go(_) => 0,
+    }
+}
+
+// What the lookup answers where the walk over n records stopped at r: 1 to 8 first, then what refuses r.
+fn refused(sources: &[u64], text: &[u8], s: SoFar, r: TrimSegment, n: usize, log: bool) -> Lookup
+    ensures { λ a. ⌜ a ≡ refusedOf (now (sources .entry)) (now (text .entry)) s r n log ⌝ }
+{
+    match front_of(sources, text, n, log) {
+        Refusal::At(first, i) => Lookup::NoIndex(first, i),
+        Refusal::Never => {
+            let prev = s.prev;
+            Lookup::NoIndex(number_of(sources, prev, r), s.n)
+        }
+    }
 }
 
 // The smaller of a and the number before n.
@@ -237,31 +247,17 @@ fn at_most_last(a: usize, n: usize) -> usize
     n - 1
 }
 
-// What the lookup answers, where 1 to 8 give `front`: then the first record refused, then the segment.
-fn decide(front: Refusal, stopped: bool, number: u64, at: usize, ended: usize, n: usize) -> Lookup
-    ensures { λ r. ⌜ r ≡ decided front stopped number at ended n ⌝ }
+// What the lookup answers where the walk went over all n records: 1 to 8 first, then the segment.
+fn answer(sources: &[u64], text: &[u8], s: SoFar, n: usize, log: bool) -> Lookup
+    ensures { λ r. ⌜ r ≡ answerOf (now (sources .entry)) (now (text .entry)) s n log ⌝ }
 {
-    match front {
+    if table::fine_front(sources, log, text, n) {
+        return Lookup::Index(at_most_last(s.ended, n));
+    }
+    match front_of(sources, text, n, log) {
         Refusal::At(first, i) => Lookup::NoIndex(first, i),
-        Refusal::Never => {
-            if stopped {
-                return Lookup::NoIndex(number, at);
-            }
-            Lookup::Index(at_most_last(ended, n))
-        }
+        Refusal::Never => Lookup::Index(at_most_last(s.ended, n)),
     }
-}
-
-// What the lookup answers after all records.
-pub fn answer(sources: &[u64], text: &[u8], s: SoFar, log: bool) -> Lookup
-    ensures { λ r. ⌜ r ≡ answerOf (now (sources .entry)) (now (text .entry)) s log ⌝ }
-{
-    if table::fine_front(sources, log, text, s.n) {
-        return decide(Refusal::Never, s.stopped, s.number, s.at, s.ended, s.n);
-    }
-    let bad = (sources.len() % SOURCE != 0) | table::bad_sources(sources, text.len() as u64);
-    let front = table::front(sources, log, text, bad, s.n);
-    decide(front, s.stopped, s.number, s.at, s.ended, s.n)
 }
 
 // The segment that has a frame; past the last frame, the last segment. The Rust's segment_of_frame, over its own records.
@@ -274,11 +270,10 @@ pub fn segment_of_frame_records(
 ) -> Lookup
     ensures { λ r. ⌜ r ≡ locate (now (sources .entry)) (now (text .entry)) (now (records .entry)) log frame ⌝ }
 {
-    let mut so_far = begin(frame);
-    let mut k = 0;
-    while k < records.len() {
-        so_far = next(sources, so_far, records[k]);
-        k += 1;
+    let so_far = walk(sources, records, frame);
+    let i = stopped_at(so_far, records.len());
+    if i < records.len() {
+        return refused(sources, text, so_far, records[i], records.len(), log);
     }
-    answer(sources, text, so_far, log)
+    answer(sources, text, so_far, records.len(), log)
 }

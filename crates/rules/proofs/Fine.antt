@@ -2,14 +2,14 @@
 use Prim.Native.Nat.{ℕ, _+_, _^_, _≤_, _<_}
 use native.Mathlib.Omega.{arith}
 use mathlib.Core.Path.{_≡_, sym, ap, _∙_}
-use mathlib.Core.Bool.{Bool, true, false, not, _||_}
+use mathlib.Core.Bool.{Bool, true, false, not, _||_, _&&_}
 use mathlib.Core.List.{List}
-use lib.Dec.{eqb, leb}
+use lib.Dec.{eqb, leb, ltb}
 use lib.ListN.{length}
 use lib.IntN.{ℤ, pos, negsuc, natAbs}
 use mir.Syntax.{w64}
 use mir.Val.{SFits}
-use borrow.Author.Tests.{eq-eqb, ne-eqb, eqb-true, lt-leb, not-true, not-false}
+use borrow.Author.Tests.{eq-eqb, ne-eqb, eqb-true, eqb-false, ltb-false, leb-false, lt-leb, not-true, not-false}
 use Rattle.choice.specs.declared.Refusal.the-variants.{Never}
 use Rattle.choice.specs.Choice.{past, maxU64, when}
 use Rattle.choice.specs.Records.{firstRefused, orRefused}
@@ -21,8 +21,8 @@ use Rattle.rules.specs.declared.Ends.{Ends}
 use Rattle.rules.specs.Limits.{maxI64}
 use Rattle.rules.specs.Records.{Stamps}
 use Rattle.rules.specs.Rules.{badSource, sourceRefusal, overLimit, frontRefusal, negative, badShift, stampTimes, start, endsOf}
-use Rattle.rules.specs.Steps.{FineFrames, FineShift, outOfTime, Passes, FineSource}
-use Rattle.rules.proofs.Turns.{judged-fine}
+use Rattle.rules.specs.Steps.{FineFrames, FineShift, outOfTime, Passes, Passing, FineSource}
+use Rattle.rules.proofs.Turns.{judged-fine, Tested, judged-tested}
 
 pub fine-frames : (frames first count out before : ℕ) → (count ≡ 0 → ⊥) → out ≡ before → out + count ≤ maxU64 → first + count ≤ maxU64 → first + count ≤ frames
     → FineFrames frames first count out before
@@ -35,6 +35,17 @@ fine-frames frames first count out before a b c d e = record {
 
 pub frames-fit : {frames first count out before : ℕ} → FineFrames frames first count out before → out + count ≤ maxU64
 frames-fit {frames} {first} {count} {out} f = past-not out count maxU64 (or-false (past out count maxU64) (past first count maxU64) (f .fits) .0)
+
+-- what each of the tests would find, where one doesn't hold
+module _ {frames first count out before : ℕ} (f : FineFrames frames first count out before) where
+  pub some-frames : count ≡ 0 → ⊥
+  some-frames e = tf (sym (eq-eqb count 0 e) ∙ f .some)
+
+  pub chained : out ≡ before
+  chained = eqb-true out before (not-false (eqb out before) (f .next))
+
+  pub in-source : first + count ≤ frames
+  in-source = past-not first count frames (f .inside)
 
 -- a number that isn't negative is at most 2^63 - 1
 pub short : (x : ℤ) → SFits w64 x → negative x ≡ false → natAbs x ≤ maxI64
@@ -51,6 +62,42 @@ module _ (kind modulus flag : ℕ) (shift : ℤ) where
 
   pub shift-within : flag ≡ 1 → kind ≡ 2 → negative shift ≡ false → natAbs shift < modulus → FineShift kind modulus flag shift
   shift-within f e n l = record { flagged = rw f; within = rw (e, f, n, lt-leb modulus (natAbs shift) l) }
+
+-- and what each of their tests would find
+module _ (kind modulus flag : ℕ) (shift : ℤ) (f : FineShift kind modulus flag shift) where
+  few : flag ≤ 1
+  few = ltb-false 1 flag (f .flagged)
+
+  abbrev clocks : Bool
+  clocks = (eqb kind 0 && eqb flag 1) || (not (eqb kind 0) && eqb flag 0)
+
+  abbrev outside : Bool
+  outside = eqb kind 2 && (negative shift || leb modulus (natAbs shift))
+
+  parts : (clocks ≡ false) × (outside ≡ false)
+  parts = or-false clocks outside (f .within)
+
+  pub no-clock : kind ≡ 0 → eqb flag 0 ≡ true
+  no-clock e =
+      let x : eqb flag 1 ≡ false = rw e at (or-false (eqb kind 0 && eqb flag 1) (not (eqb kind 0) && eqb flag 0) (parts .0) .0) in
+      let n = eqb-false flag 1 x in
+      eq-eqb flag 0 (omega (arith, few))
+
+  pub clocked : (kind ≡ 0 → ⊥) → flag ≡ 1
+  clocked h =
+      let x : eqb flag 0 ≡ false = rw (ne-eqb kind 0 h) at (or-false (eqb kind 0 && eqb flag 1) (not (eqb kind 0) && eqb flag 0) (parts .0) .1) in
+      let n = eqb-false flag 0 x in
+      omega (arith, few)
+
+  module _ (e : kind ≡ 2) where
+    both : (negative shift ≡ false) × (leb modulus (natAbs shift) ≡ false)
+    both = or-false (negative shift) (leb modulus (natAbs shift)) (rw e at (parts .1))
+
+    pub from-zero : negative shift ≡ false
+    from-zero = both .0
+
+    pub below : natAbs shift < modulus
+    below = leb-false modulus (natAbs shift) (both .1)
 
 -- what has no end isn't passed
 pub not-passed : {X : Type 0} {r : Ends} → r ≡ start → r .some ≡ true → X
@@ -69,9 +116,14 @@ passes s prev w e to h k n ea eb ec ed ef eg l r = record {
   end = r ∙ (λ i. record { some = true; frame = w .out + w .count; time = eb i + ec i; capture = ef i + eg i });
 }
 
+-- a segment that has no end, for one of its tests
+pub stops : (s : Source) (prev : Ends) (w : Words) (e : Stamps) {to : Ends} → to ≡ start
+    → (ltb 1 (w .flag) ≡ false → Tested s prev w (stampTimes e) → ⊥) → Passing s prev w e to
+stops s prev w e n h = (not-passed n, λ _. record { refused = λ f z. h f (judged-tested s prev w (stampTimes e) z); end = n })
+
 -- what is equal passes alike
-pub passes-as : {s s′ : Source} {prev : Ends} {w w′ : Words} {e e′ : Stamps} {to : Ends} → s ≡ s′ → w ≡ w′ → e ≡ e′ → Passes s prev w e to → Passes s′ prev w′ e′ to
-passes-as a b c p = rw (a, b, c) at p
+pub passing-as : {s s′ : Source} {prev : Ends} {w w′ : Words} {e e′ : Stamps} {to : Ends} → s ≡ s′ → w ≡ w′ → e ≡ e′ → Passing s prev w e to → Passing s′ prev w′ e′ to
+passing-as a b c p = rw (a, b, c) at p
 
 -- a source without creation time and clock
 pub plain-source : (log : Bool) (text : List ℕ) (s : Source) → not (eqb (s .dated) 0) || not (eqb (s .kind) 0) ≡ false → log ≡ false

@@ -15,7 +15,7 @@ use Rattle.rules.specs.declared.Ends.{Ends}
 use Rattle.rules.specs.declared.Turn.the-variants.{Stop, Go}
 use Rattle.rules.specs.Limits.{maxI64}
 use Rattle.rules.specs.Rules.{tooLate, apart, badShift, judged}
-use Rattle.rules.specs.Steps.{stopOr, FineFrames}
+use Rattle.rules.specs.Steps.{stopOr, FineFrames, outOfTime}
 
 pub stop-at : {n m : ℕ} (next : Ends) → n ≡ m → (n ≡ 0 → ⊥) → Stop n ≡ stopOr m next
 unfolding stopOr
@@ -60,6 +60,31 @@ judged-fit s prev w t e =
       frame = past-not _ _ _ (or-false (past (w .out) (w .count) maxU64) (past (w .first) (w .count) maxU64) (c11 .0) .0);
       time = past-not _ _ _ (late .0);
       capture = past-not _ _ _ (late .1);
+    }
+
+-- and its tests, one by one
+pub record Tested (s : Source) (prev : Ends) (w : Words) (t : SixTimes) : Type 0 where
+  pub frames : FineFrames (s .frames) (w .first) (w .count) (w .out) (prev .frame)
+  pub positive : t .negative ≡ false
+  pub times : outOfTime prev (t .srcstart) (t .outstart) (t .duration) (t .srccap) (t .outcap) (t .capdur) ≡ false
+  pub shift : badShift (s .kind) (s .modulus) (w .flag) (t .back) (t .shift) ≡ false
+
+pub judged-tested : (s : Source) (prev : Ends) (w : Words) (t : SixTimes) → judged s prev w t ≡ 0 → Tested s prev w t
+unfolding judged
+judged-tested s prev w t e =
+    let c10 = skip _ _ _ e in
+    let c11 = skip _ _ _ (c10 .1) in
+    let c12 = skip _ _ _ (c11 .1) in
+    let c13 = skip _ _ _ (c12 .1) in
+    let c14 = skip _ _ _ (c13 .1) in
+    let c15 = skip _ _ _ (c14 .1) in
+    let c16 = skip _ _ _ (c15 .1) in
+    let out = skip _ _ _ (c16 .1) in
+    record {
+      frames = record { some = c10 .0; fits = c11 .0; inside = c12 .0; next = c15 .0 };
+      positive = c13 .0;
+      times = λ i. c16 .0 i || (c14 .0 i || out .0 i);
+      shift = skip _ _ _ (out .1) .0;
     }
 
 -- none of 10 to 17 refuses

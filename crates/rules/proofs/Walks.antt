@@ -4,6 +4,7 @@ use native.Mathlib.Nat.{sub-zero, zero-add}
 use native.Mathlib.Numerals.{add-one}
 use native.Mathlib.Omega.{arith}
 use mathlib.Core.Path.{_≡_, refl, sym, ap, _∙_}
+use mathlib.Core.Bool.{false}
 use mathlib.Core.List.{List}
 use lib.ListN.{length}
 use lib.Dec.{eqb}
@@ -11,6 +12,7 @@ use borrow.Author.Tests.{eq-eqb, ne-eqb, le-leb, lt-leb, leb-false}
 use Rattle.choice.specs.declared.Refusal.the-variants.{Never, At}
 use Rattle.choice.specs.Choice.{when}
 use Rattle.choice.specs.Records.{run, orRefused}
+use Rattle.choice.proofs.Tests.{decide}
 use Rattle.choice.proofs.Chains.{when-zero}
 use Rattle.choice.proofs.Runs.{run-cons, run-nil, length-run, getD-run}
 use Rattle.rules.specs.declared.Source.{Source}
@@ -19,7 +21,7 @@ use Rattle.rules.specs.declared.Turn.the-variants.{Stop, Go}
 use Rattle.rules.specs.declared.Checked.the-variants.{Frames, Refused}
 use Rattle.rules.specs.Records.{Segment, Table, noSource, sourceOf, frameTotal}
 use Rattle.rules.specs.Rules.{badSegment, stampTimes, judged, segmentRefusal, start, endsOf, ends, segmentsFrom, malformed, frontRefusal, refusal, checkedOf, checkOf}
-use Rattle.rules.specs.Steps.{stopOr, turned, turnOf, walked, Passes, PassesOf}
+use Rattle.rules.specs.Steps.{stopOr, turned, turnOf, walked, Passes, Passing, PassesOf, passedOf}
 use Rattle.rules.proofs.Turns.{judged-fit}
 
 -- a turn's answer says whether a refusal was found, and where the walk goes on
@@ -32,6 +34,12 @@ turn-stop : (m n : ℕ) (x : Ends) → stopOr m x ≡ Stop n → (m ≡ n) × (m
 unfolding stopOr
 turn-stop zero n x e = absurd (let z : _≡_ {A = ℕ} 0 1 = cc in omega arith)
 turn-stop (suc m) n x e = (cc, λ z. omega arith)
+
+-- where a turn stops it has no end
+no-end : (n : ℕ) (x : Ends) → (n ≡ 0 → ⊥) → start ≡ passedOf (stopOr n x)
+unfolding passedOf stopOr
+no-end zero x h = absurd (h refl)
+no-end (suc n) x h = refl
 
 -- no refusal of 9 to 17: the source is there, and 10 to 17 don't refuse
 pub not-refused : (srcs : List Source) (prev : Ends) (e : Segment) → segmentRefusal srcs prev e ≡ 0
@@ -117,6 +125,14 @@ module _ (g : ℕ → Source) (n : ℕ) (prev : Ends) (e : Segment) where
   pub turn-some : e .words .source < n → turned (g (e .words .source)) prev (e .words) (stampTimes (e .stamps)) ≡ turnOf (run g 0 n) prev e
   unfolding turnOf turned segmentRefusal ends when
   turn-some h = rw (length-run g 0 n, lt-leb n (e .words .source) h, getD-run g 0 n (e .words .source) noSource h, zero-add)
+
+  -- what the walk that only asks whether nothing refuses finds of a segment whose flag 1 doesn't refuse
+  pub passed : {to : Ends} → e .words .source < n → badSegment e ≡ false → Passing (g (e .words .source)) prev (e .words) (e .stamps) to → to ≡ passedOf (turnOf (run g 0 n) prev e)
+  unfolding passedOf badSegment turned
+  passed {to} h f p =
+      decide (to .some)
+      (λ z. sym (ap passedOf (turn-on (run g 0 n) prev e (passes-of h (p .0 z)))))
+      (λ z. let q = p .1 z in q .end ∙ no-end (judged (g (e .words .source)) prev (e .words) (stampTimes (e .stamps))) _ (q .refused f) ∙ ap passedOf (turn-some h))
 
 -- 1 to 8 decide whether the segments are walked
 module _ (t : Table) where

@@ -1,7 +1,7 @@
 -- Words of the contracts inside this crate and of a layout's loop: parts of the chain of Rules, and a segment's turn.
 use Prim.Native.Nat.{ℕ, zero, suc, _≤_, _<_}
 use mathlib.Core.Path.{_≡_}
-use mathlib.Core.Bool.{Bool, false, not, _||_}
+use mathlib.Core.Bool.{Bool, true, false, not, _||_}
 use mathlib.Core.List.{List}
 use lib.Dec.{ltb, leb, eqb}
 use lib.IntN.{ℤ, natAbs}
@@ -84,7 +84,21 @@ pub record Passes (s : Source) (prev : Ends) (w : Words) (e : Stamps) (to : Ends
   pub none : judged s prev w (stampTimes e) ≡ 0
   pub end : to ≡ endsOf w (stampTimes e)
 
--- the same of a segment of one of the sources, with 9
+-- 1 or one of 10 to 17 holds of it, and it has no end
+pub record Stops (s : Source) (prev : Ends) (w : Words) (e : Stamps) (to : Ends) : Type 0 where
+  pub refused : ltb 1 (w .flag) ≡ false → judged s prev w (stampTimes e) ≡ 0 → ⊥
+  pub end : to ≡ start
+
+-- one or the other, by whether it has an end
+abbrev pub Passing : Source → Ends → Words → Stamps → Ends → Type 0
+Passing s prev w e to = (to .some ≡ true → Passes s prev w e to) × (to .some ≡ false → Stops s prev w e to)
+
+-- where a segment ends that isn't refused, or no end
+unfoldable pub passedOf : Turn → Ends
+passedOf (Stop n) = start
+passedOf (Go to) = to
+
+-- neither 1 nor any of 9 to 17 holds of a segment of one of the sources
 pub record PassesOf (srcs : List Source) (prev : Ends) (e : Segment) (to : Ends) : Type 0 where
   pub flagged : badSegment e ≡ false
   pub none : segmentRefusal srcs prev e ≡ 0

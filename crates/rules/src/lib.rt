@@ -2,11 +2,12 @@
 use choice::MAX_U64;
 ghost use mathlib.Core.Path.{_≡_};
 ghost use mathlib.Core.Bool.{true, false, not, _||_};
+ghost use mathlib.Core.Logic.{_↔_};
 ghost use Prim.Native.Nat.{_≤_};
 ghost use lib.IntN.{natAbs};
 ghost use Rattle.rules.specs.Limits.{maxI64};
 ghost use Rattle.rules.specs.Rules.{badWords, noRate, badDate, badClock, sourceRefusal, negative, tooLate, apart, badShift, overLimit, judged, start};
-ghost use Rattle.rules.specs.Steps.{framesOr, timesOr, turned, FineFrames, FineShift, outOfTime, sevenStamps, Passes};
+ghost use Rattle.rules.specs.Steps.{framesOr, timesOr, turned, FineFrames, FineShift, outOfTime, sevenStamps, Passing};
 
 // Limits of 2.
 const MAX_SOURCES: usize = 64;
@@ -301,7 +302,7 @@ fn any_negative(a: i64, b: i64, c: i64, d: i64, e: i64, f: i64) -> bool
 
 // Whether none of 10, 11, 12 and 15 refuses a segment after one that ends at `before`. Which would be first isn't asked, so that each sum is tested once.
 fn fine_frames(frames: u64, first: u64, count: u64, out: u64, before: u64) -> bool
-    ensures { λ r. ⌜ (r ≡ true → FineFrames frames first count out before) ⌝ }
+    ensures { λ r. ⌜ (r ≡ true) ↔ FineFrames frames first count out before ⌝ }
 {
     if count == 0 {
         return false;
@@ -320,7 +321,7 @@ fn fine_frames(frames: u64, first: u64, count: u64, out: u64, before: u64) -> bo
 
 // Whether neither 1 refuses a segment's flag nor 17 its shift.
 fn fine_shift(kind: u64, modulus: u64, flag: u64, shift: i64) -> bool
-    ensures { λ r. ⌜ (r ≡ true → FineShift kind modulus flag shift) ⌝ }
+    ensures { λ r. ⌜ (r ≡ true) ↔ FineShift kind modulus flag shift ⌝ }
 {
     if kind == 0 {
         return flag == 0;
@@ -364,7 +365,7 @@ fn fine_times(
     !(gap | (a | b))
 }
 
-// Passes a segment of the source s, after one that ends at prev: where it ends, or no end where 1 or one of 10 to 17 may refuse it. Which one does isn't asked,
+// Passes a segment of the source s, after one that ends at prev: where it ends, or no end where 1 or one of 10 to 17 refuses it. Which one does isn't asked,
 // so that few tests are needed: most segments pass.
 pub fn pass(
     s: Source,
@@ -378,7 +379,7 @@ pub fn pass(
     capdur: i64,
     shift: i64,
 ) -> Ends
-    ensures { λ r. ⌜ (r .some ≡ true → Passes s prev w (sevenStamps srcstart outstart duration srccap outcap capdur shift) r) ⌝ }
+    ensures { λ r. ⌜ Passing s prev w (sevenStamps srcstart outstart duration srccap outcap capdur shift) r ⌝ }
 {
     if !fine_frames(s.frames, w.first, w.count, w.out, prev.frame) {
         return no_end();

@@ -1,14 +1,15 @@
 -- `records::begin` meets its contract. Assumes nothing.
 use mathlib.Core.Path.{refl}
-use Rattle.rules.specs.Rules.{start}
+use borrow.Author.Needs.{needs}
 use Rattle.records.specs.Steps.{begun}
 use Rattle.records.proofs.begin.Statement.{statement}
 use Rattle.records.proofs.begin.Tie as tie
 
 returns : tie.Need-returns
-unfolding begun start
-returns c = refl
+unfolding begun
+returns c = rw (c .no-end .ensures) refl
 
 pub begin-spec : {M : Type 1} → statement M
-begin-spec = tie.close (tie.spec
-    returns)
+begin-spec =
+    tie.close (tie.spec
+    (λ c κs. search needs) returns)

@@ -5,7 +5,7 @@ use borrow.Author.Needs.{needs, sfits-of}
 use Rattle.signed.proofs.Bits.{reads}
 use Rattle.rules.specs.declared.Words.{Words}
 use Rattle.rules.specs.Steps.{sevenStamps}
-use Rattle.rules.proofs.Fine.{not-passed, passes-as}
+use Rattle.rules.proofs.Fine.{not-passed, passing-as}
 use Rattle.rules.proofs.Walks.{passes-of}
 use Rattle.table.specs.Layout.{sourceAt, stampsAt, sourcesOf}
 use Rattle.table.proofs.pass_at.Statement.{statement}
@@ -21,7 +21,7 @@ returns-2 c = λ h.
     let w = c .before .before .before .before .before .before .before .before .before .before .words-at .ensures in
     let e = stampsAt (now (a .t)) (a .k) in
     passes-of _ _ _ _ (omega (arith, ap (λ (w : Words). w .source) w))
-    (passes-as (c .before .before .before .before .before .before .before .before .source-at .ensures ∙ ap (λ (w : Words). sourceAt (now (a .sources)) (w .source)) w) w
+    (passing-as (c .before .before .before .before .before .before .before .before .source-at .ensures ∙ ap (λ (w : Words). sourceAt (now (a .sources)) (w .source)) w) w
     (λ i. sevenStamps
     (reads {z = e .srcstart} (sfits-of (c .before .before .before .before .before .before .before .pass-arg .given)) i)
     (reads {z = e .outstart} (sfits-of (c .before .before .before .before .before .before .pass-arg2 .given)) i)
@@ -30,7 +30,7 @@ returns-2 c = λ h.
     (reads {z = e .outcap} (sfits-of (c .before .before .before .pass-arg5 .given)) i)
     (reads {z = e .capdur} (sfits-of (c .before .before .pass-arg6 .given)) i)
     (reads {z = e .shift} (sfits-of (c .before .pass-arg7 .given)) i))
-    (c .pass .ensures h))
+    (c .pass .ensures) .0 h)
 
 pub pass-at-spec : {M : Type 1} → statement M
 pass-at-spec =

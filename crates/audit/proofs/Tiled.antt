@@ -24,7 +24,6 @@ use Rattle.rules.specs.declared.Checked.the-variants.{Frames}
 use Rattle.rules.specs.declared.Lookup.the-variants.{Index}
 use Rattle.rules.specs.Records.{Table, noSegment, segment}
 use Rattle.rules.specs.Lookups.{ended, overBy, lookedUp, segmentOfFrame}
-use Rattle.rules.specs.Records as records
 use Rattle.rules.specs.Rules.{checkOf}
 use Rattle.rules.proofs.Answers.{then-rest}
 use Rattle.rules.proofs.Accepted.{accepted}
@@ -34,7 +33,6 @@ use Rattle.table_rows.specs.declared.Filled.the-variants.{Rows}
 use Rattle.table_rows.specs.Rows.{rowOf, rowsOf, rowsRefusal, filled, Rowed}
 use Rattle.table_rows.proofs.Mapped.{mapped}
 use Rattle.maps.specs.declared.Traced.{Traced}
-use Rattle.maps.specs.declared.Traced.the-variants as traced
 use Rattle.maps.specs.declared.Mapped.the-variants as answers
 use Rattle.maps.specs.Answers.{tracedOf, originRefusal, Cut, Trace}
 use Rattle.maps.specs.Laws.{LentMap}

@@ -1,10 +1,10 @@
 -- The refusals of the cuts: what it says that a range, all ranges, or the whole chain isn't refused, and what each test of the chain gives. Assumes nothing.
-use Prim.Native.Nat.{ℕ, _+_, _*_, _/_, _%_, _≤_, _<_}
+use Prim.Native.Nat.{ℕ, _*_, _/_, _%_, _≤_, _<_}
 use native.Mathlib.Nat.{zero-add}
 use native.Mathlib.Omega.{arith}
 use mathlib.Core.Bool.{Bool, true, false, not, _&&_}
 use mathlib.Core.List.{List}
-use mathlib.Core.Path.{_≡_, refl, sym, _∙_, ap, subst}
+use mathlib.Core.Path.{_≡_, sym, _∙_, ap, subst}
 use lib.IntN.{ℤ}
 use lib.Dec.{ltb, leb, eqb}
 use lib.ListN.{length, getD, length-map}

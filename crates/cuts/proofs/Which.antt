@@ -1,7 +1,6 @@
 -- Which refusal the cuts give. Assumes nothing.
 use Prim.Native.Nat.{ℕ, _/_, _%_, _≤_, _<_}
 use native.Mathlib.Omega.{arith}
-use mathlib.Core.Bool.{true}
 use mathlib.Core.List.{List}
 use mathlib.Core.Logic.{⊎-elim}
 use mathlib.Core.Path.{_≡_, refl, sym, _∙_, ap}
@@ -12,14 +11,12 @@ use borrow.Author.Tests.{leb-true}
 use Rattle.choice.specs.declared.Refusal.{Refusal}
 use Rattle.choice.specs.declared.Refusal.the-variants.{Never, At}
 use Rattle.choice.proofs.Tests.{decide, le-or-lt}
-use Rattle.rows.specs.declared.Row.{Row}
 use Rattle.rows.specs.Rows.{total, cut}
 use Rattle.rows.specs.Lent.{rows}
 use Rattle.maps.specs.declared.Mapped.{Mapped}
 use Rattle.maps.specs.declared.Mapped.the-variants.{Refused}
 use Rattle.maps.specs.Answers.{mostRows, badRange, rowsOver, mapRefusal, mappedOf, Cut}
 use Rattle.maps.specs.Laws.{LentMap}
-use Rattle.maps.specs.Steps.{Sound}
 use Rattle.maps.proofs.Chains.{sound, sound-map, cut-malformed, cut-rows-in}
 use Rattle.cuts.specs.Answers.{rangeAt, rangesOf, cutsOf, concat, cutsRefusal, Cuts}
 use Rattle.cuts.specs.Laws.{InMap, Accepted}

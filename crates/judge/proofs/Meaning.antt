@@ -1,20 +1,19 @@
 -- A table is accepted for a video exactly where it fits it, and for a recording exactly where it is recorded. Nothing else meets the promises. Assumes nothing.
 use mathlib.Core.Path.{_≡_, refl, sym, ap, _∙_, subst}
 use mathlib.Core.Bool.{Bool, true, false}
-use mathlib.Core.List.{List, [], _∷_}
+use mathlib.Core.List.{List}
 use mathlib.Core.Logic.{_⊎_, inl, inr, ⊎-elim, _↔_}
-use Prim.Native.Nat.{ℕ, zero, suc, _-_, _<_}
-use native.Mathlib.Nat.{not-suc-le-zero, le-of-suc-le-suc}
+use Prim.Native.Nat.{ℕ, _-_, _<_}
 use native.Mathlib.Omega.{arith}
-use borrow.Author.Tests.{eqb-true, eqb-false, eq-eqb, not-false}
+use borrow.Author.Tests.{eqb-true, eqb-false, not-false}
 use lib.Dec.{T, eqb}
 use lib.IntN.{ℤ, pos, natAbs, _+ℤ_, _-ℤ_, _*ℤ_}
-use lib.ListN.{length, getD}
+use lib.ListN.{length}
 use lib.Signed.{_≤ℤ_, leZ-yes}
 use Rattle.choice.specs.declared.Refusal.{Refusal}
-use Rattle.choice.specs.declared.Refusal.the-variants.{Never, At}
+use Rattle.choice.specs.declared.Refusal.the-variants.{Never}
 use Rattle.choice.specs.Choice.{when}
-use Rattle.choice.specs.Records.{firstRefused, orRefused}
+use Rattle.choice.specs.Records.{orRefused}
 use Rattle.choice.proofs.Tests.{decide, tf}
 use Rattle.signed.specs.declared.Held.{Held}
 use Rattle.signed.specs.declared.Held.the-variants.{Is, Outside}

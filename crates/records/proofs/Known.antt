@@ -22,7 +22,7 @@ use Rattle.rules.specs.declared.Ends.{Ends}
 use Rattle.rules.specs.declared.Turn.{Turn}
 use Rattle.rules.specs.declared.Turn.the-variants.{Stop, Go}
 use Rattle.rules.specs.declared.Lookup.{Lookup}
-use Rattle.rules.specs.declared.Lookup.the-variants.{Index, NoIndex}
+use Rattle.rules.specs.declared.Lookup.the-variants.{Index}
 use Rattle.rules.specs.declared.Checked.{Checked}
 use Rattle.rules.specs.declared.Checked.the-variants.{Refused}
 use Rattle.rules.specs.Records.{Segment, Table, outEnd}

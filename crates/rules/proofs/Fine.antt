@@ -20,7 +20,7 @@ use Rattle.rules.specs.declared.Words.{Words}
 use Rattle.rules.specs.declared.Ends.{Ends}
 use Rattle.rules.specs.Limits.{maxI64}
 use Rattle.rules.specs.Records.{Stamps}
-use Rattle.rules.specs.Rules.{badSource, sourceRefusal, overLimit, frontRefusal, negative, badShift, stampTimes, start, endsOf}
+use Rattle.rules.specs.Rules.{badSource, sourceRefusal, overLimit, frontRefusal, negative, stampTimes, start, endsOf}
 use Rattle.rules.specs.Steps.{FineFrames, FineShift, outOfTime, Passes, Passing, FineSource}
 use Rattle.rules.proofs.Turns.{judged-fine, Tested, judged-tested}
 

@@ -1,5 +1,4 @@
 // Frame times: of a movie's video track, and of a MotionCam recording's timestamps.
-ghost use mathlib.Core.Path.{_≡_};
 ghost use Rattle.segment_table.specs.Written.{McrawTold, MoovTold};
 
 // The frame times of a MotionCam recording, of its frames' timestamps in nanoseconds: how many, their scale

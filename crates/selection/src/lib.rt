@@ -64,7 +64,7 @@ pub fn select(xs: &mut [i64], k: usize) -> i64
 }
 
 // Where to begin: from one element to another that lie around the wanted place in a sample, so that a value far from all others
-// costs nothing. Where these don't have it between them, two that are further apart are tried, but not the outermost.
+// costs little. Where these don't have it between them, two that are further apart are tried, but not the outermost.
 fn begin(xs: &[i64], k: usize) -> Bounds
     requires { ⌜ k < length (now xs) ⌝ }
     ensures { λ r. ⌜ BoundsHold (now (xs .entry)) k r ⌝ }
@@ -139,7 +139,7 @@ fn around(xs: &[i64], k: usize, a: i64, b: i64) -> Bounds
     r
 }
 
-// The range from a to b. Both are counted in one pass, without a branch on what is met.
+// The range from a to b. Both are counted in one pass.
 fn between(xs: &[i64], a: i64, b: i64) -> Bounds
     ensures { λ r. ⌜ BoundsCounted (now (xs .entry)) r × (r .lo ≡ a) × (r .hi ≡ b) ⌝ }
 {

@@ -4,7 +4,6 @@ use Prim.Native.Nat.{ℕ, _+_, _*_, _/_, _%_, _^_, _<_}
 use native.Mathlib.Nat.{div-add-mod', div-lt-iff-lt-mul, mod-lt}
 use native.Mathlib.Omega.{arith}
 use lib.Arith.{digits-div}
-use Rattle.wide.specs.declared.Digit.{Digit}
 use Rattle.wide.specs.Divided.{Divided}
 
 -- one step

@@ -1,4 +1,3 @@
-use borrow.Author.Needs.{needs}
 use Rattle.maps.proofs.Spans.{outs-rise, from-zero, last-holds}
 use Rattle.maps.proofs.row_of.Statement.{statement}
 use Rattle.maps.proofs.row_of.Tie as tie

@@ -1,13 +1,9 @@
 use mathlib.Core.Path.{_≡_, ap, _∙_}
-use Prim.Native.Nat.{_≤_, _<_}
 use native.Mathlib.Omega.{arith}
-use lib.ListN.{length}
 use lib.IntN.{ℤ, pos, _+ℤ_, _-ℤ_}
-use borrow.Author.Needs.{needs}
 use Rattle.signed.proofs.Bits.{back}
 use Rattle.signed.proofs.Up.{Sum, Difference}
 use Rattle.order.specs.Steps.{countLe, countLt}
-use Rattle.selection.specs.Steps.{BoundsHold}
 use Rattle.selection.proofs.Selecting.{previous, holds-below, following, holds-above}
 use Rattle.selection.proofs.around.Statement.{statement}
 use Rattle.selection.proofs.around.Tie as tie

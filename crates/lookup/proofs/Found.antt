@@ -1,5 +1,5 @@
 -- What the lookups and `continues` answer of a lent table that is refused, and of one that is accepted. Assumes nothing.
-use Prim.Native.Nat.{ℕ, suc, _+_, _-_, _*_, _/_, _≤_, _<_, min}
+use Prim.Native.Nat.{ℕ, suc, _+_, _-_, _*_, _/_, _≤_, _<_}
 use native.Mathlib.Omega.{arith}
 use mathlib.Core.Path.{_≡_, refl, sym, ap, _∙_}
 use mathlib.Core.Bool.{Bool, true, false}
@@ -19,12 +19,17 @@ use Rattle.rules.specs.Limits.{maxI64}
 use Rattle.rules.specs.Records.{Segment, outEnd, outEndUs}
 use Rattle.rules.specs.Rules.{negative, checkOf}
 use Rattle.rules.specs.Lookups.{ended, overBy, overByUs, lookedUp, segmentOfFrame, segmentOfTime, segmentRunsOn, continued, continuesAt}
-use Rattle.rules.specs.Steps.{endedBy, Ordered}
+use Rattle.rules.specs.Steps.{Ordered}
 use Rattle.rules.proofs.Search.{count-none, count-ended, ordered-same, frames-ordered, times-ordered}
-use Rattle.table.specs.Layout.{segmentAt, segmentsOf, tableOf}
+use Rattle.table.specs.Layout.{stampsAt, segmentAt, segmentsOf, tableOf}
 use Rattle.table.proofs.Lent.{length-segments}
-use Rattle.table.proofs.Asked.{segment-lent, table-length, given, inside, some}
-use Rattle.lookup.specs.Steps.{endAt, endUsAt, Searchable, indexIn}
+use Rattle.table.proofs.Asked.{segment-lent, table-length, given, inside, lengths, some}
+use Rattle.lookup.specs.Steps.{endAt, Searchable, indexIn, startUsAt, StartsRise, LastStarted}
+use Rattle.lookup.proofs.Last.{begin-in-order, looked-up}
+
+-- the end time of segment k, of a table that is accepted: no time is negative
+abbrev endUsAt : List ℤ → ℕ → ℕ
+endUsAt t k = natAbs (stampsAt t k .outstart) + natAbs (stampsAt t k .duration)
 
 module _ (s u : List ℕ) (t : List ℤ) (log : Bool) (text : List ℕ) where
   -- the number of segments that have ended, in the table and in its words
@@ -54,7 +59,7 @@ module _ (s u : List ℕ) (t : List ℤ) (log : Bool) (text : List ℕ) where
         ordered-same (endAt u) (λ k h. ap outEnd (segment-lent s u t log text k h))
         (rw (table-length s u t log text) at (frames-ordered (given s u t log text e)))
 
-    pub times : Ordered (endUsAt t) (length u / 5) maxI64
+    times : Ordered (endUsAt t) (length u / 5) maxI64
     times =
         ordered-same (endUsAt t) (λ k h. ap (λ (x : Segment). natAbs (x .stamps .outstart) + natAbs (x .stamps .duration)) (segment-lent s u t log text k h))
         (rw (table-length s u t log text) at (times-ordered (given s u t log text e)))
@@ -100,15 +105,41 @@ module _ (s u : List ℕ) (t : List ℤ) (log : Bool) (text : List ℕ) where
         rw (e, count-none (overByUs time) (segmentAt u t) (length u / 5) (λ k b. ap (λ (z : ℤ). leZ z time) (end-us k b) ∙ over-not time h (endUsAt t k)))
         (ap Index (omega arith))
 
-    pub time-index : (time : ℤ) → negative time ≡ false
-        → Index (min (endedBy (endUsAt t) (length u / 5) (natAbs time)) (length u / 5 - 1)) ≡ segmentOfTime (tableOf s u t log text) time
+    at-start : (k : ℕ) → getD t (7 * k + 1) (pos 0) ≡ segmentAt u t k .stamps .outstart
+    at-start k = let z : 7 * k + 1 ≡ k * 7 + 1 = omega arith in ap (λ (j : ℕ). getD t j (pos 0)) z
+
+    starts : (k : ℕ) → startUsAt t k ≤ endUsAt t k
+    starts k = omega (arith, ap natAbs (at-start k))
+
+    starts-chained : (k : ℕ) → k + 1 < length u / 5 → startUsAt t (k + 1) ≡ endUsAt t k
+    starts-chained k h =
+        let l : suc k < length u / 5 = omega arith in
+        let f = given s u t log text e .follows k (rw (table-length s u t log text) l) .time in
+        let z : k + 1 ≡ suc k = omega arith in
+        ap (startUsAt t) z ∙ ap natAbs (at-start (suc k) ∙ ap (λ (x : Segment). x .stamps .outstart) (sym (segment-lent s u t log text (suc k) l)) ∙ f ∙ ap outEndUs (segment-lent s u t log text k (omega arith)) ∙ end-us k (omega arith))
+
+    unsigned : (z : ℤ) → z ≡ pos (natAbs z) → negative z ≡ false
+    unsigned z h = rw h (le-ltb (natAbs z) 0 (omega arith))
+
+    pub starts-rise : StartsRise t (length u / 5)
+    starts-rise = record {
+      some = some s u t log text e;
+      sizes = omega (arith, lengths s u t log text e .agree);
+      plain = λ k h.
+          ap negative (at-start k) ∙ unsigned _ (rw (segment-lent s u t log text k h) at (given s u t log text e .segments k (inside s u t log text e k h) .out-time .start));
+      rising = begin-in-order (startUsAt t) (endUsAt t) times starts-chained starts;
+    }
+
+    pub time-index : (time : ℤ) → negative time ≡ false → {r : ℕ} → LastStarted t (length u / 5) (natAbs time) r
+        → Index r ≡ segmentOfTime (tableOf s u t log text) time
     unfolding segmentOfTime lookedUp ended tableOf segmentsOf
-    time-index time h =
+    time-index time h d =
         rw (
           e,
           count-ended (overByUs time) (segmentAt u t) (endUsAt t) (length u / 5) (natAbs time) (λ k b. ap (λ (z : ℤ). leZ z time) (end-us k b) ∙ over time h (endUsAt t k)),
           length-segments u t,
         )
+        (ap Index (looked-up (startUsAt t) (endUsAt t) times starts-chained (d .within) (d .low) (d .high)))
 
     -- whether a segment continues the one before
     pub continues-first : (r : ℕ) → r < 1 → Answer false ≡ continuesAt (tableOf s u t log text) r

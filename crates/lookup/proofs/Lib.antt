@@ -1,3 +1,4 @@
 pub mod Last
+pub mod Started
 pub mod Found
 pub mod Examples

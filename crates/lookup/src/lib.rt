@@ -5,24 +5,15 @@ use rules::Lookup;
 use table::STAMPS;
 use table::WORDS;
 ghost use mathlib.Core.Path.{_≡_};
-ghost use Prim.Native.Nat.{_+_, _-_, _*_, _/_, _≤_, _<_, min};
-ghost use lib.ListN.{length};
+ghost use mathlib.Core.Bool.{false};
+ghost use Prim.Native.Nat.{_+_, _-_, _*_, _≤_, _<_};
+ghost use lib.IntN.{pos, natAbs};
+ghost use lib.ListN.{length, getD};
 ghost use Rattle.choice.specs.Choice.{maxU64};
-ghost use Rattle.rules.specs.Limits.{maxI64};
+ghost use Rattle.rules.specs.Rules.{negative};
 ghost use Rattle.rules.specs.Lookups.{segmentOfFrame, segmentOfTime, sameShift, segmentRunsOn, continuesAt};
-ghost use Rattle.rules.specs.Steps.{endedBy, Ordered};
 ghost use Rattle.table.specs.Layout.{segmentWords, segmentStamps, wordsAt, segmentAt, tableOf};
-ghost use Rattle.lookup.specs.Steps.{endAt, endUsAt, Searchable, indexIn};
-
-// The smaller of two.
-fn at_most(a: usize, b: usize) -> usize
-    ensures { λ r. ⌜ r ≡ min a b ⌝ }
-{
-    if a <= b {
-        return a;
-    }
-    b
-}
+ghost use Rattle.lookup.specs.Steps.{endAt, Searchable, indexIn, StartsRise, LastStarted};
 
 // The frame after the last of segment k.
 pub fn end_at(u: &[u64], k: usize) -> u64
@@ -42,31 +33,32 @@ pub fn index_of_frame(u: &[u64], frame: u64) -> usize
     rows::last_begun(u, u.len() / WORDS, frame)
 }
 
-// The end time of segment k.
-fn end_us_at(t: &[i64], k: usize) -> u64
-    requires { ⌜ (k * segmentStamps + segmentStamps ≤ length (now t)) × (endUsAt (now t) k ≤ maxI64) ⌝ }
-    ensures { λ r. ⌜ r ≡ endUsAt (now (t .entry)) k ⌝ }
+// A time of a table that is accepted: it isn't negative.
+fn plain_at(t: &[i64], i: usize) -> u64
+    requires { ⌜ (i < length (now t)) × (negative (getD (now t) i (pos 0)) ≡ false) ⌝ }
+    ensures { λ r. ⌜ r ≡ natAbs (getD (now (t .entry)) i (pos 0)) ⌝ }
 {
-    let d = k * STAMPS;
-    table::magnitude_at(t, d + 1) + table::magnitude_at(t, d + 2)
+    rules::plain(t[i])
 }
 
-// How many of n segments end at or before the time, by halving.
-fn ended_us(t: &[i64], n: usize, time: u64) -> usize
-    requires { ⌜ (n ≤ length (now t) / segmentStamps) × Ordered (endUsAt (now t)) n maxI64 ⌝ }
-    ensures { λ r. ⌜ r ≡ endedBy (endUsAt (now (t .entry))) n time ⌝ }
+// The last of n segments that starts at or before a time, or the first; by halving, as `rows::last_begun`. Each starts where the one before it ends, so one
+// word a turn says which have ended.
+fn last_started(t: &[i64], n: usize, time: u64) -> usize
+    requires { ⌜ StartsRise (now t) n ⌝ }
+    ensures { λ r. ⌜ LastStarted (now (t .entry)) n time r ⌝ }
 {
-    let mut lo = 0;
-    let mut hi = n;
-    while lo < hi {
-        let mid = lo + (hi - lo) / 2;
-        if end_us_at(t, mid) <= time {
-            lo = mid + 1;
-        } else {
-            hi = mid;
+    // word 1 of a segment's signed words is where it starts
+    let mut at: usize = 1;
+    let mut left = n;
+    while 1 < left {
+        let half = left / 2;
+        let mid = at + STAMPS * half;
+        left -= half;
+        if plain_at(t, mid) <= time {
+            at = mid;
         }
     }
-    lo
+    at / STAMPS
 }
 
 // The segment that has a frame; past the last frame, the last segment. The Rust's segment_of_frame.
@@ -104,8 +96,7 @@ pub fn segment_of_time_us(
     if signed::negative(time) {
         return Lookup::Index(0);
     }
-    let n = u.len() / WORDS;
-    Lookup::Index(at_most(ended_us(t, n, signed::magnitude(time)), n - 1))
+    Lookup::Index(last_started(t, u.len() / WORDS, signed::magnitude(time)))
 }
 
 // Whether two shifts are equal; both absent counts as equal.

@@ -1,4 +1,4 @@
--- The halving search for a count, and the ends of an accepted table, which never fall. Assumes nothing.
+-- How many ends are at most a value, and the ends of an accepted table, which never fall. Assumes nothing.
 use Prim.Native.Nat.{ℕ, zero, suc, _+_, _-_, _≤_, _<_, zero-le, suc-le-suc}
 use native.Mathlib.Nat.{le-of-suc-le-suc, not-suc-le-zero, add-zero, zero-add}
 use native.Mathlib.Omega.{arith}
@@ -59,31 +59,6 @@ pub record Bracket (e : ℕ → ℕ) (n v lo hi : ℕ) : Type 0 where
   pub hi-le : hi ≤ n
   pub below : (k : ℕ) → k < lo → e k ≤ v
   pub above : (k : ℕ) → hi ≤ k → k < n → v < e k
-
-pub bracket-start : (e : ℕ → ℕ) (n v : ℕ) → Bracket e n v 0 n
-bracket-start e n v = record {
-  lo-le = zero-le;
-  hi-le = omega arith;
-  below = λ k l. absurd (not-suc-le-zero l);
-  above = λ k l q. absurd (omega arith);
-}
-
-module _ {e : ℕ → ℕ} {n top v lo hi : ℕ} (o : Ordered e n top) (b : Bracket e n v lo hi) (m : ℕ) (lm : lo ≤ m) (mh : m < hi) where
-  pub bracket-up : e m ≤ v → Bracket e n v (m + 1) hi
-  bracket-up c = record {
-    lo-le = omega arith;
-    hi-le = b .hi-le;
-    below = λ k l. omega (arith, o .rising k m (omega arith) (omega (arith, b .hi-le)));
-    above = b .above;
-  }
-
-  pub bracket-down : v < e m → Bracket e n v lo m
-  bracket-down c = record {
-    lo-le = lm;
-    hi-le = omega (arith, b .hi-le);
-    below = b .below;
-    above = λ k l q. omega (arith, o .rising m k l q);
-  }
 
 -- lo and hi have met
 pub bracket-end : (e : ℕ → ℕ) (n v lo hi : ℕ) → Bracket e n v lo hi → hi ≤ lo → lo ≡ endedBy e n v

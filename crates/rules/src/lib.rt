@@ -283,7 +283,7 @@ pub fn no_end() -> Ends
 }
 
 // A number that isn't negative.
-fn plain(x: i64) -> u64
+pub fn plain(x: i64) -> u64
     requires { ⌜ negative x ≡ false ⌝ }
     ensures { λ r. ⌜ (r ≡ natAbs x) × (r ≤ maxI64) ⌝ }
 {

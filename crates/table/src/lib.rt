@@ -70,7 +70,7 @@ fn negative_at(t: &[i64], i: usize) -> bool
 }
 
 // The magnitude of a signed word.
-pub fn magnitude_at(t: &[i64], i: usize) -> u64
+fn magnitude_at(t: &[i64], i: usize) -> u64
     requires { ⌜ i < length (now t) ⌝ }
     ensures { λ r. ⌜ r ≡ natAbs (getD (now (t .entry)) i (pos 0)) ⌝ }
 {

@@ -1,6 +1,4 @@
-use mathlib.Core.Path.{sym, _∙_}
 use native.Mathlib.Omega.{arith}
-use borrow.Author.Needs.{needs}
 use Rattle.lookup.proofs.Last.{outs-rise, last-index}
 use Rattle.lookup.proofs.index_of_frame.Statement.{statement}
 use Rattle.lookup.proofs.index_of_frame.Tie as tie

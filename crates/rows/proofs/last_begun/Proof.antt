@@ -1,16 +1,16 @@
 use native.Mathlib.Omega.{arith}
-use Rattle.rows.proofs.Begun.{Halved, halved-start, halved-read, halved-up, halved-down, halved-end}
+use Rattle.rows.proofs.Begun.{Begun, begun-start, begun-read, begun-up, begun-down, begun-end}
 use Rattle.rows.proofs.last_begun.Statement.{statement}
 use Rattle.rows.proofs.last_begun.Tie as tie
 
 abbrev Inv-loop : tie.InvT-loop
-Inv-loop u n frame at₀ left₀ at left = Halved u n frame at left
+Inv-loop u n frame at₀ left₀ at left = Begun u n frame at left
 
 abbrev μ-loop : tie.MeasureT-loop
 μ-loop u n frame at₀ left₀ at left = left
 
 loop-holds : tie.Need-loop-holds Inv-loop μ-loop
-loop-holds c = halved-start (c .pre .0) (c .pre .1)
+loop-holds c = begun-start (c .pre .0)
 
 mul-mid : tie.Need-mul-mid Inv-loop μ-loop
 mul-mid c = omega (arith, c .before .before .pre .0 .sizes)
@@ -22,16 +22,16 @@ mul-if1 : tie.Need-mul-if1 Inv-loop μ-loop
 mul-if1 c = omega (arith, c .before .before .pre .0 .sizes)
 
 shared-slice-read-if1 : tie.Need-shared-slice-read-if1 Inv-loop μ-loop
-shared-slice-read-if1 c = halved-read (c .before .before .before .pre .0) (c .before .before .loop .inv) (c .before .loop-test .taken)
+shared-slice-read-if1 c = begun-read (c .before .before .before .pre .0) (c .before .before .loop .inv) (c .before .loop-test .taken)
 
 loop-again : tie.Need-loop-again Inv-loop μ-loop
-loop-again c = halved-up (c .before .before .before .before .pre .0) (c .before .before .before .loop .inv) (c .before .before .loop-test .taken) (c .if1 .taken)
+loop-again c = begun-up (c .before .before .before .before .pre .0) (c .before .before .before .loop .inv) (c .before .before .loop-test .taken) (c .if1 .taken)
 
 loop-again-2 : tie.Need-loop-again-2 Inv-loop μ-loop
-loop-again-2 c = halved-down (c .before .before .before .before .pre .0) (c .before .before .before .loop .inv) (c .before .before .loop-test .taken) (c .if1 .left)
+loop-again-2 c = begun-down (c .before .before .before .before .pre .0) (c .before .before .before .loop .inv) (c .before .before .loop-test .taken) (c .if1 .left)
 
 returns : tie.Need-returns Inv-loop μ-loop
-returns c = halved-end (c .before .before .pre .0) (c .before .loop .inv) (omega arith)
+returns c = begun-end (c .before .before .pre .0) (c .before .loop .inv) (c .before .before .pre .1) (omega arith)
 
 pub last-begun-spec : {M : Type 1} → statement M
 last-begun-spec =

@@ -192,8 +192,8 @@ impl FrameMap {
     }
 }
 
-/// How many rows have frames of a range, by the first frame of each row: those that start before its end, but of those that start
-/// no later than it only the last.
+/// How many rows have frames of a range, by the first frame of each row: those that start before the range's end, but of those that
+/// start no later than the range only the last.
 fn rows_of(firsts: &[u64], range: &Range<u64>) -> usize {
     let started = firsts.partition_point(|first| *first <= range.start);
     (firsts.partition_point(|first| *first < range.end) + 1).saturating_sub(started)

@@ -57,13 +57,11 @@ fn line(call: &'static str, input: String, mut rust: Work, mut library: Work, me
 pub fn shares(lines: &[Line], runs: usize) -> bool {
     println!();
     let of = |input: String| lines.iter().find(|line| line.input == input).unwrap().library;
-    let mut enough = true;
+    let gain = |n| of(one_by_one(n)) / of(at_once(n));
     for n in ROWS {
-        let gain = of(one_by_one(n)) / of(at_once(n));
-        println!("{n} rows: the test of the rows takes {:.0}% of a cut; {CUTS} cuts in one call are {gain:.1} times as fast as one by one", 100.0 * share(n, runs));
-        enough = gain >= LEAST_OF_ONE_BY_ONE;
+        println!("{n} rows: the test of the rows takes {:.0}% of a cut; {CUTS} cuts in one call are {:.1} times as fast as one by one", 100.0 * share(n, runs), gain(n));
     }
-    enough
+    gain(ROWS[ROWS.len() - 1]) >= LEAST_OF_ONE_BY_ONE
 }
 
 /// The part of a cut's time that tests the rows: what a cut takes that is refused for its range, which is looked at right after them

@@ -336,7 +336,8 @@ pub record Claims : Type 0 where
   -- The same of the maps themselves, whatever their length; among it, that an absent shift isn't a shift of 0. (Demand 3; rows/specs/Demands.antt.)
   pub demands : Demands
   -- MANY CUTS IN ONE CALL are what `cut` of each range alone answers and writes, its rows after those of the ranges before it, their number in the counts; one range is
-  -- one `cut`, refusals too; they are accepted exactly where the map is, each range is, and all rows and counts have room, and which refusal it is otherwise.
+  -- one `cut`, refusals too; they are accepted exactly where the map is, the words are pairs, each range lies in the map, and all rows and counts have room; otherwise it is said which
+  -- refusal is given.
   -- (cuts/specs/Laws.antt has the lines.)
   pub many-cuts : cut-laws.CutsLaws calls.Cuts calls.Cut
   pub refusals : Refusals

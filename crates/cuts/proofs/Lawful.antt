@@ -142,7 +142,7 @@ module _ (u : List ℕ) (s : List ℤ) (ranges ou : List ℕ) (os : List ℤ) (c
   what = record {
     map = lent can;
     pairs = can .even;
-    inside = λ k h. (can .ready .inside k h .some, can .ready .inside k h .within);
+    inside = can .ready .inside;
     words = can .words;
     shifts = can .shifts;
     counted = can .counts;
@@ -158,7 +158,7 @@ accept {u} {s} {ranges} {ou} {os} {counts} a p =
     (record {
       ready = record {
         sound = record { some = a .map .some; sizes = a .map .sizes; well = a .map .well };
-        inside = λ k h. record { some = a .inside k h .0; within = a .inside k h .1 };
+        inside = a .inside;
       };
       few = a .map .few;
       even = a .pairs;

@@ -21,8 +21,8 @@ use Rattle.rows.specs.Lent.{rows}
 use Rattle.maps.specs.Answers.{mostRows, badRange, rowsOver, mapRefusal}
 use Rattle.maps.proofs.Chains.{sound, sound-map}
 use Rattle.cuts.specs.declared.Range.{Range}
-use Rattle.cuts.specs.Answers.{rangeAt, rangesOf, cutsOf, concat, rangeRefusal, rangesRefusal, cutsFit, cutsRefusal}
-use Rattle.cuts.specs.Steps.{Inside, ReadyToCut, roomOf}
+use Rattle.cuts.specs.Answers.{Inside, rangeAt, rangesOf, cutsOf, concat, rangeRefusal, rangesRefusal, cutsFit, cutsRefusal}
+use Rattle.cuts.specs.Steps.{ReadyToCut, roomOf}
 
 -- ---- 50
 pub inside : (t : ℕ) (r : Range) → rangeRefusal t r ≡ 0 → Inside t r

@@ -18,9 +18,9 @@ use Rattle.maps.specs.declared.Mapped.the-variants.{Refused}
 use Rattle.maps.specs.Answers.{mostRows, badRange, rowsOver, mapRefusal, mappedOf, Cut}
 use Rattle.maps.specs.Laws.{LentMap}
 use Rattle.maps.proofs.Chains.{sound, sound-map, cut-malformed, cut-rows-in}
-use Rattle.cuts.specs.Answers.{rangeAt, rangesOf, cutsOf, concat, cutsRefusal, Cuts}
-use Rattle.cuts.specs.Laws.{InMap, Accepted}
-use Rattle.cuts.specs.Steps.{Inside, roomOf}
+use Rattle.cuts.specs.Answers.{Inside, rangeAt, rangesOf, cutsOf, concat, cutsRefusal, Cuts}
+use Rattle.cuts.specs.Laws.{Accepted}
+use Rattle.cuts.specs.Steps.{roomOf}
 use Rattle.cuts.proofs.Refused.{ranges-odd, ranges-accepted, ranges-first, cuts-malformed, cuts-rows-in, cuts-range, cuts-counts, cuts-short}
 
 module _ (u : List ℕ) (s : List ℤ) (ranges ou : List ℕ) (os : List ℤ) (counts : List ℕ) {r : Mapped} {ou′ : List ℕ} {os′ : List ℤ} {counts′ : List ℕ} (p : Cuts u s ranges ou os counts r ou′ os′ counts′) where
@@ -49,19 +49,16 @@ module _ (u : List ℕ) (s : List ℤ) (ranges ou : List ℕ) (os : List ℤ) (c
     pub torn-refused : length ranges % 2 ≡ 1 → r ≡ Refused badRange (length ranges / 2)
     torn-refused e = answer (cuts-range u s ranges (length ou) (length os) (length counts) is-sound (m .few) (sym (ranges-odd (total (rows u s)) ranges e)))
 
-    within : (k : ℕ) → InMap u s (rangeAt ranges k) → Inside (total (rows u s)) (rangeAt ranges k)
-    within k i = record { some = i .0; within = i .1 }
-
-    pub range-refused : (k : ℕ) → length ranges % 2 ≡ 0 → k < length ranges / 2 → ((j : ℕ) → j < k → InMap u s (rangeAt ranges j)) → (InMap u s (rangeAt ranges k) → ⊥)
+    pub range-refused : (k : ℕ) → length ranges % 2 ≡ 0 → k < length ranges / 2 → ((j : ℕ) → j < k → Inside (total (rows u s)) (rangeAt ranges j)) → (Inside (total (rows u s)) (rangeAt ranges k) → ⊥)
         → r ≡ Refused badRange k
     range-refused k e h b q =
         answer (cuts-range u s ranges (length ou) (length os) (length counts) is-sound (m .few)
-        (ranges-first (total (rows u s)) ranges k e h (λ j c. within j (b j c)) (λ i. q (i .some, i .within))))
+        (ranges-first (total (rows u s)) ranges k e h b q))
 
-    pub room-refused : length ranges % 2 ≡ 0 → ((k : ℕ) → k < length ranges / 2 → InMap u s (rangeAt ranges k)) → (Accepted u s ranges ou os counts → ⊥) → r ≡ Refused rowsOver 0
+    pub room-refused : length ranges % 2 ≡ 0 → ((k : ℕ) → k < length ranges / 2 → Inside (total (rows u s)) (rangeAt ranges k)) → (Accepted u s ranges ou os counts → ⊥) → r ≡ Refused rowsOver 0
     room-refused e b q =
         let n = length (concat (cutsOf (rows u s) (rangesOf ranges))) in
-        let f = ranges-accepted (total (rows u s)) ranges e (λ k h. within k (b k h)) in
+        let f = ranges-accepted (total (rows u s)) ranges e b in
         ⊎-elim
         (λ (c : length ranges / 2 ≤ length counts).
         decide (leb n (roomOf (length ou) (length os)))

@@ -1,5 +1,5 @@
 -- Many cuts of one map: the ranges as they are lent, the rows of their cuts, and what `cuts` answers and leaves in the lent room.
-use Prim.Native.Nat.{ℕ, _+_, _*_, _/_, _%_}
+use Prim.Native.Nat.{ℕ, _+_, _*_, _/_, _%_, _≤_, _<_}
 use mathlib.Core.Bool.{Bool, not, _&&_}
 use mathlib.Core.List.{List, [], _∷_, _++_, map}
 use mathlib.Core.Path.{_≡_}
@@ -17,6 +17,11 @@ use Rattle.rows.specs.Lent.{rows}
 use Rattle.maps.specs.declared.Mapped.{Mapped}
 use Rattle.maps.specs.Answers.{mostRows, badRange, rowsOver, mapRefusal, Placed}
 use Rattle.cuts.specs.declared.Range.{Range}
+
+-- a range that has frames, all of them in a map of t frames
+pub record Inside (t : ℕ) (r : Range) : Type 0 where
+  pub some : r .from < r .to
+  pub within : r .to ≤ t
 
 -- range k of the lent words, two a range, and all of them
 abbrev pub rangeAt : List ℕ → ℕ → Range

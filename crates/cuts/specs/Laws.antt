@@ -11,8 +11,7 @@ use Rattle.maps.specs.declared.Mapped.{Mapped}
 use Rattle.maps.specs.declared.Mapped.the-variants.{Rows, Refused}
 use Rattle.maps.specs.Answers.{badRange, rowsOver}
 use Rattle.maps.specs.Laws.{LentMap, AsLent, Writes}
-use Rattle.cuts.specs.declared.Range.{Range}
-use Rattle.cuts.specs.Answers.{rangeAt, rangesOf, cutsOf, concat}
+use Rattle.cuts.specs.Answers.{Inside, rangeAt, rangesOf, cutsOf, concat}
 
 abbrev pub sum : List ℕ → ℕ
 sum [] = 0
@@ -22,15 +21,11 @@ sum (n ∷ l) = n + sum l
 abbrev pub rowsBefore : ℕ → List ℕ → ℕ
 rowsBefore k counts = sum (take k counts)
 
--- a range that has frames, all of them in the map
-abbrev pub InMap : List ℕ → List ℤ → Range → Type 0
-InMap u s r = (r .from < r .to) × (r .to ≤ total (rows u s))
-
 -- what `cuts` accepts: a map that no call refuses, ranges of two words each that lie in it, and room for the rows of all cuts and for their counts
 pub record Accepted (u : List ℕ) (s : List ℤ) (ranges ou : List ℕ) (os : List ℤ) (counts : List ℕ) : Type 0 where
   pub map : LentMap u s
   pub pairs : length ranges % 2 ≡ 0
-  pub inside : (k : ℕ) → k < length ranges / 2 → InMap u s (rangeAt ranges k)
+  pub inside : (k : ℕ) → k < length ranges / 2 → Inside (total (rows u s)) (rangeAt ranges k)
   pub words : 5 * length (concat (cutsOf (rows u s) (rangesOf ranges))) ≤ length ou
   pub shifts : length (concat (cutsOf (rows u s) (rangesOf ranges))) ≤ length os
   pub counted : length ranges / 2 ≤ length counts
@@ -60,7 +55,7 @@ pub record CutsLaws (Cuts : List ℕ → List ℤ → List ℕ → List ℕ → 
       → 0 < length counts
       → Cuts u s (a ∷ b ∷ []) ou os counts r ou′ os′ counts′ → Cut u s a b ou os q ou″ os″
       → (r ≡ q) × (ou′ ≡ ou″) × (os′ ≡ os″)
-  -- 3. Accepted exactly where the map is, each range is, and there is room.
+  -- 3. Accepted exactly where the map is, the words are pairs, each range lies in the map, and there is room.
   pub accepted : (u ranges ou ou′ counts counts′ : List ℕ) (s os os′ : List ℤ) (n : ℕ)
       → Cuts u s ranges ou os counts (Rows n) ou′ os′ counts′ → Accepted u s ranges ou os counts
   pub accepts : (u ranges ou ou′ counts counts′ : List ℕ) (s os os′ : List ℤ) (r : Mapped)
@@ -72,10 +67,10 @@ pub record CutsLaws (Cuts : List ℕ → List ℤ → List ℕ → List ℕ → 
   pub torn-refused : (u ranges ou ou′ counts counts′ : List ℕ) (s os os′ : List ℤ) (r : Mapped)
       → LentMap u s → length ranges % 2 ≡ 1 → Cuts u s ranges ou os counts r ou′ os′ counts′ → r ≡ Refused badRange (length ranges / 2)
   pub range-refused : (u ranges ou ou′ counts counts′ : List ℕ) (s os os′ : List ℤ) (k : ℕ) (r : Mapped)
-      → LentMap u s → length ranges % 2 ≡ 0 → k < length ranges / 2 → ((j : ℕ) → j < k → InMap u s (rangeAt ranges j)) → (InMap u s (rangeAt ranges k) → ⊥)
+      → LentMap u s → length ranges % 2 ≡ 0 → k < length ranges / 2 → ((j : ℕ) → j < k → Inside (total (rows u s)) (rangeAt ranges j)) → (Inside (total (rows u s)) (rangeAt ranges k) → ⊥)
       → Cuts u s ranges ou os counts r ou′ os′ counts′ → r ≡ Refused badRange k
   pub room-refused : (u ranges ou ou′ counts counts′ : List ℕ) (s os os′ : List ℤ) (r : Mapped)
-      → LentMap u s → length ranges % 2 ≡ 0 → ((k : ℕ) → k < length ranges / 2 → InMap u s (rangeAt ranges k)) → (Accepted u s ranges ou os counts → ⊥)
+      → LentMap u s → length ranges % 2 ≡ 0 → ((k : ℕ) → k < length ranges / 2 → Inside (total (rows u s)) (rangeAt ranges k)) → (Accepted u s ranges ou os counts → ⊥)
       → Cuts u s ranges ou os counts r ou′ os′ counts′ → r ≡ Refused rowsOver 0
   -- 5. What isn't answered stays as it was lent.
   pub leaves : (u ranges ou ou′ counts counts′ : List ℕ) (s os os′ : List ℤ) (r : Mapped)

@@ -9,13 +9,7 @@ use Rattle.rows.specs.declared.Row.{Row}
 use Rattle.rows.specs.Rows.{total}
 use Rattle.rows.specs.Lent.{rows, wordsOf, shiftsOf}
 use Rattle.maps.specs.Steps.{Sound}
-use Rattle.cuts.specs.declared.Range.{Range}
-use Rattle.cuts.specs.Answers.{rangeAt, concat}
-
--- a range of a map of t frames that isn't refused
-pub record Inside (t : ℕ) (r : Range) : Type 0 where
-  pub some : r .from < r .to
-  pub within : r .to ≤ t
+use Rattle.cuts.specs.Answers.{Inside, rangeAt, concat}
 
 -- a map that 51 doesn't refuse, and ranges that 50 doesn't
 pub record ReadyToCut (u : List ℕ) (s : List ℤ) (ranges : List ℕ) : Type 0 where

@@ -183,7 +183,7 @@ module _ (srcs : List Source) (frame : ℕ) (rs : List TrimSegment) where
 
 -- 1, of sources, and 2 to 8 refuse nothing
 pub front-fine : (sources text : List ℕ) (log : Bool) (n : ℕ) → FineFront sources log text n → frontOf sources text n log ≡ Never
-front-fine sources text log n f = rw (f .even, f .words) (f .none)
+front-fine sources text log n f = rw (f .whole, f .words) (f .none)
 
 module _ (sources text : List ℕ) (rs : List TrimSegment) (log : Bool) (frame : ℕ) (room : length rs < 2 ^ 63) where
   abbrev t : Table

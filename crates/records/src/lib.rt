@@ -47,7 +47,7 @@ pub struct TrimSegment {
 }
 
 // What is known after some records.
-pub struct SoFar {
+struct SoFar {
     // The frame that is looked up.
     pub frame: u64,
     // Where the last record ends that was passed.

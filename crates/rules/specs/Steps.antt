@@ -113,7 +113,7 @@ pub record FineSource (log : Bool) (text : List ℕ) (s : Source) : Type 0 where
 unfoldable pub endedBy : (ℕ → ℕ) → ℕ → ℕ → ℕ
 endedBy e n v = countSuch (λ k. leb (e k) v) (run (λ k. k) 0 n)
 
--- ends that a halving search needs: none passes m, and they never fall
+-- ends of segments: none passes m, and they never fall
 pub record Ordered (e : ℕ → ℕ) (n m : ℕ) : Type 0 where
   pub fits : (k : ℕ) → k < n → e k ≤ m
   pub rising : (i j : ℕ) → i ≤ j → j < n → e i ≤ e j

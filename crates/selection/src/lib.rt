@@ -17,7 +17,7 @@ const SAMPLES: usize = 16;
 const ASIDE: usize = 4;
 
 // A range of values, how many elements are below it, and how many at most its greatest.
-pub struct Bounds {
+struct Bounds {
     pub lo: i64,
     pub hi: i64,
     pub below: usize,
@@ -102,7 +102,7 @@ fn take_sample(xs: &[i64], sample: &mut [i64], stride: usize)
     }
 }
 
-// A place in the sample.
+// A place in the sample; SAMPLES is the 16 of the promise.
 fn sampled(place: usize) -> usize
     ensures { λ r. ⌜ r < 16 ⌝ }
 {

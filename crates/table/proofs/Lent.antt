@@ -80,5 +80,5 @@ pub check-accepted : (s u : List ℕ) (t : List ℤ) (log : Bool) (text : List �
     → FineSegments (sourcesOf s) (segmentsOf u t) n → Frames n ≡ checkOf (tableOf s u t log text)
 check-accepted s u t log text l f g =
     let e : false ≡ badLengths (length s) (length u) (length t) =
-    rw (f .even, l .words, l .stamps, eq-eqb (length u / segmentWords) (length t / segmentStamps) (l .agree)) in
+    rw (f .whole, l .words, l .stamps, eq-eqb (length u / segmentWords) (length t / segmentStamps) (l .agree)) in
     check-walked s u t log text e (sym (f .words)) (sym (g .flags)) (sym (f .none)) refl (g .frames)

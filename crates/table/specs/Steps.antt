@@ -15,7 +15,7 @@ use Rattle.table.specs.Layout.{sourceWords, segmentWords, segmentStamps,
 
 -- neither 1, of sources, nor any of 2 to 8 holds where n segments are lent
 pub record FineFront (s : List ℕ) (log : Bool) (text : List ℕ) (n : ℕ) : Type 0 where
-  pub even : length s % sourceWords ≡ 0
+  pub whole : length s % sourceWords ≡ 0
   pub words : any (badSource (length text)) (sourcesOf s) ≡ false
   pub none : frontRefusal log text (sourcesOf s) false n ≡ Never
 

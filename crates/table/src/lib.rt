@@ -221,12 +221,7 @@ fn segments(sources: &[u64], u: &[u64], t: &[i64]) -> Checked
     ensures { λ r. ⌜ r ≡ walked (sourcesOf (now (sources .entry))) (segmentsOf (now (u .entry)) (now (t .entry))) ⌝ }
 {
     let m = u.len() / WORDS;
-    let mut prev = Ends {
-        some: false,
-        frame: 0,
-        time: 0,
-        capture: 0,
-    };
+    let mut prev = rules::no_end();
     let mut e = 0;
     while e < m {
         match turn_at(sources, u, t, prev, e) {

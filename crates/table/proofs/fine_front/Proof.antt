@@ -55,7 +55,7 @@ returns-5 c = λ _.
     let a = c .before .before .before .before .before .before .before .before .args in
     let l = c .before .loop .inv in
     record {
-      even = omega arith;
+      whole = omega arith;
       words = sym (any-end _ _ _ _ (c .loop-test .left) (l .1));
       none = front-none (a .log) (now (a .text)) (sourcesOf (now (a .s))) (a .n)
           (rw (length-sources (now (a .s))) (called (c .before .before .before .before .over-limit .ensures) (c .before .before .before .if2 .left))) (rw (length-sources (now (a .s))) (c .before .before .if3 .left))

@@ -1,7 +1,7 @@
 use Prim.Native.Nat.{_-_}
 use native.Mathlib.Omega.{arith}
+use borrow.Author.Needs.{needs}
 use Rattle.choice.proofs.Tests.{called}
-use Rattle.rules.specs.Rules.{start}
 use Rattle.rules.proofs.Walks.{Walk, walk-start, walk-go, walk-stop, walk-end}
 use Rattle.table.specs.Layout.{segmentAt, segmentsOf, sourcesOf}
 use Rattle.table.proofs.segments.Statement.{statement}
@@ -14,8 +14,7 @@ abbrev μ-loop : tie.MeasureT-loop
 μ-loop sources u t m prev₀ e₀ prev e = m - e
 
 loop-holds : tie.Need-loop-holds Inv-loop μ-loop
-unfolding start
-loop-holds c = walk-start _ _ _
+loop-holds c = rw (c .no-end .ensures) (walk-start _ _ _)
 
 enum-known-n : tie.Need-enum-known-n Inv-loop μ-loop
 enum-known-n c = c .match .keys1
@@ -41,5 +40,5 @@ returns-2 c = walk-end _ _ _ (c .before .loop .inv) (c .loop-test .left)
 pub segments-spec : {M : Type 1} → statement M
 segments-spec =
     tie.close (tie.spec
-    Inv-loop μ-loop loop-holds (λ c κs. omega arith) enum-known-n returns enum-known-next (λ c. omega arith) (λ c. omega arith)
+    Inv-loop μ-loop (λ c κs. search needs) loop-holds (λ c κs. omega arith) enum-known-n returns enum-known-next (λ c. omega arith) (λ c. omega arith)
     loop-again returns-2)

@@ -1,3 +1,4 @@
+use native.Mathlib.Omega.{arith}
 use mathlib.Core.Path.{_≡_, refl, sym, _∙_}
 use mathlib.Core.Bool.{true}
 use lib.Dec.{ltb}
@@ -18,7 +19,7 @@ returns c =
 returns-2 : tie.Need-returns-2
 returns-2 c =
     let a = c .before .before .args in
-    (λ e. tf (sym e), λ f. absurd (c .if2 .taken (clocked (a .kind) (a .modulus) (a .flag) (a .shift) f (c .before .if1 .left))))
+    (λ e. tf (sym e), λ f. absurd (omega (arith, clocked (a .kind) (a .modulus) (a .flag) (a .shift) f (c .before .if1 .left))))
 
 returns-3 : tie.Need-returns-3
 returns-3 c =

@@ -32,10 +32,10 @@
  * smallest; of a recording the middle interval, the lower of two.
  *
  * Refusals. The index is the source in 4 to 7, the segment in 9 to 17, 23 and 24, the later timestamp of the first falling
- * pair in 34, the range in 50 of st_cuts (a last one without its end is tested first), the row in 51 (0 for slice lengths or
- * no rows, which are tested first), else 0. Each call names its refusals in the order of its tests: 4 to 7 source by
- * source, 9 to 17 and 23 with 24 segment by segment, 50 of st_cuts range by range, a join's 51 of its first map and then of
- * its second.
+ * pair in 34, the broken header's offset in the lent bytes in 36, the range in 50 of st_cuts (a last one without its end is
+ * tested first), the row in 51 (0 for slice lengths or no rows, which are tested first), else 0. Each call names its
+ * refusals in the order of its tests: 4 to 7 source by source, 9 to 17 and 23 with 24 segment by segment, 50 of st_cuts
+ * range by range, a join's 51 of its first map and then of its second. `31 or 36` is by how a walk over boxes ended.
  *  1 a slice length isn't a multiple of its record, the two segment slices disagree, a flag or kind is outside its set,
  *    or a present creation time's range leaves the text
  *  2 over 64 sources or 512 segments
@@ -63,11 +63,14 @@
  * 25 the end isn't near: |2 end_us scale - 2 end 1,000,000| is over 2 nominal 1,000,000 + scale, where end_us is the last
  *    segment's out start plus duration; the nominal of a constant video is its denominator, and its scale the numerator
  * 30 over 16,777,216 bytes or timestamps
- * 31 there is none: no such box, no box at the offset, or no frame times to be had
+ * 31 missing: the boxes end (fewer than 8 bytes are left) without the one that is looked for, or no frame times can be had;
+ *    of st_box_size, no size is whole and fits
  * 32 lent room too small
  * 33 a start, span or end outside 64 bits
  * 34 timestamps not ascending (equal neighbours are allowed)
  * 35 recording without frames
+ * 36 broken: before what is looked for stands a broken box header, at the index: its size isn't whole or doesn't fit, or, of
+ *    st_find_box with text_types, its type has a byte outside 20..7E hex
  * 40 no MTRM box: no moov, no udta in it, or none in that
  * 41 more than one MTRM box
  * 42 a search range outside the bytes, or starting past its end; an offset past the bytes
@@ -225,10 +228,14 @@ uint64_t st_mcraw_times(const int64_t *timestamps, size_t timestamps_len, int64_
                         int64_t *end, uint64_t *index);
 
 /* The frame times of a moov's first video track: how many, their timescale, the nominal interval and the end; the starts
- * in presentation order.
- * Lent: the payload of a moov box, room for the starts, two working slices as long. As many elements as the track has
- * frames are enough for each; it has no more than moov has bytes, else it is 31. Writes starts, both working slices (all 0), frames, scale, nominal, end, index. Refuses:
- * 30, 31, 32, 31, 33.
+ * in presentation order. The mvhd and that track have to be found in moov, and in the track mdia, mdhd, minf, stbl and stts:
+ * where one isn't, it is 31, or 36 with the offset in moov of the broken header that hides it. A track that is broken before
+ * its hdlr, or at it, isn't seen to be of video, and is passed over; where there is no other video track, the answer goes by
+ * how the boxes of moov itself end. Where a broken header hides ctts, edts or elst, that counts as absent.
+ * Lent: the payload of a moov box (where a file has none, st_find_box says why, with an offset in the file), room for the
+ * starts, two working slices as long. As many elements as the track has frames are enough for each; it has no more than
+ * moov has bytes, else it is 31. Writes starts, both working slices (all 0), frames, scale, nominal, end, index. Refuses:
+ * 30, 31 or 36, 32, 31, 33.
  * A null pointer only with length 0; what is written overlaps nothing else, or memory may be corrupted. */
 uint64_t st_video_frame_times_of_moov(const uint8_t *moov, size_t moov_len, int64_t *starts,
                                       size_t starts_len, int64_t *work_a, size_t work_a_len, int64_t *work_b,
@@ -298,26 +305,29 @@ uint64_t st_box_size(const uint8_t *data, size_t data_len, uint64_t remaining, u
 
 /* The box at offset `at` of payload: its type (`kind`, its four bytes, big-endian), where its payload lies, and where the
  * next box is. From 0 on, and then from each answer's `next`, all boxes are met, in order, until 31: fewer than 8 bytes are
- * left there, or the box doesn't fit.
- * Lent: a box's payload. Writes kind, start, length, next, index. Refuses: 30, 42, 31.
+ * left there, or 36: a broken header stands there, and the index is `at`.
+ * Lent: a box's payload. Writes kind, start, length, next, index. Refuses: 30, 42, 31 or 36.
  * A null pointer only with length 0. */
 uint64_t st_children(const uint8_t *payload, size_t payload_len, uint64_t at, uint32_t *kind, uint64_t *start,
                      uint64_t *length, uint64_t *next, uint64_t *index);
 
-/* Where the payload of the first child of a type lies in payload; `kind` is the type's four bytes, big-endian.
- * Lent: a box's payload. Writes start, length, index. Refuses: 30, 31.
+/* Where the payload of the first child of a type lies in payload; `kind` is the type's four bytes, big-endian. It is 31
+ * where the boxes end without it, and 36 where a broken header ends them before, with its offset in payload.
+ * Lent: a box's payload. Writes start, length, index. Refuses: 30, 31 or 36.
  * A null pointer only with length 0. */
 uint64_t st_child(const uint8_t *payload, size_t payload_len, uint32_t kind, uint64_t *start,
                   uint64_t *length, uint64_t *index);
 
-/* Where the payload of the first box of a type among those of from..to lies in bytes. With text_types the search ends
- * at a type with a byte outside 20..7E hex.
- * Lent: the bytes. Writes start, length, index. Refuses: 30, 42, 31.
+/* Where the payload of the first box of a type among those of from..to lies in bytes. It is 31 where the boxes end without
+ * it, and 36 where a broken header ends them before, with its offset in the whole of bytes. With text_types a type with a
+ * byte outside 20..7E hex makes a header broken.
+ * Lent: the bytes. Writes start, length, index. Refuses: 30, 42, 31 or 36.
  * A null pointer only with length 0. */
 uint64_t st_find_box(const uint8_t *bytes, size_t bytes_len, uint64_t from, uint64_t to, uint32_t kind,
                      bool text_types, uint64_t *start, uint64_t *length, uint64_t *index);
 
-/* Where a file's segment table has its text: the payload of the only moov/udta/MTRM box.
+/* Where a file's segment table has its text: the payload of the only moov/udta/MTRM box. Where a broken header hides
+ * it, it is 40 too.
  * Lent: the file's bytes. Writes start, length, index. Refuses: 30, 40, 41.
  * A null pointer only with length 0. */
 uint64_t st_table_text(const uint8_t *file, size_t file_len, uint64_t *start, uint64_t *length,

@@ -3,11 +3,15 @@
 #include <stdint.h>
 #include <string.h>
 
+/* A 32-bit word; where it ends. */
+static uint8_t *put(uint8_t *to, uint32_t word) {
+    for (int shift = 24; shift >= 0; shift -= 8) *to++ = (uint8_t)(word >> shift);
+    return to;
+}
+
 /* A box: size, type, then what is inside, at any address. */
 static uint8_t *box(uint8_t *to, const char *kind, uint32_t payload) {
-    uint32_t size = payload + 8;
-    to[0] = (uint8_t)(size >> 24), to[1] = (uint8_t)(size >> 16), to[2] = (uint8_t)(size >> 8), to[3] = (uint8_t)size;
-    memcpy(to + 4, kind, 4);
+    memcpy(put(to, payload + 8), kind, 4);
     return to + 8;
 }
 
@@ -18,22 +22,19 @@ static uint32_t code(const char *kind) {
 
 /* A full box of 32-bit words after its version and flags; where it ends. */
 static uint8_t *full(uint8_t *to, const char *kind, const uint32_t *words, uint32_t count) {
-    to = box(to, kind, 4 + 4 * count);
-    memset(to, 0, 4);
-    to += 4;
-    for (uint32_t k = 0; k < count; k++) {
-        for (int shift = 24; shift >= 0; shift -= 8) *to++ = (uint8_t)(words[k] >> shift);
-    }
+    to = put(box(to, kind, 4 + 4 * count), 0);
+    for (uint32_t k = 0; k < count; k++) to = put(to, words[k]);
     return to;
 }
 
-/* The payload of a moov of one video track, with the words of its stts and, where there are some, of its ctts; how long it is. */
+/* The payload of a moov of one video track, with the words of its stts and, where there are some, of its ctts; how long it is. The
+ * hdlr, by which a track is known, comes first in its mdia. */
 static size_t make_movie(uint8_t *at, uint32_t scale, const uint32_t *stts, uint32_t n, const uint32_t *ctts, uint32_t m) {
     uint32_t tables = 12 + 4 * n + (m ? 12 + 4 * m : 0), media = 24 + 20 + 8 + 8 + tables;
     uint8_t *to = full(at, "mvhd", (const uint32_t[]){0, 0, 100}, 3);
     to = box(box(to, "trak", media + 8), "mdia", media);
-    to = full(to, "mdhd", (const uint32_t[]){0, 0, scale}, 3);
     to = full(to, "hdlr", (const uint32_t[]){0, code("vide")}, 2);
+    to = full(to, "mdhd", (const uint32_t[]){0, 0, scale}, 3);
     to = box(box(to, "minf", tables + 8), "stbl", tables);
     to = full(to, "stts", stts, n);
     return (size_t)((m ? full(to, "ctts", ctts, m) : to) - at);

@@ -405,7 +405,8 @@ static void box_calls(void) {
         IS(kind == code("moov") && x == 19 && y == 21 && z == 40);
         REFUSED_AT(31, 0, st_children(file, 40, 40, FOUND));
         REFUSED_AT(31, 0, st_children(file, 40, 33, FOUND));
-        REFUSED_AT(31, 0, st_children(file, 39, 11, FOUND));
+        REFUSED_AT(36, 32, st_children(file, 40, 32, FOUND));
+        REFUSED_AT(36, 11, st_children(file, 39, 11, FOUND));
         REFUSED_AT(42, 0, st_children(file, 40, 41, FOUND));
         REFUSED_AT(42, 0, st_children(file, 40, MOST, FOUND));
         ACCEPTED(st_child(file, 40, code("free"), &x, &y, &at));
@@ -445,6 +446,105 @@ static void box_calls(void) {
     free(large);
 }
 
+/* Each walk over boxes that meets no moov before the broken header at an offset: 36 with that offset, of the whole and of the range
+ * from there on; the search for a table gives 40. */
+#define BROKEN(file, length, offset)                                                                        \
+    do {                                                                                                    \
+        REFUSED_AT(36, offset, st_children(file, length, offset, FOUND));                                   \
+        REFUSED_AT(36, offset, st_child(file, length, code("moov"), &x, &y, &at));                          \
+        REFUSED_AT(36, offset, st_find_box(file, length, 0, length, code("moov"), false, &x, &y, &at));     \
+        REFUSED_AT(36, offset, st_find_box(file, length, offset, length, code("moov"), true, &x, &y, &at)); \
+        REFUSED_AT(40, 0, st_table_text(file, length, &x, &y, &at));                                        \
+    } while (0)
+
+/* Two boxes of 8 bytes, then one whose size is broken, then a moov. */
+static void broken_sizes(void) {
+    const uint32_t sizes[] = {2, 7, 17, UINT32_MAX}, large_sizes[][2] = {{0, 0}, {0, 15}, {0, 25}, {1, 16}, {UINT32_MAX, UINT32_MAX}};
+    uint8_t file[40];
+    box(box(file, "free", 0), "free", 0);
+    for (size_t left = 0; left < 8; left++) {
+        REFUSED_AT(31, 0, st_children(file, 8 + left, 8, FOUND));
+        REFUSED_AT(31, 0, st_child(file, 8 + left, code("moov"), &x, &y, &at));
+        REFUSED_AT(31, 0, st_find_box(file, 16, 0, 8 + left, code("moov"), true, &x, &y, &at));
+    }
+    box(box(file + 16, "torn", 0), "moov", 0);
+    ACCEPTED(st_child(file, 32, code("moov"), &x, &y, &at));
+    IS(x == 32 && y == 0);
+    for (size_t k = 0; k < COUNT(sizes); k++) {
+        put(file + 16, sizes[k]);
+        BROKEN(file, 32, 16);
+    }
+    /* the offset is that in the whole, wherever the range starts and ends */
+    REFUSED_AT(36, 16, st_find_box(file, 32, 8, 32, code("moov"), false, &x, &y, &at));
+    REFUSED_AT(36, 16, st_find_box(file, 32, 8, 24, code("moov"), true, &x, &y, &at));
+    REFUSED_AT(31, 0, st_find_box(file, 32, 8, 23, code("moov"), true, &x, &y, &at));
+    ACCEPTED(st_find_box(file, 32, 24, 32, code("moov"), true, &x, &y, &at));
+    IS(x == 32 && y == 0);
+
+    /* sizes of 64 bits: cut off, less than their header, past the end */
+    box(put(put(put(put(file + 16, 1), code("long")), 0), 16), "moov", 0);
+    ACCEPTED(st_child(file, 40, code("moov"), &x, &y, &at));
+    IS(x == 40 && y == 0);
+    REFUSED_AT(31, 0, st_child(file, 32, code("moov"), &x, &y, &at));
+    for (size_t length = 24; length < 32; length++) BROKEN(file, length, 16);
+    for (size_t k = 0; k < COUNT(large_sizes); k++) {
+        put(put(file + 24, large_sizes[k][0]), large_sizes[k][1]);
+        BROKEN(file, 40, 16);
+    }
+}
+
+/* A type outside 20..7E hex breaks a header where types are text, and nowhere else. */
+static void broken_types(void) {
+    const uint8_t text[] = {0x20, 0x7e}, past[] = {0, 0x1f, 0x7f, 0xff};
+    uint8_t file[32];
+    box(box(box(box(file, "free", 0), "free", 0), "text", 0), "moov", 0);
+    for (size_t k = 20; k < 24; k++) {
+        for (size_t e = 0; e < COUNT(text); e++) {
+            file[k] = text[e];
+            ACCEPTED(st_find_box(file, 32, 8, 32, code("moov"), true, &x, &y, &at));
+            IS(x == 32 && y == 0);
+        }
+        for (size_t e = 0; e < COUNT(past); e++) {
+            file[k] = past[e];
+            REFUSED_AT(36, 16, st_find_box(file, 32, 8, 32, code("moov"), true, &x, &y, &at));
+            REFUSED_AT(36, 16, st_find_box(file, 32, 8, 32, code((const char *)file + 20), true, &x, &y, &at));
+            ACCEPTED(st_find_box(file, 32, 8, 32, code("moov"), false, &x, &y, &at));
+            IS(x == 32 && y == 0);
+        }
+        file[k] = 't';
+    }
+}
+
+/* A table behind a broken header, in the udta, in the moov and before it: 40 stays. */
+static void broken_tables(void) {
+    const char *kinds[][4] = {{"moov", "udta", "torn", "MTRM"}, {"moov", "torn", "udta", "MTRM"}, {"torn", "moov", "udta", "MTRM"}};
+    for (size_t k = 0; k < COUNT(kinds); k++) {
+        uint8_t file[32], *to = file, *torn = NULL;
+        for (uint32_t n = 0; n < 4; n++) { /* each holds all that follow but the torn one, which is empty */
+            const bool empty = strcmp(kinds[k][n], "torn") == 0;
+            if (empty) torn = to;
+            to = box(to, kinds[k][n], empty ? 0 : 24 - 8 * n);
+        }
+        ACCEPTED(st_table_text(file, 32, &x, &y, &at));
+        IS(x == 32 && y == 0);
+        put(torn, 7);
+        REFUSED_AT(40, 0, st_table_text(file, 32, &x, &y, &at));
+    }
+}
+
+/* How walks stop: at their end, or at a broken header. */
+static void stop_calls(void) {
+    uint8_t *large = calloc(16777216, 1);
+    broken_sizes();
+    broken_types();
+    broken_tables();
+    if (large) {
+        box(box(large, "free", 16777200) + 16777200, "torn", 1);
+        BROKEN(large, 16777216, 16777208);
+    }
+    free(large);
+}
+
 static void recording_calls(void) {
     const int64_t stamps[3] = {1000, 1010, 1025}, falling[3] = {5, 6, 4}, wide[2] = {INT64_MIN, INT64_MAX};
     int64_t starts[4] = {9, 9, 9, 9}, work[3] = {9, 9, 9}, *many = calloc(16777217, 8);
@@ -477,7 +577,7 @@ static void movie_calls(void) {
     for (size_t shift = 0; shift < 8; shift++) { /* file bytes at 8 addresses */
         uint8_t *moov = room + shift;
         size_t n = make_moov(moov, 25, (const uint32_t[]){2, 1, 1, 2}, 4);
-        IS(walked(moov, n) == 8); /* mvhd, trak, mdia, mdhd, hdlr, minf, stbl, stts */
+        IS(walked(moov, n) == 8); /* mvhd, trak, mdia, hdlr, mdhd, minf, stbl, stts */
         a[0] = b[2] = starts[3] = 9;
         ACCEPTED(st_video_frame_times_of_moov(moov, n, starts, 4, a, 3, b, 3, TIMES));
         IS(x == 3 && y == 25 && p == 1 && q == 4 && zero(a, 3) && zero(b, 3));
@@ -487,8 +587,10 @@ static void movie_calls(void) {
         REFUSED_AT(32, 0, st_video_frame_times_of_moov(moov, n, starts, 4, a, 3, b, 2, TIMES));
         REFUSED_AT(32, 0, st_video_frame_times_of_moov(moov, n, NULL, 0, NULL, 0, NULL, 0, TIMES));
         IS(starts[0] == 9 && zero(a, 3) && zero(b, 3));
-        for (size_t less = 0; less < n; less++) /* every shorter moov */
-            REFUSED_AT(31, 0, st_video_frame_times_of_moov(moov, less, starts, 4, a, 3, b, 3, TIMES));
+        for (size_t less = 0; less < n; less++) { /* every shorter moov: of its mvhd, or of its trak, a header is left or less */
+            const size_t last = less < 24 ? 0 : 24, header = last + 8 <= less;
+            REFUSED_AT(header ? 36 : 31, header * last, st_video_frame_times_of_moov(moov, less, starts, 4, a, 3, b, 3, TIMES));
+        }
         n = make_moov(moov, 25, (const uint32_t[]){1, UINT32_MAX, UINT32_MAX, UINT32_MAX}, 4);
         REFUSED_AT(31, 0, st_video_frame_times_of_moov(moov, n, starts, 4, a, 3, b, 3, TIMES));
         n = make_moov(moov, UINT32_MAX, (const uint32_t[]){2, UINT32_MAX}, 2);
@@ -496,6 +598,107 @@ static void movie_calls(void) {
         IS(x == 2 && y == UINT32_MAX && p == UINT32_MAX && q == 2 * (int64_t)UINT32_MAX && starts[1] == UINT32_MAX);
     }
     REFUSED_AT(31, 0, st_video_frame_times_of_moov(NULL, 0, NULL, 0, NULL, 0, NULL, 0, TIMES));
+}
+
+/* Where the box of a type starts in a movie. */
+static size_t where(const uint8_t *moov, const char *type) {
+    size_t k = 0;
+    while (memcmp(moov + k + 4, type, 4)) k++;
+    return k;
+}
+
+/* Adds an edit that starts at media time 10 to the track, which is the movie's last box; how long the movie is then. */
+static size_t edited(uint8_t *moov, size_t n) {
+    uint8_t *trak = moov + where(moov, "trak");
+    uint8_t *end = full(box(moov + n, "edts", 28), "elst", (const uint32_t[]){1, 0, 10, 65536}, 4);
+    put(trak, (uint32_t)(end - trak));
+    return (size_t)(end - moov);
+}
+
+/* Puts a header of size 7 at an offset where a box starts, and so into the boxes around it; how long the movie is then. */
+static size_t torn_at(uint8_t *moov, size_t n, size_t place) {
+    for (size_t from = 0, size; from < place; from += size) {
+        size = code((const char *)moov + from);
+        if (place < from + size) {
+            put(moov + from, (uint32_t)size + 8);
+            size = 8;
+        }
+    }
+    memmove(moov + place + 8, moov + place, n - place);
+    box(moov + place, "torn", 0);
+    put(moov + place, 7);
+    return n + 8;
+}
+
+static uint8_t movie[320];
+static int64_t shown[4], spare[6];
+
+/* The movie: three frames of 10 ticks, composed at 10, 40 and 20, and the edit; how long it is. */
+static size_t make_edited(void) {
+    const uint32_t stts[] = {1, 3, 10}, ctts[] = {3, 1, 10, 1, 30, 1, 0};
+    return edited(movie, make_movie(movie, 25, stts, COUNT(stts), ctts, COUNT(ctts)));
+}
+
+/* The same with a broken header before the box of a type. */
+static size_t make_torn(const char *type) {
+    size_t n = make_edited();
+    return torn_at(movie, n, where(movie, type));
+}
+
+static uint64_t times_of(size_t n) {
+    for (size_t k = 0; k < 4; k++) shown[k] = 9;
+    for (size_t k = 0; k < 6; k++) spare[k] = 9;
+    return st_video_frame_times_of_moov(movie, n, shown, 3, spare, 3, spare + 3, 3, TIMES);
+}
+
+/* Whether so many frames start there, up to an end; a 9 is as it was lent. */
+static bool shows(uint64_t frames, int64_t first, int64_t second, int64_t third, int64_t end) {
+    const bool told = x == frames && y == 25 && p == 10 && q == end;
+    return told && shown[0] == first && shown[1] == second && shown[2] == third && shown[3] == 9 && zero(spare, 6);
+}
+
+/* A broken header before a box that has to be there. */
+static void hidden_calls(void) {
+    const char *needed[] = {"mvhd", "trak", "mdhd", "minf", "stbl", "stts"}, *naming[] = {"mdia", "hdlr"};
+    size_t n;
+    for (size_t k = 0; k < COUNT(needed); k++) {
+        n = make_torn(needed[k]);
+        REFUSED_AT(36, where(movie, needed[k]) - 8, times_of(n));
+        IS(shown[0] == 9 && shown[1] == 9 && shown[2] == 9 && zero(spare, 6));
+    }
+    /* of a track that isn't known to be of video, how the moov itself ends counts */
+    for (size_t k = 0; k < COUNT(naming); k++) {
+        n = make_torn(naming[k]);
+        REFUSED_AT(31, 0, times_of(n));
+        n = torn_at(movie, n, n);
+        REFUSED_AT(36, n - 8, times_of(n));
+    }
+}
+
+/* A broken header past the track changes nothing; before a box that may be absent it makes it so. */
+static void shown_calls(void) {
+    size_t n = make_edited();
+    ACCEPTED(times_of(n));
+    IS(shows(3, 0, 10, 30, 40));
+    ACCEPTED(times_of(torn_at(movie, n, n)));
+    IS(shows(3, 0, 10, 30, 40));
+    ACCEPTED(times_of(make_torn("ctts")));
+    IS(shows(2, 0, 10, 9, 20));
+    ACCEPTED(times_of(make_torn("edts")));
+    IS(shows(3, 10, 20, 40, 50));
+    ACCEPTED(times_of(make_torn("elst")));
+    IS(shows(3, 10, 20, 40, 50));
+}
+
+/* No video track: the moov can be read to its end, or it has a broken header there. A mvhd that isn't whole is seen first. */
+static void sound_calls(void) {
+    size_t n = make_edited();
+    memcpy(movie + where(movie, "hdlr") + 16, "soun", 4);
+    for (size_t more = 0; more < 8; more++) REFUSED_AT(31, 0, times_of(n + more));
+    n = torn_at(movie, n, n);
+    REFUSED_AT(36, n - 8, times_of(n));
+    movie[8] = 1; /* a mvhd of version 1 is longer */
+    REFUSED_AT(31, 0, times_of(n));
 }
 
 static void judge_calls(void) {
@@ -542,8 +745,12 @@ int main(void) {
     map_calls();
     cut_calls();
     box_calls();
+    stop_calls();
     recording_calls();
     movie_calls();
+    hidden_calls();
+    shown_calls();
+    sound_calls();
     judge_calls();
     if (!failed) puts("ok");
     return failed;

@@ -1,5 +1,5 @@
-//! A case is a call with its arguments; an answer is what document 01 says of it, or for a list of frames document 02, or for
-//! cuts the header; an outcome is the answer together with every lent word and slice afterwards.
+//! A case is a call with its arguments; an answer is what document 01 says of it, or for a list of frames and a bad header document
+//! 02, or for cuts the header; an outcome is the answer together with every lent word and slice afterwards.
 
 use std::{ cell::OnceCell, hash::{ DefaultHasher, Hash, Hasher }, rc::Rc };
 use oracle::segment_table::SegmentTable;

@@ -1,8 +1,8 @@
-//! The numbers that document 01 works out, those of docs/AUDIT.md and crates/audit/specs/Examples.antt, lists of frames by request a
-//! of document 02, and lists of cuts, each with its answer in the form of `text`.
+//! The numbers that document 01 works out, those of docs/AUDIT.md and crates/audit/specs/Examples.antt, lists of frames and bad
+//! headers by requests a and g of document 02, and lists of cuts, each with its answer in the form of `text`.
 
 use std::rc::Rc;
-use crate::{ case::{ Case, Lent, Map, Table }, comparison, generate::{ moovs, tables, videos }, text };
+use crate::{ case::{ Case, Lent, Map, Table }, comparison, generate::{ moovs, tables, videos }, reference::boxes::code, text };
 
 pub type Worked = (Case, &'static str);
 
@@ -17,7 +17,7 @@ pub fn holds() -> bool {
 }
 
 /// All of them
-pub fn worked() -> Vec<Worked> { [numbers(), table(), lists(), maps(), cuts(), times(), clip(), clip_maps(), exports()].concat() }
+pub fn worked() -> Vec<Worked> { [numbers(), table(), lists(), maps(), cuts(), times(), torn(), stopped(), clip(), clip_maps(), exports()].concat() }
 
 /// Ticks, ends that are near, and days
 fn numbers() -> Vec<Worked> {
@@ -168,6 +168,77 @@ fn lasting(durations: &[u32]) -> Case {
     moov.stts = durations.iter().map(|delta| (1, *delta)).collect();
     moov.ctts = None;
     Case::VideoFrameTimesOfMoov { moov: moov.in_order(&[]), room: [durations.len(); 3] }
+}
+
+/// M2 with one header torn: of each box in turn, and of an mdhd that stands after the hdlr; without an mvhd, and without an stts;
+/// with the mvhd a byte short; cut after the mvhd, and 7, 8 and more bytes later; with a bad header after the track, and the same
+/// of a sound track
+fn torn() -> Vec<Worked> {
+    let m2 = moovs::in_the_document(true);
+    let sound = moovs::Moov { handler: *b"soun", ..m2.clone() };
+    let of = |moov: &[u8]| Case::VideoFrameTimesOfMoov { moov: moov.to_vec(), room: [3; 3] };
+    let whole = m2.in_order(&[]);
+    let with = |at: usize, byte: u8| { let mut moov = whole.clone(); moov[at] = byte; moov };
+    let size_of = |at| of(&with(at, 0xff));
+    let mut mdhd_later = [&whole[..76], &whole[100..125], &whole[76..100], &whole[125..]].concat();
+    mdhd_later[101] = 0xff;
+    vec![
+        (size_of(0), "36 0"),
+        (size_of(24), "36 24"),
+        // The edts hides the mdia, the mdhd the hdlr: then there is no video track, and the moov's own walk ended clean
+        (size_of(32), "31 0"),
+        (size_of(68), "31 0"),
+        (size_of(76), "31 0"),
+        (size_of(100), "31 0"),
+        (of(&mdhd_later), "36 101"),
+        (size_of(125), "36 125"),
+        (size_of(133), "36 133"),
+        (size_of(141), "36 141"),
+        // No elst is no edit, no ctts no offsets
+        (size_of(40), "0 0 3 100 10 50 10 20 40"),
+        (size_of(165), "0 0 2 100 10 20 0 10"),
+        (Case::VideoFrameTimesOfMoov { moov: with(141, 0xff), room: [0; 3] }, "36 141"),
+        (of(&with(4, b'x')), "31 0"),
+        (of(&with(145, b'x')), "31 0"),
+        (of(&with(3, 23)), "31 0"),
+        (of(&whole[..24]), "31 0"),
+        (of(&whole[..31]), "31 0"),
+        (of(&whole[..32]), "36 24"),
+        (of(&whole[..204]), "36 24"),
+        (of(&[&whole, BAD].concat()), "0 0 3 100 10 40 0 10 30"),
+        (of(&[&sound.in_order(&[]), BAD].concat()), "36 205"),
+        (of(&[&sound.in_order(&[]), &BAD[..7]].concat()), "31 0"),
+    ]
+}
+
+/// A header that says 7 bytes, one byte less than it has
+const BAD: &[u8] = b"\0\0\0\x07moov";
+
+/// How walks stop: at a bad header, at the first and after a box; at 7 bytes; at a type that isn't text, where it is to be; in a
+/// range, whose offsets are those of the whole
+fn stopped() -> Vec<Worked> {
+    let free: &[u8] = b"\0\0\0\x08free";
+    let child = |parts: &[&[u8]]| Case::Child { payload: parts.concat(), kind: code(b"moov") };
+    let at = |at| Case::Children { payload: [free, BAD].concat(), at };
+    let find = |parts: &[&[u8]], from, to, text_types| Case::FindBox { bytes: parts.concat(), from, to, kind: code(b"moov"), text_types };
+    let moov: &[u8] = b"\0\0\0\x08moov";
+    let no_text: &[u8] = b"\0\0\0\x08fre\x7f";
+    vec![
+        (child(&[BAD]), "36 0"),
+        (child(&[free, BAD]), "36 8"),
+        (child(&[free, &BAD[..7]]), "31 0"),
+        (child(&[moov, BAD]), "0 0 8 0"),
+        // A 64-bit size of which 7 bytes are there
+        (child(&[free, b"\0\0\0\x01moov", &[0; 7]]), "36 8"),
+        (at(0), "0 0 1718773093 8 0 8"),
+        (at(8), "36 8"),
+        (at(9), "31 0"),
+        (find(&[b"..", free, BAD], 2, 18, true), "36 10"),
+        (find(&[b"..", free, BAD], 2, 17, true), "31 0"),
+        (find(&[b"..", no_text, moov], 2, 18, true), "36 2"),
+        (find(&[b"..", no_text, moov], 2, 18, false), "0 0 18 0"),
+        (find(&[b"..", free, moov, no_text], 2, 26, true), "0 0 18 0"),
+    ]
 }
 
 /// The auditor's clip, of three originals at 25 frames a second, the second with a clock

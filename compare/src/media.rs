@@ -1,15 +1,22 @@
-//! Real files: the frame times of each, by the Rust, by the library, and by ffprobe.
+//! Real files: the frame times of each, by the Rust, by the library, and by ffprobe; then what is said of their damaged copies.
+
+mod damaged;
 
 use std::{ fs, io, path::Path, process::Command };
 use crate::{ case::{ Answer, Case }, comparison, generate::boxes::{ Form, boxed }, ours, reference::boxes::{ code, walk } };
 
-/// Compares every file of a folder and prints a table; whether the library and the Rust agree on all
+/// Compares every file of a folder and prints a table, and one of damaged copies; whether the library and the Rust agree on all
 pub fn compare(folder: &Path) -> io::Result<bool> {
     with_a_wide_moov(folder)?;
     println!("| file | what it is | frames | timescale | nominal | end | {} | ffprobe's packets | ffprobe's frames |", if ours::LINKED { "library and Rust" } else { "Rust" });
     println!("|---|---|---:|---:|---:|---:|---|---|---|");
     let mut agreed = true;
-    for (name, what) in files(folder)? { agreed &= line(&folder.join(&name), &format!("`{name}` | {what}"))?; }
+    let files = files(folder)?;
+    for (name, what) in &files { agreed &= line(&folder.join(name), &format!("`{name}` | {what}"))?; }
+    println!();
+    let mut copies = damaged::Table::default();
+    for (name, _) in &files { agreed &= copies.take(name, fs::read(folder.join(name))?); }
+    copies.print();
     Ok(agreed)
 }
 
@@ -27,8 +34,9 @@ fn files(folder: &Path) -> io::Result<Vec<(String, String)>> {
 
 /// One line of the table, which begins so
 fn line(path: &Path, begins: &str) -> io::Result<bool> {
-    let (answer, agrees) = answered(&fs::read(path)?);
-    let said = if agrees { "same" } else { "differ" };
+    let seen = answered(&fs::read(path)?);
+    let (agrees, said) = (seen.is_some(), if seen.is_some() { "same" } else { "differ" });
+    let answer = seen.unwrap_or_default().answer;
     let (packets, frames) = (probe(path, PACKETS)?, probe(path, FRAMES)?);
     if answer.number != 0 {
         println!("| {begins} | | | | | {said}, refused {} | {} packets | {} frames |", answer.number, packets.len(), frames.len());
@@ -39,21 +47,33 @@ fn line(path: &Path, begins: &str) -> io::Result<bool> {
     Ok(agrees)
 }
 
-/// The frame times of a file: what the Rust, the reading of document 01 and the library say of its moov, and whether they agree.
-/// A search in a file of over 16,777,216 bytes is refused; its moov is judged all the same
-fn answered(file: &[u8]) -> (Answer, bool) {
-    let top = walk(file, 0, file.len());
-    let Some(moov) = top.iter().find(|b| b.kind == code(b"moov")) else { return (Answer::refused((31, 0)), true) };
-    let bytes = &file[moov.start..moov.end];
-    let room = [bytes.len(); 3];
-    let case = Case::VideoFrameTimesOfMoov { moov: bytes.to_vec(), room };
-    let found = Case::FindBox { bytes: file.to_vec(), from: 0, to: file.len() as u64, kind: code(b"moov"), text_types: true };
-    let place = comparison::compare(&found);
-    match comparison::compare(&case) {
-        Ok(answer) => (answer, place.is_ok_and(|p| p.number == 30 || p.values[..2] == [moov.start as i128, bytes.len() as i128])),
-        Err(_) => (Answer::default(), false),
-    }
+/// What is said of a file
+#[derive(Default)]
+struct Seen {
+    answer: Answer,
+    /// Where the payload of its moov starts; none where the answer is that of the search for it
+    moov: Option<usize>,
 }
+
+/// What the Rust, the reading of document 01 and the library say of a file's moov, or of the search for it; none where they differ.
+/// A search in a file of over 16,777,216 bytes is refused; its moov is judged all the same
+fn answered(file: &[u8]) -> Option<Seen> {
+    let place = agreed(&Case::FindBox { bytes: file.to_vec(), from: 0, to: file.len() as u64, kind: code(b"moov"), text_types: true })?;
+    let moov = match place.number {
+        0 => place.values[0] as usize..(place.values[0] + place.values[1]) as usize,
+        30 => match walk(file, 0, file.len()).iter().find(|b| b.kind == code(b"moov")) {
+            Some(moov) => moov.start..moov.end,
+            None => return Some(Seen { answer: place, moov: None }),
+        },
+        _ => return Some(Seen { answer: place, moov: None }),
+    };
+    let bytes = file[moov.clone()].to_vec();
+    let room = [bytes.len(); 3];
+    Some(Seen { answer: agreed(&Case::VideoFrameTimesOfMoov { moov: bytes, room })?, moov: Some(moov.start) })
+}
+
+/// What all say of a case; one of which they differ is printed
+fn agreed(case: &Case) -> Option<Answer> { comparison::compare(case).map_err(|_| comparison::show(case)).ok() }
 
 /// How our starts stand beside ffprobe's times
 fn beside(starts: &[i64], times: &[i64]) -> String {

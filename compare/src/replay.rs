@@ -81,7 +81,7 @@ fn chosen(call: Call) -> Vec<(String, String, bool)> {
         let longer = match case { Case::VideoFrameTimesOfMoov { .. } => 300, _ if answer.number == 2 && *taken == 0 => 1400, _ => 0 };
         if worked || *taken < wanted && line.len() <= LINE + longer {
             *taken += 1;
-            let by_rust = matches!(rust::says(&case), Said::Answer(said) if said == answer);
+            let by_rust = match rust::says(&case) { Said::Answer(said) => said == answer, Said::None => answer.number != 32, _ => false };
             lines.push((line, text::answer_line(call, &answer), by_rust));
         }
     };

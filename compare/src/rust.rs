@@ -9,6 +9,8 @@ use crate::reference::{ GREATEST_SCALE, MOST_BYTES, Refusal, table };
 #[derive(Clone, Debug, PartialEq)]
 pub enum Said {
     Answer(Answer),
+    /// No frame times of a moov, which is 31 or 36: it doesn't say why
+    None,
     /// A sum left its type: a release build wraps there, a debug build panics
     Panicked,
     /// The input is outside the domain of demand 2, room aside
@@ -58,7 +60,7 @@ fn said(case: &Case) -> Said {
             validated(t, &VideoFrames::Times(times))
         }),
         Case::BoxSize { data, .. } if data.len() > MOST_BYTES => Said::Outside,
-        Case::BoxSize { data, remaining } => place(reach::box_size(data, *remaining)),
+        Case::BoxSize { data, remaining } => reach::box_size(data, *remaining).map_or(refused((31, 0)), place),
         Case::Children { payload, at } => {
             if payload.len() > MOST_BYTES || *at > payload.len() as u64 { return Said::Outside; }
             child_at(payload, *at)
@@ -66,18 +68,20 @@ fn said(case: &Case) -> Said {
         Case::Child { payload, .. } if payload.len() > MOST_BYTES => Said::Outside,
         Case::Child { payload, kind } => {
             let found = reach::child(payload, &kind.to_be_bytes());
-            place(found.map(|part| (part.as_ptr() as u64 - payload.as_ptr() as u64, part.len() as u64)))
+            let found = found.map(|part| (part.as_ptr() as u64 - payload.as_ptr() as u64, part.len() as u64));
+            found.map_or_else(|| stopped(payload, 0, payload.len() as u64, false), place)
         }
         Case::FindBox { bytes, from, to, kind, text_types } => {
             if bytes.len() > MOST_BYTES || *to > bytes.len() as u64 || from > to { return Said::Outside; }
-            place(reach::find_box(bytes, *from, *to, &kind.to_be_bytes(), *text_types).unwrap())
+            let found = reach::find_box(bytes, *from, *to, &kind.to_be_bytes(), *text_types).unwrap();
+            found.map_or_else(|| stopped(bytes, *from, *to, *text_types), place)
         }
         Case::TableText { file } if file.len() > MOST_BYTES => Said::Outside,
         Case::TableText { file } => table_text(file),
         Case::VideoFrameTimesOfMoov { moov, .. } if moov.len() > MOST_BYTES => Said::Outside,
         Case::VideoFrameTimesOfMoov { moov, .. } => frame_times(moov),
         Case::McrawTimes { timestamps, .. } if outside(timestamps) => Said::Outside,
-        Case::McrawTimes { timestamps, .. } => times(reach::mcraw_times(timestamps)),
+        Case::McrawTimes { timestamps, .. } => reach::mcraw_times(timestamps).map_or(refused((31, 0)), times),
         Case::CheckMcraw { table, timestamps, .. } => of_table(table, |t| check_mcraw(table, t, timestamps)),
         Case::Cut { .. } | Case::Join { .. } | Case::Merge { .. } | Case::Origin { .. } | Case::Cuts { .. } => Said::Silent,
     }
@@ -89,25 +93,43 @@ pub fn children(payload: &[u8]) -> Vec<(u32, u64, u64)> { reach::children(payloa
 fn one(value: u64) -> Said { Said::Answer(Answer::of(&[value as i128])) }
 fn refused(refusal: Refusal) -> Said { Said::Answer(Answer::refused(refusal)) }
 
-/// A place, or 31
-fn place(found: Option<(u64, u64)>) -> Said {
-    match found {
-        Some((a, b)) => Said::Answer(Answer::of(&[a as i128, b as i128])),
-        None => refused((31, 0)),
-    }
-}
+fn place((start, length): (u64, u64)) -> Said { Said::Answer(Answer::of(&[start as i128, length as i128])) }
 
-/// The first child of what follows an offset, or 31. The next one starts where its payload ends
+/// The first child of what follows an offset. The next one starts where its payload ends
 fn child_at(payload: &[u8], at: u64) -> Said {
     match reach::children(&payload[at as usize..]).next() {
         Some((kind, start, length)) => Said::Answer(Answer::of(&[kind as i128, (at + start) as i128, length as i128, (at + start + length) as i128])),
-        None => refused((31, 0)),
+        None => stopped(payload, at, payload.len() as u64, false),
     }
 }
 
-/// Frame times, or 31
-fn times(found: Option<VideoFrameTimes>) -> Said {
-    let Some(times) = found else { return refused((31, 0)) };
+/// Why a search in the range found nothing, told by its children there: 36 at the first of a type that isn't text, where it is
+/// to be, or at what follows them all; 31 where fewer than 8 bytes do
+fn stopped(bytes: &[u8], from: u64, to: u64, text_types: bool) -> Said {
+    let range = &bytes[from as usize..to as usize];
+    let mut at = 0;
+    for (kind, start, length) in reach::children(range) {
+        if text_types && !kind.to_be_bytes().iter().all(|c| c.is_ascii_graphic() || *c == b' ') { break; }
+        at = start + length;
+    }
+    refused(if at + 8 > range.len() as u64 { (31, 0) } else { (36, from + at) })
+}
+
+/// Whether a header of a moov at an offset is one that the Rust has no size for: it is reached over the boxes that end before
+/// it, and through those that it lies in
+pub fn is_bad_header(moov: &[u8], at: u64) -> bool {
+    let (mut from, mut to) = (0, moov.len() as u64);
+    while from <= at && to - from >= 8 {
+        match reach::box_size(&moov[from as usize..to as usize], to - from) {
+            None => return from == at,
+            Some((size, header)) if at < from + size => (from, to) = (from + header, from + size),
+            Some((size, _)) => from += size,
+        }
+    }
+    false
+}
+
+fn times(times: VideoFrameTimes) -> Said {
     let values = [times.starts.len() as i128, times.timescale as i128, times.nominal as i128, times.end as i128];
     Said::Answer(Answer { longs: times.starts, ..Answer::of(&values) })
 }
@@ -115,8 +137,8 @@ fn times(found: Option<VideoFrameTimes>) -> Said {
 /// The Rust looks at the nominal last. Where a time left its type before that, a release build still answers None
 fn frame_times(moov: &[u8]) -> Said {
     match catch_unwind(|| reach::video_frame_times_of_moov(moov)) {
-        Ok(found) => times(found),
-        Err(_) if released::segment_table::reach::video_frame_times_of_moov(moov).is_none() => refused((31, 0)),
+        Ok(found) => found.map_or(Said::None, times),
+        Err(_) if released::segment_table::reach::video_frame_times_of_moov(moov).is_none() => Said::None,
         Err(_) => Said::Panicked,
     }
 }
@@ -287,7 +309,7 @@ fn table_text(file: &[u8]) -> Said {
         _ => 0,
     };
     match number {
-        0 => { assert_eq!(places.len(), 1); place(Some(places[0])) }
+        0 => { assert_eq!(places.len(), 1); place(places[0]) }
         number => refused((number, 0)),
     }
 }

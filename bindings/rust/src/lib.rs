@@ -50,7 +50,8 @@ use std::fmt;
 pub struct Refusal {
     /// Which of the paper's refusals it is.
     pub number: u64,
-    /// The source, segment, row, range or timestamp that is refused, by the number; 0 where there is none.
+    /// The source, segment, row, range or timestamp that is refused, or a broken header's offset, by the number; 0 where there
+    /// is none.
     pub index: u64,
 }
 

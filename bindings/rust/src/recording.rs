@@ -38,13 +38,16 @@ pub fn mcraw_times(timestamps: &[i64]) -> Result<FrameTimes, Refusal> {
 /// The room that is lent first for a moov's frames.
 const ROOM: usize = 4096;
 
-/// The frame times of the first video track of a moov, of the box's payload. Refuses 30, 31, 33.
+/// The frame times of the first video track of a moov, of the box's payload. Refuses 30; 31 where there is no such track or no
+/// times are to be had of it, or 36 where a broken header hides a box that is needed, with its offset in the payload; 33.
 ///
 /// ```
 /// let file = std::fs::read("../../crates/frametimes_m1/stdin").unwrap();
 /// let moov = segment_table::find_box(&file, 0..file.len() as u64, *b"moov", false)?;
 /// let times = segment_table::video_frame_times_of_moov(moov)?;
 /// assert_eq!((times.scale, times.nominal, times.end, times.starts), (100, 10, 50, vec![10, 20, 40]));
+/// let refusal = segment_table::video_frame_times_of_moov(&moov[..moov.len() - 1]).unwrap_err();
+/// assert_eq!((refusal.number, refusal.index), (36, 24));
 /// # Ok::<(), segment_table::Refusal>(())
 /// ```
 pub fn video_frame_times_of_moov(moov: &[u8]) -> Result<FrameTimes, Refusal> {

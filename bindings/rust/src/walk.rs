@@ -32,8 +32,8 @@ fn part(bytes: &[u8], call: impl FnOnce(&mut u64, &mut u64, &mut u64) -> u64) ->
     Ok(&bytes[start as usize..][..length as usize])
 }
 
-/// The child boxes of a box's payload, type and payload of each, in order, up to the first one that doesn't fit. Refuses
-/// 30.
+/// The child boxes of a box's payload, type and payload of each, in order, up to their end or to a broken header;
+/// [`Children::end`] says which. Refuses 30.
 ///
 /// ```
 /// let payload = b"\0\0\0\x0aname42\0\0\0\x08free\0\0\0\x09torn";
@@ -43,12 +43,15 @@ fn part(bytes: &[u8], call: impl FnOnce(&mut u64, &mut u64, &mut u64) -> u64) ->
 /// ```
 pub fn children(payload: &[u8]) -> Result<Children<'_>, Refusal> {
     match box_at(payload, 0) {
-        Err(refusal) if refusal.number != NO_BOX => Err(refusal),
+        Err(refusal) if refusal.number == TOO_LONG => Err(refusal),
         _ => Ok(Children { payload, at: 0 }),
     }
 }
 
-/// The refusal where no box is.
+/// The refusal of more bytes than a call takes.
+const TOO_LONG: u64 = 30;
+
+/// The refusal where the boxes have ended: fewer than 8 bytes are left.
 const NO_BOX: u64 = 31;
 
 /// The box at an offset: its type, its payload, and the offset of the next one.
@@ -60,12 +63,34 @@ fn box_at(payload: &[u8], at: u64) -> Result<([u8; 4], &[u8], u64), Refusal> {
     Ok((kind.to_be_bytes(), found, next))
 }
 
-/// The child boxes of a payload, which [`children`] gives.
+/// The child boxes of a payload, which [`children`] gives. After the last one it gives none, however the boxes end.
 #[derive(Clone, Debug)]
 #[must_use]
 pub struct Children<'a> {
     payload: &'a [u8],
     at: u64,
+}
+
+impl Children<'_> {
+    /// How the boxes end, past those that weren't asked for yet: `Ok` where fewer than 8 bytes are left, else 36 with the broken
+    /// header's offset in the payload.
+    ///
+    /// ```
+    /// let mut boxes = segment_table::children(b"\0\0\0\x0aname42\0\0\0\x09torn")?;
+    /// for (kind, payload) in boxes.by_ref() {
+    ///     assert_eq!((kind, payload), (*b"name", &b"42"[..]));
+    /// }
+    /// let refusal = boxes.end().unwrap_err();
+    /// assert_eq!((refusal.number, refusal.index), (36, 10));
+    /// # Ok::<(), segment_table::Refusal>(())
+    /// ```
+    pub fn end(mut self) -> Result<(), Refusal> {
+        self.by_ref().for_each(drop);
+        match box_at(self.payload, self.at) {
+            Err(refusal) if refusal.number != NO_BOX => Err(refusal),
+            _ => Ok(()),
+        }
+    }
 }
 
 impl<'a> Iterator for Children<'a> {
@@ -80,11 +105,14 @@ impl<'a> Iterator for Children<'a> {
 
 impl FusedIterator for Children<'_> {}
 
-/// The payload of the first child of a type. Refuses 30, 31.
+/// The payload of the first child of a type. Refuses 30; 31 where the boxes end without it, or 36 where a broken header ends
+/// them before, with its offset in the payload.
 ///
 /// ```
 /// assert_eq!(segment_table::child(b"\0\0\0\x0aname42", *b"name"), Ok(&b"42"[..]));
-/// assert_eq!(segment_table::child(b"", *b"name").unwrap_err().number, 31);
+/// assert_eq!(segment_table::child(b"\0\0\0\x08free", *b"name").unwrap_err().number, 31);
+/// let refusal = segment_table::child(b"\0\0\0\x08free\0\0\0\x0bname42", *b"name").unwrap_err();
+/// assert_eq!((refusal.number, refusal.index), (36, 8));
 /// ```
 pub fn child(payload: &[u8], kind: [u8; 4]) -> Result<&[u8], Refusal> {
     part(payload, |start, length, index| unsafe {
@@ -92,13 +120,16 @@ pub fn child(payload: &[u8], kind: [u8; 4]) -> Result<&[u8], Refusal> {
     })
 }
 
-/// The payload of the first box of a type in a range of the bytes; with `text_types` the search ends at a type with a byte
-/// outside 20..7E hex. Refuses 30, 42, 31.
+/// The payload of the first box of a type in a range of the bytes. Refuses 30, 42; 31 where the boxes end without it, or 36
+/// where a broken header ends them before, with its offset in the whole of the bytes. With `text_types` a type with a byte outside
+/// 20..7E hex makes a header broken.
 ///
 /// ```
 /// let file = b"\0\0\0\x08free\0\0\0\x0amoov42";
 /// assert_eq!(segment_table::find_box(file, 0..18, *b"moov", true), Ok(&b"42"[..]));
 /// assert_eq!(segment_table::find_box(file, 0..19, *b"moov", true).unwrap_err().number, 42);
+/// let refusal = segment_table::find_box(file, 8..17, *b"moov", true).unwrap_err();
+/// assert_eq!((refusal.number, refusal.index), (36, 8));
 /// ```
 pub fn find_box(bytes: &[u8], range: Range<u64>, kind: [u8; 4], text_types: bool) -> Result<&[u8], Refusal> {
     part(bytes, |start, length, index| unsafe {
@@ -107,7 +138,8 @@ pub fn find_box(bytes: &[u8], range: Range<u64>, kind: [u8; 4], text_types: bool
     })
 }
 
-/// The text of a file's segment table, the payload of the only moov/udta/MTRM box. Refuses 30, 40, 41.
+/// The text of a file's segment table, the payload of the only moov/udta/MTRM box. Refuses 30, 40 (also where a broken header
+/// hides the box), 41.
 ///
 /// ```
 /// let file = b"\0\0\0\x1amoov\0\0\0\x12udta\0\0\0\x0aMTRM{}";

@@ -97,6 +97,39 @@ fn boxes() {
     refused(41, 0, table_text(b"\0\0\0\x20moov\0\0\0\x18udta\0\0\0\x08MTRM\0\0\0\x08MTRM"));
 }
 
+/// Two boxes, then a broken header, then a moov: its offset is that in the whole of the bytes. Of the table nothing else is said.
+#[test]
+fn broken_headers() {
+    let long = |size: u64| [&b"\0\0\0\x01long"[..], &size.to_be_bytes()].concat();
+    let broken = [b"\0\0\0\x07torn".to_vec(), b"\xff\xff\xff\xfftorn".to_vec(), long(15), long(25), long((1 << 32) + 16), long(u64::MAX)];
+    for torn in broken {
+        let file = [&b"\0\0\0\x08free\0\0\0\x08free"[..], &torn, b"\0\0\0\x08moov"].concat();
+        let end = file.len() as u64;
+        refused(36, 16, child(&file, *b"moov"));
+        refused(36, 16, children(&file).unwrap().end());
+        for from in [0, 8, 16] {
+            refused(36, 16, find_box(&file, from..end, *b"moov", false));
+            refused(36, 16, find_box(&file, from..24, *b"moov", true));
+            refused(31, 0, find_box(&file, from..23, *b"moov", true));
+        }
+        refused(40, 0, table_text(&file));
+    }
+}
+
+/// A type outside 20..7E hex breaks a header where types are text, and nowhere else.
+#[test]
+fn broken_types() {
+    for (byte, broken) in [(0x1f, true), (0x20, false), (0x7e, false), (0x7f, true)] {
+        for k in 12..16 {
+            let mut file = *b"\0\0\0\x08free\0\0\0\x08text\0\0\0\x08moov";
+            file[k] = byte;
+            let found = find_box(&file, 8..24, *b"moov", true);
+            if broken { refused(36, 8, found) } else { assert_eq!(found, Ok(&b""[..])) }
+            assert_eq!(find_box(&file, 8..24, *b"moov", false), Ok(&b""[..]));
+        }
+    }
+}
+
 #[test]
 fn recordings() {
     refused(30, 0, mcraw_times(&vec![0; 16_777_217]));
@@ -174,6 +207,71 @@ fn movies() {
     refused(31, 0, video_frame_times_of_moov(b""));
     refused(31, 0, video_frame_times_of_moov(&moov(0, &[3, 10])));
     refused(31, 0, video_frame_times_of_moov(&moov(100, &[5000, 10])));
+}
+
+/// A header whose size is less than its own.
+const TORN: &[u8] = b"\0\0\0\x07torn";
+
+/// Where the box of a type starts.
+fn place(moov: &[u8], kind: &[u8; 4]) -> usize {
+    moov.windows(4).position(|found| found == kind).unwrap() - 4
+}
+
+/// The moov without the box of a type: it is of another one.
+fn missing(moov: &[u8], kind: &[u8; 4]) -> Vec<u8> {
+    let at = place(moov, kind);
+    [&moov[..at + 4], b"free", &moov[at + 8..]].concat()
+}
+
+/// The moov with a broken header before the box of a type, in those around it.
+fn broken(moov: &[u8], kind: &[u8; 4]) -> Vec<u8> {
+    let at = place(moov, kind);
+    let mut torn = [&moov[..at], TORN, &moov[at..]].concat();
+    let mut from = 0;
+    while from < at {
+        let size = u32::from_be_bytes(moov[from..from + 4].try_into().unwrap());
+        let around = at < from + size as usize;
+        if around { torn[from..from + 4].copy_from_slice(&(size + 8).to_be_bytes()); }
+        from += if around { 8 } else { size as usize };
+    }
+    torn
+}
+
+/// A stored movie with a box missing, and with a broken header before it.
+#[test]
+fn missing_or_broken() {
+    let file = std::fs::read("../../crates/frametimes_late/stdin").unwrap();
+    let moov = find_box(&file, 0..file.len() as u64, *b"moov", true).unwrap();
+    let whole = video_frame_times_of_moov(moov).unwrap();
+    for kind in [b"mvhd", b"trak", b"minf", b"stbl", b"stts"] {
+        refused(31, 0, video_frame_times_of_moov(&missing(moov, kind)));
+        refused(36, place(moov, kind) as u64, video_frame_times_of_moov(&broken(moov, kind)));
+    }
+    // a track that isn't known to be of video: how the moov itself ends counts
+    for kind in [b"mdia", b"mdhd", b"hdlr"] {
+        let torn = broken(moov, kind);
+        refused(31, 0, video_frame_times_of_moov(&missing(moov, kind)));
+        refused(31, 0, video_frame_times_of_moov(&torn));
+        refused(36, torn.len() as u64, video_frame_times_of_moov(&[&torn, TORN].concat()));
+    }
+    // what may be absent
+    for kind in [b"ctts", b"edts", b"elst"] {
+        let absent = video_frame_times_of_moov(&missing(moov, kind)).unwrap();
+        assert_ne!(absent, whole);
+        assert_eq!(video_frame_times_of_moov(&broken(moov, kind)), Ok(absent));
+    }
+    assert_eq!(video_frame_times_of_moov(&[moov, TORN].concat()), Ok(whole));
+}
+
+/// A moov without a video track, and a broken header after its mvhd; a mvhd that isn't whole is seen first.
+#[test]
+fn without_a_track() {
+    let (good, short) = (full(b"mvhd", &[0, 0, 100]), full(b"mvhd", &[0, 0]));
+    refused(31, 0, video_frame_times_of_moov(&good));
+    refused(31, 0, video_frame_times_of_moov(&[&good, &TORN[..7]].concat()));
+    refused(36, 24, video_frame_times_of_moov(&[&good, TORN].concat()));
+    refused(36, 0, video_frame_times_of_moov(&[TORN, &good].concat()));
+    refused(31, 0, video_frame_times_of_moov(&[&short, TORN].concat()));
 }
 
 /// Too little room is what the safe calls never lend.

@@ -1,5 +1,5 @@
 //! The walk over a payload's boxes.
-use segment_table::{child, children, find_box};
+use segment_table::{child, children, find_box, Refusal};
 
 type Found<'a> = Vec<([u8; 4], &'a [u8])>;
 
@@ -27,6 +27,27 @@ fn the_walk_ends_at_what_does_not_fit_and_stays_there() {
         assert_eq!(boxes.next(), Some((*b"free", &b""[..])));
         assert_eq!([boxes.next(), boxes.next()], [None, None]);
     }
+}
+
+/// How the walk over a payload ends, asked before it, during it and after it.
+#[track_caller]
+fn ends(payload: &[u8], end: Result<(), Refusal>) {
+    let mut boxes = children(payload).unwrap();
+    assert_eq!(boxes.clone().end(), end);
+    while boxes.next().is_some() { assert_eq!(boxes.clone().end(), end); }
+    assert_eq!(boxes.end(), end);
+}
+
+#[test]
+fn the_walk_says_how_it_ended() {
+    let good = b"\0\0\0\x08free\0\0\0\x09more!";
+    for left in 0..8 { ends(&[&good[..], &b"\0\0\0\x07torn"[..left]].concat(), Ok(())); }
+    for bad in [&b"\0\0\0\x07free"[..], b"\0\0\0\x09free", b"\0\0\0\x01free\0\0\0\0\0\0\0", b"\xff\xff\xff\xfffree"] {
+        ends(bad, Err(Refusal { number: 36, index: 0 }));
+        ends(&[&good[..], bad].concat(), Err(Refusal { number: 36, index: 17 }));
+        assert_eq!(walked(bad), Found::new());
+    }
+    ends(b"\0\0\0\0last", Ok(()));
 }
 
 #[test]

@@ -1,6 +1,6 @@
 //! Boxes: sizes, children, searches in a range, and files with an MTRM box.
 
-use super::{ Emit, damaged };
+use super::{ Emit, damaged, levels::{ self, Piece, around, by_type, every_way, everywhere, in_every_form, leaf, written } };
 use crate::{ case::Case, random::Random, reference::boxes::{ code, walk } };
 
 /// How a box says its size
@@ -80,9 +80,23 @@ fn every_payload(mut take: impl FnMut(&[u8])) {
     }
 }
 
-/// The first child of each of two types of every one of them
+/// Boxes in every form, each torn in every way; types that aren't text
+fn every_tear_of(top: &[Piece], mut take: impl FnMut(Vec<u8>)) {
+    for level in in_every_form(top) {
+        for torn in [everywhere(&level, every_way), everywhere(&level, by_type)].concat() { take(written(&torn)); }
+    }
+}
+
+/// The same of a few boxes at the top level, one of them with boxes in it
+fn every_tear(take: impl FnMut(Vec<u8>)) {
+    let moov = around(b"moov", vec![leaf(b"mvhd", &[1; 4]), leaf(b"udta", &[])]);
+    every_tear_of(&[leaf(b"ftyp", b"isom"), leaf(b"free", &[]), moov, leaf(b"mdat", &[5; 9])], take);
+}
+
+/// The first child of each of two types of every one of them; of types that come first, later and not at all, where a header is torn
 pub fn every_child(emit: Emit) {
     every_payload(|payload| for kind in [KINDS[0], KINDS[1]] { emit(Case::Child { payload: payload.to_vec(), kind: code(kind) }) });
+    every_tear(|payload| for kind in [b"ftyp", b"moov", b"mdat", b"udta"] { emit(Case::Child { payload: payload.clone(), kind: code(kind) }) });
 }
 
 /// The offsets that a walk of a payload reaches, its end among them where it gets there
@@ -92,7 +106,7 @@ fn reached(payload: &[u8]) -> Vec<u64> {
 }
 
 /// Every one of them at the offsets that a walk reaches, one before and after each, at its end and past it; boxes of every
-/// form at every offset
+/// form at every offset; those with a torn header at the offsets that are reached
 pub fn every_offset(emit: Emit) {
     every_payload(|payload| {
         let end = payload.len() as u64;
@@ -103,6 +117,7 @@ pub fn every_offset(emit: Emit) {
     });
     let payload = of_every_form();
     for at in (0..=payload.len() as u64 + 9).chain(SIZES) { emit(Case::Children { payload: payload.clone(), at }); }
+    every_tear(|payload| for at in reached(&payload) { emit(Case::Children { payload: payload.clone(), at }) });
 }
 
 /// Boxes of every form, one of them with a box inside
@@ -129,23 +144,27 @@ fn kind(r: &mut Random, bytes: &[u8]) -> u32 {
     code(r.pick(&KINDS))
 }
 
+/// A run of boxes as it is, damaged, or with a size overwritten
+fn run(r: &mut Random) -> Vec<u8> {
+    let bytes = tree(r, 2);
+    match r.below(4) { 0 => damaged(r, bytes), 1 => levels::torn(r, bytes), _ => bytes }
+}
+
 /// A run of boxes, good or damaged, from its start, at each offset that a walk reaches, and at any other
 pub fn offsets(r: &mut Random, emit: Emit) {
-    let mut payload = tree(r, 2);
-    if r.one_in(2) { payload = damaged(r, payload); }
+    let payload = run(r);
     let end = payload.len() as u64;
     for at in reached(&payload) { emit(Case::Children { payload: payload.clone(), at }); }
     for at in [r.below(end + 1), end, end + 1 + r.below(3), r.word()] { emit(Case::Children { payload: payload.clone(), at }); }
 }
 
 pub fn child(r: &mut Random, emit: Emit) {
-    let mut payload = tree(r, 2);
-    if r.one_in(2) { payload = damaged(r, payload); }
+    let payload = run(r);
     let kind = kind(r, &payload);
     emit(Case::Child { payload, kind });
 }
 
-/// Every range of a few boxes
+/// Every range of a few boxes; every byte of a type; torn headers, in the whole and in a range of it
 pub fn every_range(emit: Emit) {
     let bytes = of_every_form();
     for (from, to) in (0..=bytes.len() as u64 + 2).flat_map(|a| (0..=bytes.len() as u64 + 2).map(move |b| (a, b))) {
@@ -161,11 +180,17 @@ pub fn every_range(emit: Emit) {
             emit(Case::FindBox { bytes: bytes.clone(), from: 0, to: 16, kind: u32::from_be_bytes(bytes[4..8].try_into().unwrap()), text_types: true });
         }
     }
+    every_tear(|torn| for (before, after) in [(0, 0), (5, 3)] {
+        let bytes = [&vec![0xff; before][..], &torn, &vec![0; after]].concat();
+        let (from, to) = (before as u64, (before + torn.len()) as u64);
+        for (kind, text_types) in [b"ftyp", b"moov", b"mdat"].into_iter().flat_map(|kind| [false, true].map(|text| (kind, text))) {
+            emit(Case::FindBox { bytes: bytes.clone(), from, to, kind: code(kind), text_types });
+        }
+    });
 }
 
 pub fn range(r: &mut Random, emit: Emit) {
-    let mut bytes = tree(r, 2);
-    if r.one_in(2) { bytes = damaged(r, bytes); }
+    let bytes = run(r);
     let len = bytes.len() as u64;
     let to = match r.below(10) { 0 => r.below(len + 3), 1 => r.word(), _ => len };
     let from = match r.below(10) { 0 => r.below(len + 3), 1 => r.word(), 2 => r.below(3), 3 => to, _ => 0 };
@@ -204,11 +229,19 @@ fn whole_file(r: &mut Random) -> Vec<u8> {
     bytes
 }
 
-/// A file, its damaged copies, and now and then each of its beginnings
+/// A file with one segment table, torn in every way, in every form; types that aren't text
+pub fn every_file(emit: Emit) {
+    let udta = around(b"udta", vec![leaf(b"MTRM", b"{}")]);
+    let moov = around(b"moov", vec![leaf(b"mvhd", &[1; 4]), udta]);
+    every_tear_of(&[leaf(b"ftyp", b"isom"), leaf(b"free", &[]), moov], |file| emit(Case::TableText { file }));
+}
+
+/// A file, its damaged copies, and now and then one with a size overwritten, and each of its beginnings
 pub fn file(r: &mut Random, emit: Emit) {
     let file = whole_file(r);
     emit(Case::TableText { file: file.clone() });
     for _ in 0..r.below(3) { let file = damaged(r, file.clone()); emit(Case::TableText { file }); }
+    if r.one_in(4) { let file = levels::torn(r, file.clone()); emit(Case::TableText { file }); }
     if r.one_in(100) {
         for len in 0..file.len() { emit(Case::TableText { file: file[..len].to_vec() }); }
     }

@@ -3,6 +3,7 @@
 
 pub mod boxes;
 mod cuts;
+mod levels;
 mod limit;
 mod lists;
 pub mod maps;
@@ -25,6 +26,7 @@ pub fn fixed(call: Call, emit: Emit) {
         Call::Children => boxes::every_offset(emit),
         Call::Child => boxes::every_child(emit),
         Call::FindBox => boxes::every_range(emit),
+        Call::TableText => boxes::every_file(emit),
         Call::VideoFrameTimesOfMoov => moovs::fixed(emit),
         Call::McrawTimes => recordings::fixed(emit),
         Call::Check | Call::SegmentOfFrame | Call::SegmentOfFrameRecords | Call::SegmentOfTimeUs | Call::Continues
@@ -32,7 +34,7 @@ pub fn fixed(call: Call, emit: Emit) {
         Call::ValidateConstant => videos::near_in_the_document(emit),
         Call::Cut | Call::Join | Call::Merge | Call::Origin => maps::fixed(call, emit),
         Call::Cuts => cuts::fixed(emit),
-        Call::TableText | Call::ValidateTimes | Call::CheckMcraw => {}
+        Call::ValidateTimes | Call::CheckMcraw => {}
     }
     limit::cases(call, emit);
 }

@@ -1,6 +1,7 @@
 //! Moovs with a video track: both versions, edit lists of every shape, offsets of either sign, tables of every length.
 
 use super::{ Emit, boxes::{ Form, any_box, boxed }, damaged, room };
+use super::levels::{ self, Level, Piece, among_others, around, backwards, every_way, everywhere, few_ways, in_every_form, leaf, with_payload, written };
 use crate::{ case::Case, random::Random };
 
 /// What a moov is made of
@@ -108,16 +109,19 @@ impl Moov {
     /// The moov's payload with these boxes between its header and its track
     pub fn after(&self, boxes: &[u8]) -> Vec<u8> { [&self.mvhd(), boxes, &self.track(&[], &[])].concat() }
 
-    pub fn mvhd(&self) -> Vec<u8> { boxed(Form::Short, b"mvhd", &self.movie.payload()) }
+    pub fn mvhd(&self) -> Vec<u8> { written(&[self.head()]) }
 
     /// The track in the usual order, with these bytes before its mdia, and before the sample tables
-    pub fn track(&self, before_mdia: &[u8], before_tables: &[u8]) -> Vec<u8> {
-        let put = |kind: &[u8; 4], payload: &[u8]| boxed(Form::Short, kind, payload);
-        let ctts = self.ctts().map_or(vec![], |c| put(b"ctts", &c));
-        let stbl = put(b"stbl", &[before_tables, &put(b"stts", &self.stts()), &ctts].concat());
-        let mdia = [put(b"mdhd", &self.media.payload()), put(b"hdlr", &self.hdlr()), put(b"minf", &stbl)].concat();
-        let edts = self.elst.as_ref().map_or(vec![], |e| put(b"edts", &put(b"elst", &e.payload())));
-        put(b"trak", &[&edts, before_mdia, &put(b"mdia", &mdia)].concat())
+    pub fn track(&self, before_mdia: &[u8], before_tables: &[u8]) -> Vec<u8> { written(&[self.trak(before_mdia, before_tables)]) }
+
+    fn head(&self) -> Piece { leaf(b"mvhd", &self.movie.payload()) }
+
+    fn trak(&self, before_mdia: &[u8], before_tables: &[u8]) -> Piece {
+        let mut tables = vec![Piece::Bytes(before_tables.to_vec()), leaf(b"stts", &self.stts())];
+        tables.extend(self.ctts().map(|ctts| leaf(b"ctts", &ctts)));
+        let mdia = vec![leaf(b"mdhd", &self.media.payload()), leaf(b"hdlr", &self.hdlr()), around(b"minf", vec![around(b"stbl", tables)])];
+        let edts = self.elst.iter().map(|edits| around(b"edts", vec![leaf(b"elst", &edits.payload())]));
+        around(b"trak", edts.chain([Piece::Bytes(before_mdia.to_vec()), around(b"mdia", mdia)]).collect())
     }
 
     /// The moov's payload with boxes in any form and order, others among them, and parts that aren't whole now and then
@@ -291,12 +295,15 @@ fn emit_moov(r: &mut Random, moov: Vec<u8>, total: usize, emit: Emit) {
     emit(Case::VideoFrameTimesOfMoov { moov, room });
 }
 
-/// A moov as it is, two damaged copies; now and then one whose frames come to its byte count, or each of its beginnings
+/// A moov as it is, two copies that are damaged or torn; now and then one whose frames come to its byte count, or each of its beginnings
 pub fn cases(r: &mut Random, emit: Emit) {
     let mut plan = if r.one_in(3) { any(r) } else { sound(r) };
     let moov = plan.in_any_form(r);
     emit_moov(r, moov.clone(), plan.total(), emit);
-    for _ in 0..r.below(3) { let copy = damaged(r, moov.clone()); emit_moov(r, copy, plan.total(), emit); }
+    for _ in 0..r.below(3) {
+        let copy = if r.one_in(2) { levels::torn(r, moov.clone()) } else { damaged(r, moov.clone()) };
+        emit_moov(r, copy, plan.total(), emit);
+    }
     if r.one_in(60) {
         plan.stts = vec![(1, 7), (0, 10)];
         let last = r.pick(&[Last::Ctts, Last::Elst, Last::Mvhd]);
@@ -335,6 +342,42 @@ pub fn fixed(emit: Emit) {
         emit(Case::VideoFrameTimesOfMoov { moov: m2.ending_in(Last::Elst), room: [k % 5, k / 5 % 5, k / 25] });
     }
     every_edit(emit);
+    every_tear(emit);
+}
+
+/// Moovs of one track, forwards, backwards and among other boxes; of sound first, sound alone, two videos, and no track
+fn tracks() -> [Level; 7] {
+    let (m2, m1) = (in_the_document(true), in_the_document(false));
+    let sound = Moov { handler: *b"soun", ..m1.clone() }.trak(&[], &[]);
+    let (video, other, head) = (m2.trak(&[], &[]), m1.trak(&[], &[]), m2.head());
+    let one = vec![head.clone(), video.clone()];
+    [
+        backwards(&one), among_others(&one), one, vec![head.clone(), sound.clone(), video.clone()], vec![sound.clone(), head.clone()],
+        vec![video, head.clone(), other, sound], vec![head],
+    ]
+}
+
+/// Moovs of one track with an mvhd or an mdhd that is empty, a byte short, or of timescale 0; in both orders
+fn bad_heads() -> Vec<Level> {
+    let m2 = in_the_document(true);
+    let [head, long] = [0, 1].map(|version| Head { version, scale: 0 }.payload());
+    let mut all = Vec::new();
+    for payload in [&[][..], &head[..15], &long[..23], &head, &long] {
+        for kind in [b"mvhd", b"mdhd"] {
+            let level = with_payload(&[m2.head(), m2.trak(&[], &[])], kind, payload);
+            all.extend([backwards(&level), level]);
+        }
+    }
+    all
+}
+
+/// One header torn in every way at every place, in boxes of every form; two headers torn in a few ways; with room and without
+fn every_tear(emit: Emit) {
+    let mut take = |level: &Level| for room in [[3; 3], [2; 3]] { emit(Case::VideoFrameTimesOfMoov { moov: written(level), room }) };
+    for level in tracks().iter().flat_map(|level| in_every_form(level)).chain(bad_heads()) {
+        everywhere(&level, every_way).iter().for_each(&mut take);
+        for once in everywhere(&level, few_ways) { everywhere(&once, few_ways).iter().for_each(&mut take); }
+    }
 }
 
 /// Edit lists of these numbers, in both versions, with these timescales

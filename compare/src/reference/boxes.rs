@@ -10,6 +10,21 @@ pub struct Box {
     pub end: usize,
 }
 
+/// How a walk stops that finds no box
+#[derive(Clone, Copy)]
+pub enum Stop {
+    /// Fewer than 8 bytes are left
+    CleanEnd,
+    /// The header at this offset
+    BadHeader(usize),
+}
+
+impl From<Stop> for Refusal {
+    fn from(stop: Stop) -> Refusal {
+        match stop { Stop::CleanEnd => (31, 0), Stop::BadHeader(at) => (36, at as u64) }
+    }
+}
+
 /// The code of a type, its four bytes big-endian
 pub const fn code(kind: &[u8; 4]) -> u32 { u32::from_be_bytes(*kind) }
 
@@ -34,26 +49,39 @@ pub fn box_size(data: &[u8], remaining: u64) -> Result<(u64, u64), Refusal> {
     sized(data, remaining).ok_or((31, 0))
 }
 
-/// The box at the start of `bytes[at..to]`; none where its header isn't whole or its size doesn't fit
-fn box_at(bytes: &[u8], at: usize, to: usize) -> Option<Box> {
+/// The box at the start of `bytes[at..to]`; a bad header is one that isn't whole or whose size doesn't fit
+fn box_at(bytes: &[u8], at: usize, to: usize) -> Result<Box, Stop> {
     let rest = &bytes[at..to];
-    if rest.len() < 8 { return None; }
-    let (size, header) = sized(rest, rest.len() as u64)?;
-    Some(Box { kind: number(rest, 4, 4)? as u32, start: at + header as usize, end: at + size as usize })
+    if rest.len() < 8 { return Err(Stop::CleanEnd); }
+    let (size, header) = sized(rest, rest.len() as u64).ok_or(Stop::BadHeader(at))?;
+    let kind = u32::from_be_bytes([rest[4], rest[5], rest[6], rest[7]]);
+    Ok(Box { kind, start: at + header as usize, end: at + size as usize })
+}
+
+/// The boxes of `bytes[from..to]` in order, and how the walk stopped after them
+fn walked(bytes: &[u8], from: usize, to: usize) -> (Vec<Box>, Stop) {
+    let (mut boxes, mut at) = (Vec::new(), from);
+    loop {
+        match box_at(bytes, at, to) {
+            Ok(found) => { boxes.push(found); at = found.end; }
+            Err(stop) => return (boxes, stop),
+        }
+    }
 }
 
 /// The boxes of `bytes[from..to]` in order, up to the first that isn't whole
-pub fn walk(bytes: &[u8], from: usize, to: usize) -> Vec<Box> {
-    std::iter::successors(box_at(bytes, from, to), |found| box_at(bytes, found.end, to)).collect()
-}
+pub fn walk(bytes: &[u8], from: usize, to: usize) -> Vec<Box> { walked(bytes, from, to).0 }
 
-/// The first box of a type in the range; with `text_types` the search stops at a type with a byte outside 20..7E hex
-fn first(bytes: &[u8], from: usize, to: usize, kind: u32, text_types: bool) -> Option<Box> {
-    for found in walk(bytes, from, to) {
-        if text_types && !found.kind.to_be_bytes().iter().all(|b| (0x20..=0x7e).contains(b)) { return None; }
-        if found.kind == kind { return Some(found); }
+/// The first box of a type in the range; with `text_types` a type with a byte outside 20..7E hex makes a bad header too
+fn first(bytes: &[u8], from: usize, to: usize, kind: u32, text_types: bool) -> Result<Box, Stop> {
+    let (boxes, stop) = walked(bytes, from, to);
+    let mut header = from;
+    for found in boxes {
+        if text_types && !found.kind.to_be_bytes().iter().all(|b| (0x20..=0x7e).contains(b)) { return Err(Stop::BadHeader(header)); }
+        if found.kind == kind { return Ok(found); }
+        header = found.end;
     }
-    None
+    Err(stop)
 }
 
 /// The place of a payload: start and length
@@ -63,27 +91,27 @@ fn place(found: Box) -> (u64, u64) { (found.start as u64, (found.end - found.sta
 pub fn children(payload: &[u8], at: u64) -> Result<(u32, u64, u64, u64), Refusal> {
     if payload.len() > MOST_BYTES { return Err((30, 0)); }
     if at > payload.len() as u64 { return Err((42, 0)); }
-    let found = box_at(payload, at as usize, payload.len()).ok_or((31, 0))?;
+    let found = box_at(payload, at as usize, payload.len())?;
     let (start, length) = place(found);
     Ok((found.kind, start, length, found.end as u64))
 }
 
 pub fn child(payload: &[u8], kind: u32) -> Result<(u64, u64), Refusal> {
     if payload.len() > MOST_BYTES { return Err((30, 0)); }
-    first(payload, 0, payload.len(), kind, false).map(place).ok_or((31, 0))
+    Ok(place(first(payload, 0, payload.len(), kind, false)?))
 }
 
 pub fn find_box(bytes: &[u8], from: u64, to: u64, kind: u32, text_types: bool) -> Result<(u64, u64), Refusal> {
     if bytes.len() > MOST_BYTES { return Err((30, 0)); }
     if to > bytes.len() as u64 || from > to { return Err((42, 0)); }
-    first(bytes, from as usize, to as usize, kind, text_types).map(place).ok_or((31, 0))
+    Ok(place(first(bytes, from as usize, to as usize, kind, text_types)?))
 }
 
 /// The payload of the one MTRM box of the first udta of the file's moov
 pub fn table_text(file: &[u8]) -> Result<(u64, u64), Refusal> {
     if file.len() > MOST_BYTES { return Err((30, 0)); }
-    let moov = first(file, 0, file.len(), code(b"moov"), true).ok_or((40, 0))?;
-    let udta = first(file, moov.start, moov.end, code(b"udta"), false).ok_or((40, 0))?;
+    let moov = first(file, 0, file.len(), code(b"moov"), true).map_err(|_| (40, 0))?;
+    let udta = first(file, moov.start, moov.end, code(b"udta"), false).map_err(|_| (40, 0))?;
     let mut tables = walk(file, udta.start, udta.end);
     tables.retain(|b| b.kind == code(b"MTRM"));
     match tables.as_slice() {
@@ -93,9 +121,29 @@ pub fn table_text(file: &[u8]) -> Result<(u64, u64), Refusal> {
     }
 }
 
-/// The payload of the first child of a type
-pub fn child_of<'a>(payload: &'a [u8], kind: &[u8; 4]) -> Option<&'a [u8]> {
-    first(payload, 0, payload.len(), code(kind), false).map(|b| &payload[b.start..b.end])
+/// A payload, all of the bytes or a part of them; the headers in it keep their offsets in the whole
+#[derive(Clone, Copy)]
+pub struct Payload<'a> {
+    whole: &'a [u8],
+    start: usize,
+    end: usize,
+}
+
+impl<'a> Payload<'a> {
+    pub fn whole(bytes: &'a [u8]) -> Self { Payload { whole: bytes, start: 0, end: bytes.len() } }
+    pub fn bytes(self) -> &'a [u8] { &self.whole[self.start..self.end] }
+    fn payload(self, of: Box) -> Self { Payload { start: of.start, end: of.end, ..self } }
+
+    /// The payload of the first child of a type
+    pub fn child(self, kind: &[u8; 4]) -> Result<Self, Stop> {
+        first(self.whole, self.start, self.end, code(kind), false).map(|found| self.payload(found))
+    }
+
+    /// The payloads of all children of a type, and how the walk stopped after them
+    pub fn children(self, kind: &[u8; 4]) -> (Vec<Self>, Stop) {
+        let (boxes, stop) = walked(self.whole, self.start, self.end);
+        (boxes.into_iter().filter(|b| b.kind == code(kind)).map(|b| self.payload(b)).collect(), stop)
+    }
 }
 
 /// A full box: its version, and what follows the version and flags; it needs 4 bytes

@@ -1,11 +1,11 @@
 //! The frame times of a moov's first video track.
 
-use super::{ MOST_BYTES, Refusal, Times, boxes::{ child_of, code, full_box, number, walk } };
+use super::{ MOST_BYTES, Refusal, Times, boxes::{ Payload, Stop, full_box, number } };
 
 /// The video track's boxes, and both timescales
 struct Track<'a> {
-    trak: &'a [u8],
-    stbl: &'a [u8],
+    trak: Payload<'a>,
+    stbl: Payload<'a>,
     movie_scale: u64,
     scale: u64,
 }
@@ -27,8 +27,8 @@ struct Frame {
 
 pub fn of_moov(moov: &[u8], room: &[usize; 3]) -> Result<Times, Refusal> {
     if moov.len() > MOST_BYTES { return Err((30, 0)); }
-    let track = track(moov).ok_or((31, 0))?;
-    let durations = durations(track.stbl, moov.len()).ok_or((31, 0))?;
+    let track = track(Payload::whole(moov))?;
+    let durations = durations(track.stbl.child(b"stts")?.bytes(), moov.len()).ok_or((31, 0))?;
     if room.iter().any(|r| durations.len() > *r) { return Err((32, 0)); }
     let offsets = offsets(track.stbl, durations.len()).ok_or((31, 0))?;
     let edit = edit(&track).ok_or((31, 0))?;
@@ -70,24 +70,31 @@ impl Presented {
     }
 }
 
-/// The first trak whose first mdia's first hdlr payload has `vide` at 8..12; neither timescale may be 0
-fn track(moov: &[u8]) -> Option<Track<'_>> {
-    let movie_scale = timescale(child_of(moov, b"mvhd")?)?;
-    let traks = walk(moov, 0, moov.len()).into_iter().filter(|b| b.kind == code(b"trak")).map(|b| &moov[b.start..b.end]);
-    let is_video = |trak: &&[u8]| {
-        child_of(trak, b"mdia").and_then(|mdia| child_of(mdia, b"hdlr")).is_some_and(|hdlr| hdlr.len() >= 12 && &hdlr[8..12] == b"vide")
-    };
-    let trak = traks.into_iter().find(is_video)?;
-    let mdia = child_of(trak, b"mdia")?;
-    let scale = timescale(child_of(mdia, b"mdhd")?)?;
-    let stbl = child_of(child_of(mdia, b"minf")?, b"stbl")?;
-    if movie_scale == 0 || scale == 0 { return None; }
-    Some(Track { trak, stbl, movie_scale, scale })
+/// Both timescales and the boxes on the way to the sample tables, each of which is required; neither timescale may be 0
+fn track(moov: Payload) -> Result<Track, Refusal> {
+    let movie_scale = timescale(moov.child(b"mvhd")?).ok_or((31, 0))?;
+    let trak = video_track(moov)?;
+    let mdia = trak.child(b"mdia")?;
+    let scale = timescale(mdia.child(b"mdhd")?).ok_or((31, 0))?;
+    if movie_scale == 0 || scale == 0 { return Err((31, 0)); }
+    let stbl = mdia.child(b"minf")?.child(b"stbl")?;
+    Ok(Track { trak, stbl, movie_scale, scale })
+}
+
+/// The first trak whose first mdia's first hdlr payload has `vide` at 8..12. Where there is none, how the moov's own walk
+/// stopped: a trak that is broken inside is no video track
+fn video_track(moov: Payload) -> Result<Payload, Stop> {
+    let (traks, stop) = moov.children(b"trak");
+    traks.into_iter().find(is_video).ok_or(stop)
+}
+
+pub fn is_video(trak: &Payload) -> bool {
+    trak.child(b"mdia").and_then(|mdia| mdia.child(b"hdlr")).is_ok_and(|hdlr| hdlr.bytes().get(8..12) == Some(b"vide"))
 }
 
 /// The timescale of mvhd or mdhd: at 16 for version 1, else at 8, after the skip
-fn timescale(payload: &[u8]) -> Option<u64> {
-    let (version, rest) = full_box(payload)?;
+fn timescale(head: Payload) -> Option<u64> {
+    let (version, rest) = full_box(head.bytes())?;
     number(rest, if version == 1 { 16 } else { 8 }, 4)
 }
 
@@ -103,8 +110,8 @@ fn entries(rest: &[u8]) -> impl Iterator<Item = Option<(u64, u64)>> {
 }
 
 /// stts: the frames' durations; a running total above the moov's byte count is none
-fn durations(stbl: &[u8], most: usize) -> Option<Vec<i64>> {
-    let (_, rest) = full_box(child_of(stbl, b"stts")?)?;
+fn durations(stts: &[u8], most: usize) -> Option<Vec<i64>> {
+    let (_, rest) = full_box(stts)?;
     let mut durations = Vec::new();
     for entry in entries(rest) {
         let (count, delta) = entry?;
@@ -114,11 +121,11 @@ fn durations(stbl: &[u8], most: usize) -> Option<Vec<i64>> {
     Some(durations)
 }
 
-/// ctts: signed 32-bit offsets; entries past the frames are read and ignored, missing frames get 0. Under 4 bytes it
-/// counts as absent
-fn offsets(stbl: &[u8], frames: usize) -> Option<Vec<i64>> {
+/// ctts: signed 32-bit offsets; entries past the frames are read and ignored, missing frames get 0. Under 4 bytes, and behind
+/// a bad header, it counts as absent
+fn offsets(stbl: Payload, frames: usize) -> Option<Vec<i64>> {
     let mut offsets = Vec::with_capacity(frames);
-    if let Some((_, rest)) = child_of(stbl, b"ctts").and_then(full_box) {
+    if let Some((_, rest)) = stbl.child(b"ctts").ok().and_then(|ctts| full_box(ctts.bytes())) {
         for entry in entries(rest) {
             let (count, offset) = entry?;
             let room = (frames - offsets.len()) as u64;
@@ -129,11 +136,11 @@ fn offsets(stbl: &[u8], frames: usize) -> Option<Vec<i64>> {
     Some(offsets)
 }
 
-/// elst: none or 0 entries, one, or two of which the first is empty
+/// elst: none or 0 entries, one, or two of which the first is empty. Behind a bad header it counts as absent
 fn edit(track: &Track) -> Option<Edit> {
     let open = Edit { edited: false, time: 0, end: None, empty_ticks: 0 };
-    let Some(elst) = child_of(track.trak, b"edts").and_then(|edts| child_of(edts, b"elst")) else { return Some(open) };
-    let (version, rest) = full_box(elst)?;
+    let Ok(elst) = track.trak.child(b"edts").and_then(|edts| edts.child(b"elst")) else { return Some(open) };
+    let (version, rest) = full_box(elst.bytes())?;
     let count = number(rest, 0, 4)?;
     if count == 0 { return Some(open); }
     let mut empty_ticks = 0;

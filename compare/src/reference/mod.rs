@@ -1,4 +1,4 @@
-//! A plain reading of document 01, and of request a of document 02, call by call, for every input. It is written from the
+//! A plain reading of document 01, and of requests a and g of document 02, call by call, for every input. It is written from the
 //! documents' words alone, so that where it and the unchanged Rust agree, they say what the Rust does. Of `cuts`, which no document
 //! lists, it is a reading of the header.
 

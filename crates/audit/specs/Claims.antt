@@ -4,7 +4,7 @@
 use Prim.Native.Nat.{ℕ, _+_, _-_, _*_, _≤_, _<_}
 use mathlib.Core.Bool.{Bool, true}
 use mathlib.Core.List.{List, []}
-use mathlib.Core.Logic.{_↔_, _⊎_}
+use mathlib.Core.Logic.{_↔_}
 use mathlib.Core.Path.{_≡_}
 use lib.IntN.{ℤ, negℤ}
 use lib.ListN.{length, getD, take, drop}
@@ -43,6 +43,7 @@ use Rattle.judge.specs.Judge.{validateOf, Settled}
 use Rattle.judge.specs.Paper.{validateTests, mcrawTests}
 use Rattle.records.specs.declared.TrimSegment.{TrimSegment}
 use Rattle.differ.specs.Differ.{Differing}
+use Rattle.stops.specs.Stops.{Stopping, Dividing}
 use Rattle.maps.specs.declared.Mapped.{Mapped}
 use Rattle.maps.specs.declared.Mapped.the-variants as mapped
 use Rattle.maps.specs.declared.Traced.{Traced}
@@ -283,13 +284,14 @@ pub record EachFrame : Type 0 where
   pub short : (l : Lent) (N : ℕ) (fs out out′ : List ℕ) (r : Indexed) → Check l (Frames N) → length out < length fs → SegmentsOfFrames l fs out r out′ → r ≡ NoIndices 32 0
 
 -- THE WALK `children` MEETS THE BOXES, by which `child` and the other searches are defined: a box that it answers is the first of those from its offset on, and the
--- others are those from `next` on, which lies further on in the bytes; where it answers 31 there are none, and the boxes end clean or with a bad header. So a walk
--- from 0 on meets all boxes of the bytes, in order, and ends in 31. (Document 01, `children`; demand 2; boxes/specs/Boxes.antt has `boxesAt`.)
+-- others are those from `next` on, which lies further on in the bytes; where it answers 31 there are none, and where it answers 36 a bad header stands at that
+-- offset. So a walk from 0 on meets all boxes of the bytes, in order, and ends in 31 or 36. (Document 01, `children`; document 02, g; demand 2; boxes/specs/Boxes.antt has `boxesAt`.)
 pub record Walking : Type 0 where
   pub turn : (b : List ℕ) (at kind start len next : ℕ) → calls.Children b at (reached.Box kind start len next)
       → boxes.boxesAt b at ≡ boxes.box at kind start len (boxes.boxesAt b next)
   pub on : (b : List ℕ) (at kind start len next : ℕ) → calls.Children b at (reached.Box kind start len next) → (at < next) × (next ≤ length b)
-  pub end : (b : List ℕ) (at : ℕ) → calls.Children b at (reached.Refused 31 0) → (boxes.boxesAt b at ≡ boxes.clean) ⊎ (boxes.boxesAt b at ≡ boxes.bad at)
+  pub end : (b : List ℕ) (at : ℕ) → calls.Children b at (reached.Refused 31 0) → boxes.boxesAt b at ≡ boxes.clean
+  pub bad : (b : List ℕ) (at i : ℕ) → calls.Children b at (reached.Refused 36 i) → boxes.boxesAt b at ≡ boxes.bad i
 
 -- TO THE NEAREST WHOLE NUMBER, as `ticksToUs` has it by `rounded`: q is n / d rounded exactly when n / d is at least q - 1/2 and less than q + 1/2, so that a half
 -- goes up; and below zero it is the same with the sign, so that a half goes away from zero. (Document 01, `ticks_to_us`; demand 2.)
@@ -346,8 +348,13 @@ pub record Claims : Type 0 where
   pub each-frame : EachFrame
   pub meanings : Meanings
   pub walking : Walking
+  -- MISSING OR BROKEN: where 36 is answered, its index is the offset of a header that is there and bad, and the walk for the box had come to it. (Document 02, g;
+  -- stops/specs/Stops.antt has the lines.)
+  pub stopping : Stopping calls.ChildPlace calls.FindBoxPlace calls.Children calls.VideoFrameTimesOfMoov
+  -- 31 is divided into 31 and 36, and no other answer changed from those of document 01, which stops/specs/Undivided.antt keeps.
+  pub dividing : Dividing calls.ChildPlace calls.FindBoxPlace calls.Children calls.VideoFrameTimesOfMoov
   pub rounding : Rounding
   pub ordering : Ordering
   pub ignored : Ignored
-  -- 7. THE STARRED NUMBERS of document 01, the auditor's clip, those of document 02's n and a, and some of many cuts. (Demands 2 and 3.)
+  -- 7. THE STARRED NUMBERS of document 01, the auditor's clip, those of document 02's n, a and g, and some of many cuts. (Demands 2 and 3.)
   pub worked : All Holds examples

@@ -4,7 +4,7 @@ use mathlib.Core.Bool.{Bool, true, false}
 use mathlib.Core.List.{List, [], _∷_, _++_}
 use mathlib.Core.Path.{_≡_}
 use lib.IntN.{ℤ, pos, negℤ, natAbs, _-ℤ_}
-use lib.ListN.{replicate, length}
+use lib.ListN.{replicate, length, take}
 use Rattle.ticks.specs.declared.Us.{Us}
 use Rattle.ticks.specs.declared.Us.the-variants.{At}
 use Rattle.rows.specs.declared.Row.{Row}
@@ -27,7 +27,7 @@ use Rattle.maps.specs.declared.Traced.the-variants.{From}
 use Rattle.boxes.specs.Bytes.{trak, mdia, hdlr, vide}
 use Rattle.tracks.specs.Edits.{elst}
 use Rattle.frame_times.specs.declared.FrameTimes.{FrameTimes}
-use Rattle.frame_times.specs.declared.FrameTimes.the-variants.{Presented}
+use Rattle.frame_times.specs.declared.FrameTimes.the-variants.{Presented, Refused as NoFrames}
 use Rattle.frame_times.specs.Times.{mvhd, mdhd, minf, stbl, stts, ctts, edts}
 use Rattle.mcraw.specs.declared.RecordingTimes.{RecordingTimes as Recording}
 use Rattle.mcraw.specs.declared.RecordingTimes.the-variants.{Timed}
@@ -183,16 +183,20 @@ numbers (n ∷ l) = (n / 16777216 ∷ n / 65536 % 256 ∷ n / 256 % 256 ∷ n % 
 abbrev pub boxOf : ℕ → List ℕ → List ℕ
 boxOf kind payload = numbers ((8 + length payload) ∷ kind ∷ []) ++ payload
 
--- a moov of one video track, both timescales 100, of the entries of its stts and the boxes that may be absent: ctts, and edts
-abbrev pub moovOf : List ℕ → List ℕ → List ℕ → List ℕ
-moovOf durations offsets edit =
+-- a moov of one video track, both timescales 100, of what its stbl has and of the box that may be absent, edts
+abbrev pub moovWith : List ℕ → List ℕ → List ℕ
+moovWith tables edit =
     boxOf mvhd (numbers (0 ∷ 0 ∷ 0 ∷ 100 ∷ []))
     ++ boxOf trak
     (boxOf mdia
     (boxOf mdhd (numbers (0 ∷ 0 ∷ 0 ∷ 100 ∷ []))
     ++ boxOf hdlr (numbers (0 ∷ 0 ∷ vide ∷ []))
-    ++ boxOf minf (boxOf stbl (boxOf stts (numbers (0 ∷ (length durations / 2) ∷ durations)) ++ offsets)))
+    ++ boxOf minf (boxOf stbl tables))
     ++ edit)
+
+-- the same of the entries of its stts, and of a ctts, which may be absent too
+abbrev pub moovOf : List ℕ → List ℕ → List ℕ → List ℕ
+moovOf durations offsets edit = moovWith (boxOf stts (numbers (0 ∷ (length durations / 2) ∷ durations)) ++ offsets) edit
 
 -- M1 and M2: durations 10, 10, 10, offsets 10, 30, 0; M2 has one edit, time 10, duration 0, rate 1
 abbrev pub M : List ℕ → List ℕ
@@ -303,6 +307,12 @@ examples =
     ∷ list (tableT (plain 100) []) (49 ∷ 0 ∷ 30 ∷ 29 ∷ 18446744073709551615 ∷ []) (9 ∷ 9 ∷ 9 ∷ 9 ∷ 9 ∷ 9 ∷ []) (Indices 5) (1 ∷ 0 ∷ 1 ∷ 0 ∷ 1 ∷ 9 ∷ [])
     ∷ list (tableT (plain 100) []) (29 ∷ 30 ∷ []) (9 ∷ []) (NoIndices 32 0) (9 ∷ [])
     ∷ list (tableT (plain 0) []) [] [] (NoIndices 4 0) []
+    -- document 02, g: of M1 the mvhd and 6 bytes, so that its boxes end there without a track; 10 bytes more, where the trak's header at 24 is bad; a bad header in the
+    -- place of the stts; and one in that of the edts, which may be absent
+    ∷ movie (take 30 (M [])) (NoFrames 31 0) []
+    ∷ movie (take 40 (M [])) (NoFrames 36 24) []
+    ∷ movie (moovWith (numbers (7 ∷ stts ∷ [])) []) (NoFrames 36 100) []
+    ∷ movie (M (numbers (7 ∷ edts ∷ []))) (Presented 3 100 (pos 10) (pos 50)) (pos 10 ∷ pos 20 ∷ pos 40 ∷ [])
     -- T cut 25..40 and 28..33 in one call, and 28..30 and 25..40, each counted from its own a; no range at all; and of three the second past T's end, before the lack of room
     ∷ cutsAre T (25 ∷ 40 ∷ 28 ∷ 33 ∷ []) (row 0 35 5 0 ∷ row 1 5 10 5 ∷ row 0 38 2 0 ∷ row 1 5 3 2 ∷ []) (2 ∷ 2 ∷ [])
     ∷ cutsAre T (28 ∷ 30 ∷ 25 ∷ 40 ∷ []) (row 0 38 2 0 ∷ row 0 35 5 0 ∷ row 1 5 10 5 ∷ []) (1 ∷ 2 ∷ [])

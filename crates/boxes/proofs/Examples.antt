@@ -56,10 +56,23 @@ long-size : childPlace large mtrm ≡ At 16 2
 unfolding childPlace firstSuch boxesAt boxesFrom headerAt sizeOf fittingIn large
 long-size = refl
 
+-- a child is missing where the boxes end cleanly, and can't be had where a bad header stands before it
+not-there : childPlace (free 8 ++ (9 ∷ 9 ∷ 9 ∷ [])) mtrm ≡ Refused 31 0
+unfolding childPlace firstSuch boxesAt boxesFrom headerAt sizeOf fittingIn free
+not-there = refl
+
+bad-before : childPlace (free 8 ++ free 7 ++ table) mtrm ≡ Refused 36 8
+unfolding childPlace firstSuch boxesAt boxesFrom headerAt sizeOf fittingIn free table
+bad-before = refl
+
 -- places are those in the whole; a range that ends past the bytes, or before it starts, is 42
 in-range : findBoxPlace (free 8 ++ table) 8 18 mtrm true ≡ At 16 2
 unfolding findBoxPlace firstSuch textual isText boxesAt boxesFrom headerAt sizeOf fittingIn free table
 in-range = refl
+
+bad-in-range : findBoxPlace (free 8 ++ free 8 ++ free 7 ++ table) 8 34 mtrm true ≡ Refused 36 16
+unfolding findBoxPlace firstSuch textual isText boxesAt boxesFrom headerAt sizeOf fittingIn free table
+bad-in-range = refl
 
 past-end : findBoxPlace table 0 11 mtrm false ≡ Refused 42 0
 unfolding findBoxPlace table
@@ -77,7 +90,7 @@ text : findBoxPlace (typed 0x7e ++ table) 0 18 mtrm true ≡ At 16 2
 unfolding findBoxPlace firstSuch textual isText boxesAt boxesFrom headerAt sizeOf fittingIn typed table
 text = refl
 
-no-text : findBoxPlace (typed 0x7f ++ table) 0 18 mtrm true ≡ Refused 31 0
+no-text : findBoxPlace (typed 0x7f ++ table) 0 18 mtrm true ≡ Refused 36 0
 unfolding findBoxPlace firstSuch textual isText boxesAt boxesFrom headerAt sizeOf fittingIn typed table
 no-text = refl
 

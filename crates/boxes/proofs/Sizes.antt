@@ -85,15 +85,16 @@ module _ (s : List ℕ) (at : ℕ) where
       small (drop at s) (length s - at) (rw length-drop (omega arith)) (rw there (omega arith)) (sym there) (rw (le-ltb n 8 b, le-ltb (length s - at) n l)) in
       rw (le-ltb _ _ h, sym size, k)
 
--- what a whole header says: the payload starts 8 bytes further at least, ends where the next box starts, and that is within the bytes
+-- what a whole header says: the payload starts 8 bytes further at least, ends where the next box starts, and that is within the bytes;
+-- of a bad one 8 bytes are there
 abbrev pub Lies : ℕ → ℕ → Header → Type 0
 Lies at l Short = Unit {0}
-Lies at l Bad = Unit {0}
+Lies at l Bad = at + 8 ≤ l
 Lies at l (Whole kind start len next) = (at + 8 ≤ start) × (start + len ≡ next) × (next ≤ l)
 
-by-lies : (l at kind : ℕ) (z : Sized) → at ≤ l → Fitting (l - at) z → Lies at l (headerBy at kind z)
+by-lies : (l at kind : ℕ) (z : Sized) → at + 8 ≤ l → Fitting (l - at) z → Lies at l (headerBy at kind z)
 by-lies l at kind (Box size header) h f = (omega arith, omega arith, omega arith)
-by-lies l at kind (Refused n i) h f = tt
+by-lies l at kind (Refused n i) h f = h
 
 pub header-lies : (s : List ℕ) (at : ℕ) → Lies at (length s) (headerAt s at)
 unfolding headerAt

@@ -8,10 +8,9 @@ use types.Run.{OneOf}
 use denote.Enum.Declared.{tagOf}
 use native.Mathlib.Omega.{arith}
 use lib.ListN.{length}
-use Rattle.boxes.specs.Boxes.{Boxes, box, headerAt, reachedBy, afterHeader, boxesFrom, boxesAt, firstSuch}
+use Rattle.boxes.specs.Boxes.{Boxes, box, headerAt, afterHeader, boxesFrom, boxesAt, firstSuch}
 use Rattle.boxes.specs.declared.Header.{Header}
 use Rattle.boxes.specs.declared.Header.the-variants.{Whole, Short, Bad}
-use Rattle.boxes.specs.declared.Reached.the-variants.{Refused}
 use Rattle.boxes.specs.declared.Walk.the-variants.{Found}
 use Rattle.boxes.specs.Steps.{stopAt}
 use Rattle.boxes.proofs.Header.{the-type}
@@ -46,12 +45,6 @@ at-header s at e = rw (unrolled s at, ← e)
 -- a header that is not whole, as an `else` knows it
 abbrev pub Stops : Header → Type 0
 Stops h = OneOf (1 ∷ 2 ∷ []) (tagOf the-type h)
-
--- there no box is reached
-pub none-reached : (h : Header) → Stops h → Refused 31 0 ≡ reachedBy h
-none-reached Short t = refl
-none-reached Bad t = refl
-none-reached (Whole kind start len next) t = absurd (⊎-elim (λ e. omega arith) (λ e. omega arith) t)
 
 -- the first box that passes a test from `at` on, by the header at `at`
 module _ (test : ℕ → ℕ → ℕ → Bool) (s : List ℕ) (at : ℕ) where

@@ -50,18 +50,18 @@ headerAt s at =
     if ltb (length s - at) 8 then Short
     else headerBy at (be32At s (at + 4)) (sizeOf (drop at s) (length s - at))
 
--- the box of a header, or 31 where none is whole
-abbrev pub reachedBy : Header → Reached
-reachedBy Short = reached.Refused 31 0
-reachedBy Bad = reached.Refused 31 0
-reachedBy (Whole kind start len next) = reached.Box kind start len next
+-- the box of a header at `at`; 31 where fewer than 8 bytes are left, 36 at a bad header, with its offset
+abbrev pub reachedBy : Header → ℕ → Reached
+reachedBy Short at = reached.Refused 31 0
+reachedBy Bad at = reached.Refused 36 at
+reachedBy (Whole kind start len next) at = reached.Box kind start len next
 
--- `children`, the box at an offset: 30, 42, 31
+-- `children`, the box at an offset: 30, 42, 31 or 36
 unfoldable pub childrenAt : List ℕ → ℕ → Reached
 childrenAt payload at =
     if ltb mostBytes (length payload) then reached.Refused 30 0
     else if ltb (length payload) at then reached.Refused 42 0
-    else reachedBy (headerAt payload at)
+    else reachedBy (headerAt payload at) at
 
 -- The boxes of some bytes, in order, and how they end: fewer than 8 bytes are left, or at `at` stands a bad header.
 pub data Boxes : Type 0 where

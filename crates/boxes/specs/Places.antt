@@ -1,7 +1,7 @@
--- A part of the caller's own bytes, and what each search answers: a part's place, or a refusal's number.
+-- A part of the caller's own bytes, and what each search answers: a part's place, or a refusal's number and index.
 use Prim.Native.Nat.{ℕ, _+_, _-_}
 use mathlib.Core.List.{List, [], _∷_}
-use mathlib.Core.Bool.{Bool, false}
+use mathlib.Core.Bool.{Bool}
 use mathlib.Core.Path.{_≡_}
 use denote.Ref.{RefT, now}
 use lib.ListN.{length, take, drop}
@@ -19,6 +19,18 @@ abbrev pub placeOr : ℕ → Walk → Place
 placeOr n (Found start len) = At start len
 placeOr n End = Refused n 0
 placeOr n (BadAt at) = Refused n 0
+
+-- the place of what a walk found; 31 where the boxes end cleanly without it, 36 where they end at a bad header, with that header's offset
+abbrev pub placeOf : Walk → Place
+placeOf (Found start len) = At start len
+placeOf End = Refused 31 0
+placeOf (BadAt at) = Refused 36 at
+
+-- how a walk in a part that starts at `by` ends, with offsets in the whole
+abbrev pub movedWalk : ℕ → Walk → Walk
+movedWalk by (Found start len) = Found (by + start) len
+movedWalk by End = End
+movedWalk by (BadAt at) = BadAt (by + at)
 
 -- the bytes at a place; none where it is refused
 abbrev pub partOf : List ℕ → Place → List ℕ
@@ -45,30 +57,26 @@ abbrev pub inPart : List ℕ → Place → (List ℕ → Place) → Place
 inPart s (At start len) search = movedPlace start (search (take len (drop start s)))
 inPart s (Refused n i) search = Refused n i
 
--- the first box of a type among some bytes, with text types or without; 31 where there is none
-abbrev pub firstIn : ℕ → Bool → List ℕ → Place
-firstIn kind text s = placeOr 31 (firstOf kind (searched text (boxesOf s)))
-
--- the payload of the first child of a type
+-- the payload of the first child of a type, which may be absent; however the boxes end without it
 abbrev pub childIn : ℕ → List ℕ → Place
-childIn kind s = firstIn kind false s
+childIn kind s = placeOr 31 (firstOf kind (boxesOf s))
 
 abbrev pub childOf : ℕ → List ℕ → List ℕ
 childOf kind s = partOf s (childIn kind s)
 
--- `child`: 30, 31
+-- `child`: 30, 31 or 36
 unfoldable pub childPlace : List ℕ → ℕ → Place
 childPlace payload kind =
     if ltb mostBytes (length payload) then Refused 30 0
-    else childIn kind payload
+    else placeOf (firstOf kind (boxesOf payload))
 
--- `find_box`, in the bytes from `start` to `end`: 30, 42, 31
+-- `find_box`, in the bytes from `start` to `end`: 30, 42, 31 or 36; with text types a type that isn't text is a bad header
 unfoldable pub findBoxPlace : List ℕ → ℕ → ℕ → ℕ → Bool → Place
 findBoxPlace bytes start end kind text =
     if ltb mostBytes (length bytes) then Refused 30 0
     else if ltb (length bytes) end then Refused 42 0
     else if ltb end start then Refused 42 0
-    else inPart bytes (At start (end - start)) (firstIn kind text)
+    else placeOf (movedWalk start (firstOf kind (searched text (boxesOf (take (end - start) (drop start bytes))))))
 
 -- the payloads of all boxes of a type
 unfoldable pub allOf : ℕ → Boxes → List Place

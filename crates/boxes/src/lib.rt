@@ -8,8 +8,9 @@ mod table;
 pub mod track;
 
 use part::moved;
+use part::moved_walk;
 use part::part;
-use part::place_or;
+use part::place_of;
 use read::code;
 use search::find;
 use search::find_child;
@@ -23,7 +24,7 @@ ghost use Rattle.boxes.specs.Places.{PartAt, childPlace, findBoxPlace, t
 // The most bytes that a call takes; over them it answers 30.
 pub const MOST_BYTES: usize = 16_777_216;
 
-// A box's size and its header's, or a refusal: its number and its index. In this crate every index is 0.
+// A box's size and its header's, or a refusal: its number and its index. In this crate the index is 0, but with 36 the bad header's offset.
 pub enum Sized {
     Box { size: u64, header: u64 },
     Refused(u64, usize),
@@ -82,7 +83,7 @@ pub fn box_size(data: &[u8], remaining: u64) -> Sized
 }
 
 // The box at an offset: a turn of the Rust's children. From 0 on, and then from each answer's next, all boxes are met, in order,
-// until 31, which is the Rust's None. 30, 42, 31.
+// until 31, where fewer than 8 bytes are left, or 36, where a bad header stands: both are the Rust's None. 30, 42, 31 or 36.
 pub fn children(payload: &[u8], at: usize) -> Reached
     ensures { λ r. ⌜ r ≡ childrenAt (now (payload .entry)) at ⌝ }
 {
@@ -92,31 +93,32 @@ pub fn children(payload: &[u8], at: usize) -> Reached
     if payload.len() < at {
         return Reached::Refused(42, 0);
     }
-    let Header::Whole {
-        kind,
-        start,
-        len,
-        next,
-    } = header_at(payload, at)
-    else {
-        return Reached::Refused(31, 0);
-    };
-    Reached::Box {
-        kind,
-        start,
-        len,
-        next,
+    match header_at(payload, at) {
+        Header::Whole {
+            kind,
+            start,
+            len,
+            next,
+        } => Reached::Box {
+            kind,
+            start,
+            len,
+            next,
+        },
+        Header::Short => Reached::Refused(31, 0),
+        Header::Bad => Reached::Refused(36, at),
     }
 }
 
-// Where the payload of the first child of a type lies: the Rust's child. 30, 31.
+// Where the payload of the first child of a type lies: the Rust's child. 30, 31 where the boxes end without it, 36 where a bad header ends
+// them before, with its offset.
 pub fn child_place(payload: &[u8], kind: u32) -> Place
     ensures { λ r. ⌜ r ≡ childPlace (now (payload .entry)) kind ⌝ }
 {
     if payload.len() > MOST_BYTES {
         return Place::Refused(30, 0);
     }
-    place_or(31, find_child(payload, kind))
+    place_of(find_child(payload, kind))
 }
 
 // That payload, as that part of the caller's bytes; empty on a refusal.
@@ -126,7 +128,8 @@ pub fn child(payload: &[u8], kind: u32) -> &[u8]
     part(payload, child_place(payload, kind))
 }
 
-// Where the payload of the first box of a type among those from start to end lies, in the whole of bytes: the Rust's find_box. 30, 42, 31.
+// Where the payload of the first box of a type among those from start to end lies, in the whole of bytes: the Rust's find_box. 30, 42, 31
+// or 36; the bad header's offset is in the whole too.
 pub fn find_box_place(bytes: &[u8], start: usize, end: usize, kind: u32, text_types: bool) -> Place
     ensures { λ r. ⌜ r ≡ findBoxPlace (now (bytes .entry)) start end kind «text_types» ⌝ }
 {
@@ -140,7 +143,7 @@ pub fn find_box_place(bytes: &[u8], start: usize, end: usize, kind: u32, text_ty
         return Place::Refused(42, 0);
     }
     let found = find(&bytes[start..end], kind, text_types);
-    moved(start, place_or(31, found))
+    place_of(moved_walk(start, found))
 }
 
 // That payload, as that part of the caller's bytes; empty on a refusal.

@@ -5,8 +5,8 @@ use crate::search::find_child;
 ghost use mathlib.Core.Path.{_≡_};
 ghost use Prim.Native.Nat.{_+_, _<_, _^_};
 ghost use lib.ListN.{length};
-ghost use Rattle.boxes.specs.Places.{placeOr, startOf, PartAt, childIn, movedPlace};
-ghost use Rattle.boxes.specs.Steps.{Within};
+ghost use Rattle.boxes.specs.Places.{placeOr, placeOf, startOf, PartAt, childIn, movedPlace, movedWalk};
+ghost use Rattle.boxes.specs.Steps.{offsetIn, Within};
 
 // The place of what a walk found, or a number.
 pub(crate) fn place_or(number: u64, w: Walk) -> Place
@@ -16,6 +16,32 @@ pub(crate) fn place_or(number: u64, w: Walk) -> Place
         Walk::Found { start, len } => Place::At { start, len },
         Walk::End => Place::Refused(number, 0),
         Walk::Bad { at: _ } => Place::Refused(number, 0),
+    }
+}
+
+// The place of what a walk found; 31 after a clean end, 36 after a bad header, with its offset.
+pub(crate) fn place_of(w: Walk) -> Place
+    ensures { λ r. ⌜ r ≡ placeOf w ⌝ }
+{
+    match w {
+        Walk::Found { start, len } => Place::At { start, len },
+        Walk::End => Place::Refused(31, 0),
+        Walk::Bad { at } => Place::Refused(36, at),
+    }
+}
+
+// How a walk in a part ended, with offsets in the whole; the part starts at `by`.
+pub(crate) fn moved_walk(by: usize, w: Walk) -> Walk
+    requires { ⌜ by + offsetIn w < 2 ^ 64 ⌝ }
+    ensures { λ r. ⌜ r ≡ movedWalk by w ⌝ }
+{
+    match w {
+        Walk::Found { start, len } => Walk::Found {
+            start: by + start,
+            len,
+        },
+        Walk::End => Walk::End,
+        Walk::Bad { at } => Walk::Bad { at: by + at },
     }
 }
 

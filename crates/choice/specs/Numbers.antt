@@ -1,4 +1,4 @@
--- The refusals that several calls share: over the most bytes or timestamps; no times; too little room; a number outside i64.
+-- The refusals that several calls share: over the most bytes or timestamps; no times; too little room; a number outside i64; a bad header.
 use Prim.Native.Nat.{ℕ}
 
 abbrev pub tooLong : ℕ
@@ -12,3 +12,6 @@ noRoom = 32
 
 abbrev pub outside : ℕ
 outside = 33
+
+abbrev pub badHeader : ℕ
+badHeader = 36

@@ -3,7 +3,7 @@ ghost use mathlib.Core.Path.{_≡_};
 ghost use Rattle.choice.specs.Choice.{when, past};
 ghost use Rattle.choice.specs.Steps.{orElse};
 
-// The refusals that several calls share: over the most bytes or timestamps; no times; too little room; a number outside i64.
+// The refusals that several calls share: over the most bytes or timestamps; no times; too little room; a number outside i64; a bad header.
 pub const TOO_LONG: u64 = 30;
 
 pub const NO_TIMES: u64 = 31;
@@ -11,6 +11,8 @@ pub const NO_TIMES: u64 = 31;
 pub const NO_ROOM: u64 = 32;
 
 pub const OUTSIDE: u64 = 33;
+
+pub const BAD_HEADER: u64 = 36;
 
 // The largest u64.
 pub const MAX_U64: u64 = 0xffff_ffff_ffff_ffff;

@@ -15,6 +15,6 @@ abbrev pub moovTimes : List ℕ → ℕ → Place → Outcome
 moovTimes file room (At start len) = timesOfMoov (take len (drop start file)) room
 moovTimes file room (Refused n i) = record { answer = times.Refused n i; starts = [] }
 
--- of the first moov among the file's boxes, whose types are text
+-- of the first moov among the file's boxes, whose types are text; 36 has its index in the file where no moov is found, else in the moov
 abbrev pub fileTimes : List ℕ → ℕ → Outcome
 fileTimes file room = moovTimes file room (findBoxPlace file 0 (length file) moov true)

@@ -1,5 +1,5 @@
 -- The frame times of a moov: what is answered, from its bytes down to its frames.
-use Prim.Native.Nat.{ℕ, min}
+use Prim.Native.Nat.{ℕ, _+_, min}
 use mathlib.Core.Path.{_≡_}
 use mathlib.Core.Bool.{_||_}
 use mathlib.Core.List.{List, [], _∷_, map}
@@ -9,7 +9,7 @@ use lib.Signed.{leZ}
 use lib.Dec.{ltb, eqb}
 use Rattle.choice.specs.Choice.{if_then_else_}
 use Rattle.choice.specs.Records.{any}
-use Rattle.choice.specs.Numbers.{tooLong, noTimes, noRoom, outside}
+use Rattle.choice.specs.Numbers.{tooLong, noTimes, noRoom, outside, badHeader}
 use Rattle.signed.specs.Signed.{isOutside}
 use Rattle.slices.specs.Slices.{laid, zeros}
 use Rattle.order.specs.Order.{sorted, mode}
@@ -24,7 +24,7 @@ use Rattle.tracks.specs.declared.Rows.the-variants.{Whole, Torn}
 use Rattle.tracks.specs.declared.Edit.{Edit}
 use Rattle.tracks.specs.declared.Edited.{Edited}
 use Rattle.tracks.specs.declared.Edited.the-variants.{By, Bad}
-use Rattle.tracks.specs.Tables.{scaleOf, tableRows, optionalRows, entriesOf, entryTotal, durations, offsets}
+use Rattle.tracks.specs.Tables.{scaleOf, hasScale, tableRows, optionalRows, entriesOf, entryTotal, durations, offsets}
 use Rattle.tracks.specs.Edits.{editOf}
 use Rattle.frame_times.specs.declared.FrameTimes.{FrameTimes}
 use Rattle.frame_times.specs.declared.FrameTimes.the-variants.{Presented, Refused}
@@ -57,8 +57,11 @@ pub record Outcome : Type 0 where
   pub answer : FrameTimes
   pub starts : List ℤ
 
+abbrev pub refusedAt : ℕ → ℕ → Outcome
+refusedAt n i = record { answer = Refused n i; starts = [] }
+
 abbrev pub refused : ℕ → Outcome
-refused n = record { answer = Refused n 0; starts = [] }
+refused n = refusedAt n 0
 
 -- the answer of an end and starts, where an i64 holds each
 unfoldable pub placed : ℕ → ℤ → ℤ → List ℤ → Outcome
@@ -102,38 +105,50 @@ ofDurations (Whole n) bytes room movie scale edts ctts stts =
     else if ltb room (entryTotal (entriesOf n stts)) then refused noRoom
     else ofOffsets (optionalRows ctts) ctts edts scale movie (durations n stts)
 
--- a box that has to be there: its payload goes on, and where the walk for it ended without it, however that was, there are no times
-abbrev pub required : Walk → List ℕ → (List ℕ → Outcome) → Outcome
-required (Found start len) s next = next (partOf s (placeOr noTimes (Found start len)))
-required End s next = refused noTimes
-required (BadAt at) s next = refused noTimes
+-- a box that has to be there and wasn't found in the part that starts at `base` of the moov: no times after a clean end; after a bad header that is said, with its offset in the moov
+abbrev pub notFound : ℕ → Walk → Outcome
+notFound base (Found start len) = refused noTimes
+notFound base End = refused noTimes
+notFound base (BadAt at) = refusedAt badHeader (base + at)
+
+-- a box that has to be there: its payload goes on, with where that starts in the moov
+abbrev pub required : ℕ → Walk → List ℕ → (ℕ → List ℕ → Outcome) → Outcome
+required base (Found start len) s next = next (base + start) (partOf s (placeOr noTimes (Found start len)))
+required base End s next = notFound base End
+required base (BadAt at) s next = notFound base (BadAt at)
 
 -- the same for the first child of a type
-abbrev pub inChild : ℕ → List ℕ → (List ℕ → Outcome) → Outcome
-inChild kind s next = required (firstOf kind (boxesOf s)) s next
+abbrev pub inChild : ℕ → ℕ → List ℕ → (ℕ → List ℕ → Outcome) → Outcome
+inChild kind base s next = required base (firstOf kind (boxesOf s)) s next
 
 -- of a stbl, which has the tables: the stts has to be there
-unfoldable pub ofTables : ℕ → ℕ → ℕ → ℕ → List ℕ → List ℕ → Outcome
-ofTables bytes room movie scale edts tables = inChild stts tables (λ d. ofDurations (tableRows d) bytes room movie scale edts (childOf ctts tables) d)
+unfoldable pub ofTables : ℕ → ℕ → ℕ → ℕ → List ℕ → ℕ → List ℕ → Outcome
+ofTables bytes room movie scale edts base tables = inChild stts base tables (λ at d. ofDurations (tableRows d) bytes room movie scale edts (childOf ctts tables) d)
 
 -- of a mdia, which has the timescale and, two boxes below, the stbl; neither timescale may be 0
-abbrev pub ofScale : ℕ → ℕ → ℕ → ℕ → List ℕ → List ℕ → Outcome
-ofScale bytes room movie scale edts media =
+abbrev pub ofScale : ℕ → ℕ → ℕ → ℕ → List ℕ → ℕ → List ℕ → Outcome
+ofScale bytes room movie scale edts base media =
     if eqb scale 0 || eqb movie 0 then refused noTimes
-    else inChild minf media (λ i. inChild stbl i (ofTables bytes room movie scale edts))
+    else inChild minf base media (λ at i. inChild stbl at i (ofTables bytes room movie scale edts))
 
-unfoldable pub ofMedia : ℕ → ℕ → ℕ → List ℕ → List ℕ → Outcome
-ofMedia bytes room movie edts media = inChild mdhd media (λ h. ofScale bytes room movie (scaleOf h) edts media)
+unfoldable pub ofMedia : ℕ → ℕ → ℕ → List ℕ → ℕ → List ℕ → Outcome
+ofMedia bytes room movie edts base media = inChild mdhd base media (λ at h. ofScale bytes room movie (scaleOf h) edts base media)
 
 -- of a video track, whose edts may be absent
-unfoldable pub ofTrack : ℕ → ℕ → ℕ → List ℕ → Outcome
-ofTrack bytes room movie track = inChild mdia track (ofMedia bytes room movie (childOf edts track))
+unfoldable pub ofTrack : ℕ → ℕ → ℕ → ℕ → List ℕ → Outcome
+ofTrack bytes room movie base track = inChild mdia base track (ofMedia bytes room movie (childOf edts track))
 
--- of a moov: mvhd has the movie's timescale, the first video track the rest
+-- of a mvhd, which has the movie's timescale; where that isn't whole no track is looked for. That it isn't 0 is tested with the track's own
+abbrev pub ofMovie : List ℕ → ℕ → List ℕ → Outcome
+ofMovie moov room h =
+    if hasScale h then required 0 (videoTrack moov) moov (ofTrack (length moov) room (scaleOf h))
+    else refused noTimes
+
+-- of a moov: its mvhd, then its first video track
 unfoldable pub timesOfMoov : List ℕ → ℕ → Outcome
 timesOfMoov moov room =
     if ltb mostBytes (length moov) then refused tooLong
-    else inChild mvhd moov (λ h. required (videoTrack moov) moov (ofTrack (length moov) room (scaleOf h)))
+    else inChild mvhd 0 moov (λ at h. ofMovie moov room h)
 
 -- the room that three slices have
 abbrev pub room : List ℤ → List ℤ → List ℤ → ℕ

@@ -29,7 +29,7 @@ pub struct Kept {
 }
 
 // The frames that a moov's first video track presents, and over starts where each starts; on a refusal starts are as lent. Both working
-// slices are all zero afterwards, whatever was answered: the Rust's video_frame_times_of_moov. 30, 31, 32, 31, 33.
+// slices are all zero afterwards, whatever was answered: the Rust's video_frame_times_of_moov. 30, 31 or 36, 32, 31, 33.
 pub fn video_frame_times_of_moov(
     moov: &[u8],
     starts: &mut [i64],

@@ -9,6 +9,7 @@ use boxes::part::payload;
 use boxes::read::code;
 use boxes::search::find_child;
 use boxes::track::find_video_track;
+use choice::BAD_HEADER;
 use choice::NO_ROOM;
 use choice::NO_TIMES;
 use choice::TOO_LONG;
@@ -16,16 +17,19 @@ use tracks::Edited;
 use tracks::Rows;
 use tracks::edits::edit_of;
 use tracks::tables::count_rows;
+use tracks::tables::has_scale;
 use tracks::tables::lay;
 use tracks::tables::optional_rows;
 use tracks::tables::scale;
 ghost use mathlib.Core.Path.{_≡_};
 ghost use mathlib.Core.List.{map};
-ghost use Prim.Native.Nat.{_-_, _*_, _≤_, _<_, _^_, min};
+ghost use Prim.Native.Nat.{_+_, _-_, _*_, _≤_, _<_, _^_, min};
 ghost use lib.ListN.{length};
 ghost use lib.IntN.{pos};
+ghost use Rattle.boxes.specs.Steps.{offsetIn};
 ghost use Rattle.tracks.specs.Tables.{tableRows, optionalRows, entriesOf, entryTotal, durations};
-ghost use Rattle.frame_times.specs.Times.{room, ofOffsets, ofDurations, ofTables, ofMedia, ofTrack, timesOfMoov};
+ghost use Rattle.frame_times.specs.Times.{stbl, room, inChild, ofOffsets, ofDurations, ofTables, ofMedia, ofTrack, timesOfMoov};
+ghost use Rattle.frame_times.specs.Times.{notFound};
 ghost use Rattle.frame_times.specs.Steps.{OutcomeAnswered};
 
 // The smaller of two.
@@ -41,6 +45,21 @@ fn least_length(x: &[i64], y: &[i64], z: &[i64]) -> usize
 {
     let n = smaller(x.len(), y.len());
     smaller(n, z.len())
+}
+
+// A box that has to be there and that a walk didn't find, in the part that starts at base of the moov.
+fn not_found(base: usize, w: Walk) -> FrameTimes
+    requires { ⌜ base + offsetIn w < 2 ^ 64 ⌝ }
+    ensures { λ r. ⌜ r ≡ notFound base w .answer ⌝ }
+{
+    match w {
+        Walk::Found { start: _, len: _ } => refused(NO_TIMES),
+        Walk::End => refused(NO_TIMES),
+        Walk::Bad { at } => FrameTimes::Refused {
+            number: BAD_HEADER,
+            index: (base + at) as u64,
+        },
+    }
 }
 
 // Answers past the room test: the offsets, then the edit. b has the durations.
@@ -106,23 +125,24 @@ fn of_durations(
     )
 }
 
-// Answers with the stbl and the edts of such a track.
+// Answers with the edts of such a track, and with its stbl, which starts at base of the moov.
 fn of_tables(
     bytes: usize,
     movie: u64,
     scale: u64,
     edts: &[u8],
+    base: usize,
     stbl: &[u8],
     starts: &mut [i64],
     a: &mut [i64],
     b: &mut [i64],
 ) -> FrameTimes
-    requires { ⌜ (bytes ≤ 16777216) × (scale < 2 ^ 32) × (0 < movie) × (movie < 2 ^ 32) ⌝ }
-    ensures { λ r. ⌜ OutcomeAnswered (ofTables bytes (room (now (starts .entry)) (now (a .entry)) (now (b .entry))) movie scale (now (edts .entry)) (now (stbl .entry))) r (now (starts .entry)) (now (starts .exit)) ⌝ }
+    requires { ⌜ (bytes ≤ 16777216) × (scale < 2 ^ 32) × (0 < movie) × (movie < 2 ^ 32) × (base + length (now stbl) ≤ 16777216) ⌝ }
+    ensures { λ r. ⌜ OutcomeAnswered (ofTables bytes (room (now (starts .entry)) (now (a .entry)) (now (b .entry))) movie scale (now (edts .entry)) base (now (stbl .entry))) r (now (starts .entry)) (now (starts .exit)) ⌝ }
 {
     let w = find_child(stbl, code(b"stts"));
     let Walk::Found { start: _, len: _ } = w else {
-        return refused(NO_TIMES);
+        return not_found(base, w);
     };
     let ctts = inner_child(stbl, code(b"ctts"));
     of_durations(
@@ -138,57 +158,105 @@ fn of_tables(
     )
 }
 
-// Answers with the mdia of a video track, which has its timescale and, two boxes below, its stbl.
+// Answers with the minf of such a track, at base of the moov, which has its stbl.
+fn of_info(
+    bytes: usize,
+    movie: u64,
+    scale: u64,
+    edts: &[u8],
+    base: usize,
+    minf: &[u8],
+    starts: &mut [i64],
+    a: &mut [i64],
+    b: &mut [i64],
+) -> FrameTimes
+    requires { ⌜ (bytes ≤ 16777216) × (scale < 2 ^ 32) × (0 < movie) × (movie < 2 ^ 32) × (base + length (now minf) ≤ 16777216) ⌝ }
+    ensures { λ r. ⌜ OutcomeAnswered (inChild stbl base (now (minf .entry)) (ofTables bytes (room (now (starts .entry)) (now (a .entry)) (now (b .entry))) movie scale (now (edts .entry)))) r (now (starts .entry)) (now (starts .exit)) ⌝ }
+{
+    let w = find_child(minf, code(b"stbl"));
+    let Walk::Found { start, len: _ } = w else {
+        return not_found(base, w);
+    };
+    of_tables(
+        bytes,
+        movie,
+        scale,
+        edts,
+        base + start,
+        payload(minf, w),
+        starts,
+        a,
+        b,
+    )
+}
+
+// Answers with the mdia of a video track, at base of the moov, which has its timescale and its minf.
 fn of_media(
     bytes: usize,
     movie: u64,
     edts: &[u8],
+    base: usize,
     mdia: &[u8],
     starts: &mut [i64],
     a: &mut [i64],
     b: &mut [i64],
 ) -> FrameTimes
-    requires { ⌜ (bytes ≤ 16777216) × (movie < 2 ^ 32) ⌝ }
-    ensures { λ r. ⌜ OutcomeAnswered (ofMedia bytes (room (now (starts .entry)) (now (a .entry)) (now (b .entry))) movie (now (edts .entry)) (now (mdia .entry))) r (now (starts .entry)) (now (starts .exit)) ⌝ }
+    requires { ⌜ (bytes ≤ 16777216) × (movie < 2 ^ 32) × (base + length (now mdia) ≤ 16777216) ⌝ }
+    ensures { λ r. ⌜ OutcomeAnswered (ofMedia bytes (room (now (starts .entry)) (now (a .entry)) (now (b .entry))) movie (now (edts .entry)) base (now (mdia .entry))) r (now (starts .entry)) (now (starts .exit)) ⌝ }
 {
     let h = find_child(mdia, code(b"mdhd"));
     let Walk::Found { start: _, len: _ } = h else {
-        return refused(NO_TIMES);
+        return not_found(base, h);
     };
     let s = scale(payload(mdia, h)) as u64;
     if (s == 0) | (movie == 0) {
         return refused(NO_TIMES);
     }
     let i = find_child(mdia, code(b"minf"));
-    let Walk::Found { start: _, len: _ } = i else {
-        return refused(NO_TIMES);
+    let Walk::Found { start, len: _ } = i else {
+        return not_found(base, i);
     };
-    let minf = payload(mdia, i);
-    let t = find_child(minf, code(b"stbl"));
-    let Walk::Found { start: _, len: _ } = t else {
-        return refused(NO_TIMES);
-    };
-    of_tables(bytes, movie, s, edts, payload(minf, t), starts, a, b)
+    of_info(
+        bytes,
+        movie,
+        s,
+        edts,
+        base + start,
+        payload(mdia, i),
+        starts,
+        a,
+        b,
+    )
 }
 
-// Answers with a video track.
+// Answers with a video track, which starts at base of the moov.
 fn of_track(
     bytes: usize,
     movie: u64,
+    base: usize,
     trak: &[u8],
     starts: &mut [i64],
     a: &mut [i64],
     b: &mut [i64],
 ) -> FrameTimes
-    requires { ⌜ (bytes ≤ 16777216) × (movie < 2 ^ 32) ⌝ }
-    ensures { λ r. ⌜ OutcomeAnswered (ofTrack bytes (room (now (starts .entry)) (now (a .entry)) (now (b .entry))) movie (now (trak .entry))) r (now (starts .entry)) (now (starts .exit)) ⌝ }
+    requires { ⌜ (bytes ≤ 16777216) × (movie < 2 ^ 32) × (base + length (now trak) ≤ 16777216) ⌝ }
+    ensures { λ r. ⌜ OutcomeAnswered (ofTrack bytes (room (now (starts .entry)) (now (a .entry)) (now (b .entry))) movie base (now (trak .entry))) r (now (starts .entry)) (now (starts .exit)) ⌝ }
 {
     let w = find_child(trak, code(b"mdia"));
-    let Walk::Found { start: _, len: _ } = w else {
-        return refused(NO_TIMES);
+    let Walk::Found { start, len: _ } = w else {
+        return not_found(base, w);
     };
     let edts = inner_child(trak, code(b"edts"));
-    of_media(bytes, movie, edts, payload(trak, w), starts, a, b)
+    of_media(
+        bytes,
+        movie,
+        edts,
+        base + start,
+        payload(trak, w),
+        starts,
+        a,
+        b,
+    )
 }
 
 // Answers with a moov, and leaves the working slices as they happen to be.
@@ -201,12 +269,16 @@ pub(crate) fn of_moov(moov: &[u8], starts: &mut [i64], a: &mut [i64], b: &mut [i
     }
     let h = find_child(moov, code(b"mvhd"));
     let Walk::Found { start: _, len: _ } = h else {
-        return refused(NO_TIMES);
+        return not_found(0, h);
     };
-    let movie = scale(payload(moov, h)) as u64;
+    let mvhd = payload(moov, h);
+    if !has_scale(mvhd) {
+        return refused(NO_TIMES);
+    }
+    let movie = scale(mvhd) as u64;
     let w = find_video_track(moov);
-    let Walk::Found { start: _, len: _ } = w else {
-        return refused(NO_TIMES);
+    let Walk::Found { start, len: _ } = w else {
+        return not_found(0, w);
     };
-    of_track(bytes, movie, payload(moov, w), starts, a, b)
+    of_track(bytes, movie, start, payload(moov, w), starts, a, b)
 }

@@ -32,10 +32,10 @@
 // smallest; of a recording the middle interval, the lower of two.
 //
 // Refusals. The index is the source in 4 to 7, the segment in 9 to 17, 23 and 24, the later timestamp of the first falling
-// pair in 34, the range in 50 of st_cuts (a last one without its end is tested first), the row in 51 (0 for slice lengths or
-// no rows, which are tested first), else 0. Each call names its refusals in the order of its tests: 4 to 7 source by
-// source, 9 to 17 and 23 with 24 segment by segment, 50 of st_cuts range by range, a join's 51 of its first map and then of
-// its second.
+// pair in 34, the broken header's offset in the lent bytes in 36, the range in 50 of st_cuts (a last one without its end is
+// tested first), the row in 51 (0 for slice lengths or no rows, which are tested first), else 0. Each call names its
+// refusals in the order of its tests: 4 to 7 source by source, 9 to 17 and 23 with 24 segment by segment, 50 of st_cuts
+// range by range, a join's 51 of its first map and then of its second. `31 or 36` is by how a walk over boxes ended.
 //  1 a slice length isn't a multiple of its record, the two segment slices disagree, a flag or kind is outside its set,
 //    or a present creation time's range leaves the text
 //  2 over 64 sources or 512 segments
@@ -63,11 +63,14 @@
 // 25 the end isn't near: |2 end_us scale - 2 end 1,000,000| is over 2 nominal 1,000,000 + scale, where end_us is the last
 //    segment's out start plus duration; the nominal of a constant video is its denominator, and its scale the numerator
 // 30 over 16,777,216 bytes or timestamps
-// 31 there is none: no such box, no box at the offset, or no frame times to be had
+// 31 missing: the boxes end (fewer than 8 bytes are left) without the one that is looked for, or no frame times can be had;
+//    of st_box_size, no size is whole and fits
 // 32 lent room too small
 // 33 a start, span or end outside 64 bits
 // 34 timestamps not ascending (equal neighbours are allowed)
 // 35 recording without frames
+// 36 broken: before what is looked for stands a broken box header, at the index: its size isn't whole or doesn't fit, or, of
+//    st_find_box with text_types, its type has a byte outside 20..7E hex
 // 40 no MTRM box: no moov, no udta in it, or none in that
 // 41 more than one MTRM box
 // 42 a search range outside the bytes, or starting past its end; an offset past the bytes

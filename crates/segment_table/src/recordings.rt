@@ -23,10 +23,14 @@ pub extern "C" fn st_mcraw_times(
 }
 
 // The frame times of a moov's first video track: how many, their timescale, the nominal interval and the end; the starts
-// in presentation order.
-// Lent: the payload of a moov box, room for the starts, two working slices as long. As many elements as the track has
-// frames are enough for each; it has no more than moov has bytes, else it is 31. Writes starts, both working slices (all 0), frames, scale, nominal, end, index. Refuses:
-// 30, 31, 32, 31, 33.
+// in presentation order. The mvhd and that track have to be found in moov, and in the track mdia, mdhd, minf, stbl and stts:
+// where one isn't, it is 31, or 36 with the offset in moov of the broken header that hides it. A track that is broken before
+// its hdlr, or at it, isn't seen to be of video, and is passed over; where there is no other video track, the answer goes by
+// how the boxes of moov itself end. Where a broken header hides ctts, edts or elst, that counts as absent.
+// Lent: the payload of a moov box (where a file has none, st_find_box says why, with an offset in the file), room for the
+// starts, two working slices as long. As many elements as the track has frames are enough for each; it has no more than
+// moov has bytes, else it is 31. Writes starts, both working slices (all 0), frames, scale, nominal, end, index. Refuses:
+// 30, 31 or 36, 32, 31, 33.
 #[no_mangle]
 pub extern "C" fn st_video_frame_times_of_moov(
     moov: &[u8],

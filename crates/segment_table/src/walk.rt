@@ -21,8 +21,8 @@ pub extern "C" fn st_box_size(
 
 // The box at offset `at` of payload: its type (`kind`, its four bytes, big-endian), where its payload lies, and where the
 // next box is. From 0 on, and then from each answer's `next`, all boxes are met, in order, until 31: fewer than 8 bytes are
-// left there, or the box doesn't fit.
-// Lent: a box's payload. Writes kind, start, length, next, index. Refuses: 30, 42, 31.
+// left there, or 36: a broken header stands there, and the index is `at`.
+// Lent: a box's payload. Writes kind, start, length, next, index. Refuses: 30, 42, 31 or 36.
 #[no_mangle]
 pub extern "C" fn st_children(
     payload: &[u8],
@@ -39,8 +39,9 @@ pub extern "C" fn st_children(
     told::walk::tell_reached(reached, kind, start, length, next, index)
 }
 
-// Where the payload of the first child of a type lies in payload; `kind` is the type's four bytes, big-endian.
-// Lent: a box's payload. Writes start, length, index. Refuses: 30, 31.
+// Where the payload of the first child of a type lies in payload; `kind` is the type's four bytes, big-endian. It is 31
+// where the boxes end without it, and 36 where a broken header ends them before, with its offset in payload.
+// Lent: a box's payload. Writes start, length, index. Refuses: 30, 31 or 36.
 #[no_mangle]
 pub extern "C" fn st_child(
     payload: &[u8],
@@ -54,9 +55,10 @@ pub extern "C" fn st_child(
     told::walk::tell_place(boxes::child_place(payload, kind), start, length, index)
 }
 
-// Where the payload of the first box of a type among those of from..to lies in bytes. With text_types the search ends
-// at a type with a byte outside 20..7E hex.
-// Lent: the bytes. Writes start, length, index. Refuses: 30, 42, 31.
+// Where the payload of the first box of a type among those of from..to lies in bytes. It is 31 where the boxes end without
+// it, and 36 where a broken header ends them before, with its offset in the whole of bytes. With text_types a type with a
+// byte outside 20..7E hex makes a header broken.
+// Lent: the bytes. Writes start, length, index. Refuses: 30, 42, 31 or 36.
 #[no_mangle]
 pub extern "C" fn st_find_box(
     bytes: &[u8],
@@ -74,7 +76,8 @@ pub extern "C" fn st_find_box(
     told::walk::tell_place(place, start, length, index)
 }
 
-// Where a file's segment table has its text: the payload of the only moov/udta/MTRM box.
+// Where a file's segment table has its text: the payload of the only moov/udta/MTRM box. Where a broken header hides
+// it, it is 40 too.
 // Lent: the file's bytes. Writes start, length, index. Refuses: 30, 40, 41.
 #[no_mangle]
 pub extern "C" fn st_table_text(

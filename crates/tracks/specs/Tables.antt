@@ -3,7 +3,8 @@ use Prim.Native.Nat.{ℕ, zero, suc, _+_, _*_, _^_}
 use mathlib.Core.List.{List, [], _∷_, _++_, map}
 use lib.ListN.{length, getD, replicate}
 use lib.IntN.{ℤ}
-use lib.Dec.{ltb, eqb}
+use mathlib.Core.Bool.{Bool, true, false}
+use lib.Dec.{ltb, leb, eqb}
 use Rattle.choice.specs.Choice.{if_then_else_}
 use Rattle.signed.specs.Signed.{ofBits}
 use Rattle.boxes.specs.Bytes.{be32At}
@@ -17,6 +18,10 @@ scaleAt p at = if ltb (length p) (at + 4) then 0 else be32At p at
 -- the timescale of a mvhd or mdhd: after version and flags, at 16 for version 1, else at 8; 0 where it isn't whole
 unfoldable pub scaleOf : List ℕ → ℕ
 scaleOf p = if ltb (length p) 4 then 0 else if eqb (getD p 0 0) 1 then scaleAt p (4 + 16) else scaleAt p (4 + 8)
+
+-- whether it is whole
+unfoldable pub hasScale : List ℕ → Bool
+hasScale p = if ltb (length p) 16 then false else if eqb (getD p 0 0) 1 then leb 24 (length p) else true
 
 -- how many entries a stts or ctts has: after version and flags four bytes say, and so many entries of 8 bytes follow
 unfoldable pub tableRows : List ℕ → Rows

@@ -5,7 +5,7 @@ use boxes::read::be32;
 ghost use mathlib.Core.Path.{_≡_};
 ghost use Prim.Native.Nat.{_+_, _-_, _*_, _≤_};
 ghost use lib.ListN.{length, replicate};
-ghost use Rattle.tracks.specs.Tables.{scaleAt, scaleOf, tableRows, optionalRows, offsetOf};
+ghost use Rattle.tracks.specs.Tables.{scaleAt, scaleOf, hasScale, tableRows, optionalRows, offsetOf};
 ghost use Rattle.tracks.specs.Steps.{atFirst, Next, Spread};
 
 // The timescale at at; 0 where it isn't whole.
@@ -30,6 +30,19 @@ pub fn scale(p: &[u8]) -> u32
         return scale_at(p, 20);
     }
     scale_at(p, 12)
+}
+
+// Whether that timescale is whole: where it isn't, the Rust looks for no track.
+pub fn has_scale(p: &[u8]) -> bool
+    ensures { λ r. ⌜ r ≡ hasScale (now (p .entry)) ⌝ }
+{
+    if p.len() < 16 {
+        return false;
+    }
+    if p[0] == 1 {
+        return 24 <= p.len();
+    }
+    true
 }
 
 // How many entries a table has: one length tells whether they are all there.

@@ -10,7 +10,7 @@ returns c = rw (lt-ltb _ _ (c .if1 .taken))
 
 returns-2 : tie.Need-returns-2
 unfolding childPlace
-returns-2 c = rw (le-ltb _ _ (c .before .before .if1 .left), c .place-or .ensures, c .before .find-child .ensures)
+returns-2 c = rw (le-ltb _ _ (c .before .before .if1 .left), c .place-of .ensures, c .before .find-child .ensures)
 
 pub child-place-spec : {M : Type 1} → statement M
 child-place-spec = tie.close (tie.spec

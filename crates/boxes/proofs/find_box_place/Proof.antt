@@ -1,4 +1,3 @@
-use mathlib.Core.Path.{sym, subst}
 use Prim.Native.Nat.{_-_}
 use native.Mathlib.Omega.{arith}
 use denote.Ref.{now}
@@ -6,8 +5,8 @@ use lib.ListN.{length, take, drop}
 use borrow.Author.Tests.{lt-ltb, le-ltb}
 use borrow.Author.Needs.{needs}
 use Rattle.boxes.specs.Places.{findBoxPlace}
-use Rattle.boxes.specs.Steps.{Within}
-use Rattle.boxes.proofs.Within.{search-within, movable}
+use Rattle.boxes.proofs.Within.{search-stays, offset-within}
+use Rattle.boxes.proofs.Parts.{length-part}
 use Rattle.boxes.proofs.find_box_place.Statement.{statement}
 use Rattle.boxes.proofs.find_box_place.Tie as tie
 
@@ -23,21 +22,21 @@ returns-3 : tie.Need-returns-3
 unfolding findBoxPlace
 returns-3 c = rw (le-ltb _ _ (c .before .before .if1 .left), le-ltb _ _ (c .before .if2 .left), lt-ltb _ _ (c .if3 .taken))
 
-moved-requires : tie.Need-moved-requires
-moved-requires c κs =
-    let a = c .before .before .before .before .before .before .before .args in
+moved-walk-requires : tie.Need-moved-walk-requires
+moved-walk-requires c κs =
+    let a = c .before .before .before .before .before .before .args in
     let s = take (a .end - a .start) (drop (a .start) (now (a .bytes))) in
-    let w = subst (Within (length s)) (sym (c .place-or .ensures)) (search-within 31 (a .kind) (a .text-types) s (c .before .find .ensures)) in
-    omega (arith, movable (now (a .bytes)) (a .start) (a .end - a .start) (c .place-or .result) (omega arith) w)
+    let w = search-stays (a .kind) (a .text-types) s (c .find .ensures) in
+    omega (arith, offset-within (length s) (c .find .result) w, length-part (now (a .bytes)) (a .start) (a .end - a .start) (omega arith))
 
 returns-4 : tie.Need-returns-4
 unfolding findBoxPlace
 returns-4 c =
     let e = c .before .before .before .before in
-    rw (le-ltb _ _ (e .before .before .if1 .left), le-ltb _ _ (e .before .if2 .left), le-ltb _ _ (e .if3 .left), c .moved .ensures, c .before .place-or .ensures, c .before .before .find .ensures)
+    rw (le-ltb _ _ (e .before .before .if1 .left), le-ltb _ _ (e .before .if2 .left), le-ltb _ _ (e .if3 .left), c .place-of .ensures, c .before .moved-walk .ensures, c .before .before .find .ensures)
 
 pub find-box-place-spec : {M : Type 1} → statement M
 find-box-place-spec =
     tie.close (tie.spec
-    returns returns-2 returns-3 (λ c. search needs) (λ c. search needs) (λ c κs. search needs) (λ c κs. search needs) moved-requires
+    returns returns-2 returns-3 (λ c. search needs) (λ c. search needs) (λ c κs. search needs) moved-walk-requires (λ c κs. search needs)
     returns-4)

@@ -1,0 +1,2 @@
+pub mod Undivided
+pub mod Stops

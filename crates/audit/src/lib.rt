@@ -1,1 +1,3 @@
 // No code: what is claimed of the public calls is in specs/, and its proof in proofs/.
+#![tactic(auto)]
+

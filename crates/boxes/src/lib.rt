@@ -1,5 +1,7 @@
 // The boxes of an ISO base media file (ISO/IEC 14496-12): sizes, the walk, the child of a type, the search in a range, and the MTRM box.
 // The calls are here; what they and the frame times stand on is in the modules.
+#![tactic(auto)]
+
 pub mod part;
 pub mod read;
 pub mod search;
@@ -21,14 +23,14 @@ use table::table_of;
 pub const MOST_BYTES: usize = 16_777_216;
 
 // A box's size and its header's, or a refusal: its number and its index. In this crate the index is 0, but with 36 the bad header's offset.
-#[derive(Drop)]
+#[derive(Clone, Copy)]
 pub enum Sized {
     Box { size: u64, header: u64 },
     Refused(u64, usize),
 }
 
 // A box's header.
-#[derive(Drop)]
+#[derive(Clone, Copy)]
 pub enum Header {
     // A whole header: the box's type, where its payload starts and how long that is, and where the next box is.
     Whole {
@@ -44,7 +46,7 @@ pub enum Header {
 }
 
 // How a walk ends.
-#[derive(Drop)]
+#[derive(Clone, Copy)]
 pub enum Walk {
     // The box that was looked for: its payload starts at start and is len bytes long.
     Found { start: usize, len: usize },
@@ -55,14 +57,14 @@ pub enum Walk {
 }
 
 // Where a part of the caller's bytes lies, or a refusal.
-#[derive(Drop)]
+#[derive(Clone, Copy)]
 pub enum Place {
     At { start: usize, len: usize },
     Refused(u64, usize),
 }
 
 // What stands at an offset of some boxes: a box's type, where its payload starts and how long that is, and where the next box is; or a refusal.
-#[derive(Drop)]
+#[derive(Clone, Copy)]
 pub enum Reached {
     Box {
         kind: u32,

@@ -8,7 +8,7 @@ use steps::{Integer, Number};
 const LARGEST_KIND: u64 = 4_294_967_295;
 
 // Where reading stands: the next byte, whether all had its form so far, and what was read last: a number, a signed one, how many.
-#[derive(Drop)]
+#[derive(Clone, Copy)]
 pub struct Cursor {
     pub at: usize,
     pub good: bool,

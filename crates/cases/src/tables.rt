@@ -4,7 +4,7 @@ ghost use Rattle.cases.specs.Counts.{Counts};
 use crate::read::{Cursor, bytes, flag, longs, words};
 
 // How much of each lent slice a table takes, its log flag, and where reading stands after it.
-#[derive(Drop)]
+#[derive(Clone, Copy)]
 pub struct Table {
     pub sources: usize,
     pub segments: usize,

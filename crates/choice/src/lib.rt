@@ -1,4 +1,6 @@
 // The words that the definitions of every crate share: a chain of tests in order, a choice, the first record refused.
+#![tactic(auto)]
+
 ghost use Rattle.std.specs.Prelude.{◌≡◌};
 ghost use Rattle.choice.specs.Choice.{when, past};
 ghost use Rattle.choice.specs.Steps.{or_else};
@@ -18,7 +20,7 @@ pub const BAD_HEADER: u64 = 36;
 pub const MAX_U64: u64 = 0xffff_ffff_ffff_ffff;
 
 // A refusal's number and index, or none.
-#[derive(Drop)]
+#[derive(Clone, Copy)]
 pub enum Refusal {
     Never,
     At(u64, usize),

@@ -1,4 +1,6 @@
 // Many cuts of one map in one call: the map is tested once, and the rows of all cuts are written one cut after the other.
+#![tactic(auto)]
+
 ghost use Rattle.std.specs.Prelude.{◌≡◌, ◌+◌, ◌*◌, ◌/◌, ◌≤◌, leb, length};
 ghost use Rattle.rows.specs.Lent.{rows};
 ghost use Rattle.maps.specs.Steps.{Room};
@@ -9,7 +11,7 @@ use choice::Refusal;
 use maps::{BAD_RANGE, Frames, MOST_ROWS, Mapped, ROWS_OVER};
 
 // The frames of a map from `from` on that come before `to`.
-#[derive(Drop)]
+#[derive(Clone, Copy)]
 pub struct Range {
     pub from: u64,
     pub to: u64,

@@ -1,4 +1,6 @@
 // The program frametimes: a file from standard input, its frame times to standard output. It is a library so that several programs can share it.
+#![tactic(auto)]
+
 ghost use Rattle.frame_times.specs.Times.{room};
 ghost use Rattle.frame_times.specs.Steps.{OutcomeAnswered};
 ghost use Rattle.frame_lines.specs.Files.{fileTimes};

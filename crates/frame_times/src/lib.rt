@@ -1,4 +1,6 @@
 // The presentation times of the frames of a moov's first video track (ISO/IEC 14496-12).
+#![tactic(auto)]
+
 mod frames;
 mod times;
 mod track;
@@ -8,7 +10,7 @@ ghost use Rattle.frame_times.specs.Times.{MoovAnswers};
 use track::of_moov;
 
 // What is answered: how many frames are presented, in which timescale, with which most frequent duration, and where they end; or a refusal.
-#[derive(Drop)]
+#[derive(Clone, Copy)]
 pub enum FrameTimes {
     Presented {
         frames: usize,
@@ -23,7 +25,7 @@ pub enum FrameTimes {
 }
 
 // The frames that are kept: how many, when the first is decoded, and of the last the composition time and the duration.
-#[derive(Drop)]
+#[derive(Clone, Copy)]
 pub struct Kept {
     pub count: usize,
     pub first: u64,

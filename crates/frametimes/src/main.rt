@@ -1,5 +1,7 @@
 // Prints the frame times of a file. Its stored run is M2: one edit, from time 10 on.
 // stdin: tools/make-moov durations=10,10,10 offsets=10,30,0 edit=10,0
+#![tactic(auto)]
+
 fn main() {
     frame_lines::run();
 }

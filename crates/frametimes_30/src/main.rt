@@ -1,5 +1,7 @@
 // frametimes on a file of one byte too many.
 // stdin: tools/make-moov bytes=32769
+#![tactic(auto)]
+
 fn main() {
     frame_lines::run();
 }

@@ -1,5 +1,7 @@
 // frametimes on a file without a moov.
 // stdin: tools/make-moov mdat=100 no-moov
+#![tactic(auto)]
+
 fn main() {
     frame_lines::run();
 }

@@ -1,5 +1,7 @@
 // frametimes on a file whose copy broke off within its moov.
 // stdin: tools/make-moov mdat=100 cut=50
+#![tactic(auto)]
+
 fn main() {
     frame_lines::run();
 }

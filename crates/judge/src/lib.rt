@@ -1,4 +1,6 @@
 // A table against its video, and against a MotionCam recording. The Rust's validate and check_mcraw.
+#![tactic(auto)]
+
 ghost use Rattle.std.specs.Prelude.{◌≡◌, false, List, ◌+◌, ◌*◌, ◌/◌, ◌≤◌, ◌<◌, ◌^◌, length, get_or, ℤ, pos, ◌+ℤ◌};
 ghost use Rattle.choice.specs.Records.{run, firstRefused};
 ghost use Rattle.signed.specs.Steps.{I64};
@@ -31,7 +33,7 @@ pub const NO_FRAMES: u64 = 35;
 
 // The video that a table is judged by: none; frames at num / den a second; or times in ticks, their starts lent beside it.
 // The Rust's VideoFrames.
-#[derive(Drop)]
+#[derive(Clone, Copy)]
 pub enum Video {
     Nothing,
     Constant { frames: u64, num: u64, den: u64 },

@@ -1,4 +1,6 @@
 // Which segment of a lent table has a frame, which presents a time, and whether one continues the one before it. The table is checked first.
+#![tactic(auto)]
+
 ghost use Rattle.std.specs.Prelude.{◌≡◌, false, ◌+◌, ◌-◌, ◌*◌, ◌≤◌, ◌<◌, pos, nat_abs, length, get_or};
 ghost use Rattle.choice.specs.Choice.{maxU64};
 ghost use Rattle.rules.specs.Rules.{negative};

@@ -1,5 +1,7 @@
 // The segments of a list of frames, of a table that is checked once. The list may have any order; a frame in the segment of the one before it,
 // or in the next one, need not be searched for.
+#![tactic(auto)]
+
 ghost use Rattle.std.specs.Prelude.{◌≡◌, ◌&&◌, map, ◌/◌, ◌≤◌, ◌<◌, leb, ltb, length};
 ghost use Rattle.slices.specs.Slices.{laid};
 ghost use Rattle.table.specs.Layout.{segmentWords, table_of};
@@ -12,14 +14,14 @@ use rules::Checked;
 use table::WORDS;
 
 // What `segments_of_frames` answers: how many indices it wrote, or a refusal's number and index.
-#[derive(Drop)]
+#[derive(Clone, Copy)]
 pub enum Indexed {
     Indices(usize),
     NoIndices(u64, usize),
 }
 
 // Frames of one segment: those from `from` on that come before `end`.
-#[derive(Drop)]
+#[derive(Clone, Copy)]
 pub struct Piece {
     pub index: usize,
     pub from: u64,

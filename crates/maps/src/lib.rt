@@ -1,4 +1,6 @@
 // The calls on lent frame maps: cut, join, merge, and the origin of a frame.
+#![tactic(auto)]
+
 ghost use Rattle.std.specs.Prelude.{◌≡◌, ◌+◌, ◌-◌, ◌*◌, ◌%◌, ◌^◌, ◌<◌, ◌≤◌, min, max, length, slice_set};
 ghost use Rattle.std.proofs.lemmas.List.Edits.{sets};
 ghost use Rattle.choice.specs.Records.{run};
@@ -27,35 +29,35 @@ const FRAMES_OVER: u64 = 53;
 const PAST_MAP: u64 = 54;
 
 // The answer of a call that writes rows: how many, or a refusal's number and index.
-#[derive(Drop)]
+#[derive(Clone, Copy)]
 pub enum Mapped {
     Rows(usize),
     Refused(u64, usize),
 }
 
 // The answer of `origin`: source, source frame, shift flag and shift; or a refusal's number and index.
-#[derive(Drop)]
+#[derive(Clone, Copy)]
 pub enum Traced {
     From(u64, u64, u64, i64),
     Refused(u64, usize),
 }
 
 // A map's frames, or a refusal.
-#[derive(Drop)]
+#[derive(Clone, Copy)]
 pub enum Frames {
     Are(u64),
     Refused(u64, usize),
 }
 
 // The rows that a cut takes: the first of them, and how many.
-#[derive(Drop)]
+#[derive(Clone, Copy)]
 pub struct Taken {
     pub first: usize,
     pub rows: usize,
 }
 
 // The same, or a refusal.
-#[derive(Drop)]
+#[derive(Clone, Copy)]
 enum Part {
     Rows(usize, usize),
     Refused(u64, usize),

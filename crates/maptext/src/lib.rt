@@ -1,4 +1,6 @@
 // Frame maps, origins and refusals as text on standard output, for programs.
+#![tactic(auto)]
+
 use choice::MAX_U64;
 use maps::{MOST_ROWS, Traced};
 

@@ -1,4 +1,6 @@
 // The frame times of a MotionCam recording, of its frames' timestamps in nanoseconds.
+#![tactic(auto)]
+
 ghost use Rattle.std.specs.Prelude.{◌≡◌, ◌-◌, ◌≤◌, length, pos};
 ghost use Rattle.signed.specs.Steps.{I64};
 ghost use Rattle.slices.specs.Slices.{laid, All};
@@ -17,7 +19,7 @@ pub const NANOSECONDS: u64 = 1_000_000_000;
 pub const FALLING: u64 = 34;
 
 // The times of a recording's frames, or a refusal's number and index.
-#[derive(Drop)]
+#[derive(Clone, Copy)]
 pub enum RecordingTimes {
     Timed {
         frames: usize,

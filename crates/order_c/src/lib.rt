@@ -1,4 +1,6 @@
 // `order::sort` for programs in Rust and C to link.
+#![tactic(auto)]
+
 ghost use Rattle.order_c.specs.Call.{Sorts};
 
 // Sorts xs; false, and nothing changed, where scratch is shorter than xs.

@@ -1,4 +1,6 @@
 // Text and numbers to standard output. What C's write does with the bytes no contract can say, so these have none.
+#![tactic(auto)]
+
 use libc::STDOUT_FILENO;
 
 // Some text.

@@ -1,17 +1,19 @@
 // Standard input of the programs. Which bytes C's read gives no contract can say; these say how many bytes of the room are held.
+#![tactic(auto)]
+
 ghost use Rattle.io.specs.Counts.{IsPrefixLen};
 
 use libc::STDIN_FILENO;
 
 // What a read filled: how many bytes are held, and whether it stopped because it failed.
-#[derive(Drop)]
+#[derive(Clone, Copy)]
 pub struct Taken {
     pub held: usize,
     pub failed: bool,
 }
 
 // Where the input ends: within the room lent, past it, or nowhere, since a read failed.
-#[derive(Drop)]
+#[derive(Clone, Copy)]
 pub enum Ending {
     Within,
     Past,
@@ -19,7 +21,7 @@ pub enum Ending {
 }
 
 // The input, as far as it is held.
-#[derive(Drop)]
+#[derive(Clone, Copy)]
 pub struct Input {
     pub held: usize,
     pub end: Ending,

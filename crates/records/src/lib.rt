@@ -1,5 +1,7 @@
 // The frame lookup over a lent list of segment records, a slice of structs. Record by record one covered call carries on what is known;
 // nothing is copied but that, and the answer is the lookup's over words.
+#![tactic(auto)]
+
 ghost use Rattle.std.specs.Prelude.{◌≡◌, ◌+◌, ◌-◌, ◌%◌, ◌^◌, min, length, if◌then◌else◌};
 ghost use Rattle.rules.specs.Rules.{stampTimes};
 ghost use Rattle.rules.specs.Steps.{turn_of, passedOf};
@@ -13,7 +15,7 @@ use table::SOURCE;
 
 // A segment as one record, with its times in microseconds: the Rust's TrimSegment.
 #[repr(C)]
-#[derive(Drop)]
+#[derive(Clone, Copy)]
 pub struct TrimSegment {
     // The source's number.
     pub source: u64,
@@ -42,7 +44,7 @@ pub struct TrimSegment {
 }
 
 // What is known after some records.
-#[derive(Drop)]
+#[derive(Clone, Copy)]
 struct SoFar {
     // The frame that is looked up.
     pub frame: u64,

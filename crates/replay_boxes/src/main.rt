@@ -1,4 +1,6 @@
 // Box sizes and searches on stored cases: stdin has the cases, stdout the answers (compare/README.md).
+#![tactic(auto)]
+
 use boxes::{Place, Reached, Sized};
 use cases::read::Cursor;
 use cases::{lines, read, say};

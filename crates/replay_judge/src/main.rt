@@ -1,4 +1,6 @@
 // Tables against their videos and recordings on stored cases: stdin has the cases, stdout the answers (compare/README.md).
+#![tactic(auto)]
+
 use cases::read::Cursor;
 use cases::{lent, lines, read, say, tables};
 use choice::MAX_U64;

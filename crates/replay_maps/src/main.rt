@@ -1,4 +1,6 @@
 // Cuts, joins, merges and origins of frame maps on stored cases: stdin has the cases, stdout the answers (compare/README.md).
+#![tactic(auto)]
+
 mod many;
 
 use cases::read::Cursor;
@@ -10,7 +12,7 @@ use maps::{Mapped, Traced};
 const ROOM: usize = 64;
 
 // The calls that write rows. Of two maps only a join takes the second.
-#[derive(Drop)]
+#[derive(Clone, Copy)]
 enum Written {
     Cut(u64, u64),
     Join,

@@ -1,4 +1,6 @@
 // The UTC rule and ticks in microseconds on stored cases: stdin has the cases, stdout the answers (compare/README.md).
+#![tactic(auto)]
+
 use cases::read::Cursor;
 use cases::{lines, read, say};
 use choice::MAX_U64;

@@ -1,4 +1,6 @@
 // The check of tables, their lookups and their rows on stored cases: stdin has the cases, stdout the answers (compare/README.md).
+#![tactic(auto)]
+
 mod found;
 mod listed;
 mod many;

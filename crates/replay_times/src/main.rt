@@ -1,4 +1,6 @@
 // The frame times of moovs and of recordings on stored cases: stdin has the cases, stdout the answers (compare/README.md).
+#![tactic(auto)]
+
 use cases::read::Cursor;
 use cases::{lent, lines, read, say};
 use choice::MAX_U64;

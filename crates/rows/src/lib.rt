@@ -1,9 +1,11 @@
 // Frame maps as definitions, with the theorems that make up demand 3, and the search for a row. What the calls over lent rows do is in the crate `maps`.
+#![tactic(auto)]
+
 ghost use Rattle.std.specs.Prelude.{◌≤◌};
 ghost use Rattle.rows.specs.Steps.{out_at, OutsRise, LastBegun};
 
 // A row of a frame map: `count` frames of a source from its frame `first` on, put out from frame `out` on, with a shift where the flag is 1.
-#[derive(Drop)]
+#[derive(Clone, Copy)]
 pub struct Row {
     pub source: u64,
     pub first: u64,

@@ -1,4 +1,6 @@
 // Refusals 1 to 17 over records: no word here knows how a table is lent. The Rust's SegmentTable::check.
+#![tactic(auto)]
+
 ghost use Rattle.std.specs.Prelude.{◌≡◌, true, false, not, ◌||◌, ◌↔◌, ◌≤◌, nat_abs};
 ghost use Rattle.rules.specs.Limits.{maxI64};
 ghost use Rattle.rules.specs.Rules.{badWords, noRate, badDate, badClock, sourceRefusal, negative, tooLate, apart, badShift, overLimit, judged, start};
@@ -15,7 +17,7 @@ pub const MAX_SEGMENTS: usize = 512;
 const MAX_I64: u64 = 0x7fff_ffff_ffff_ffff;
 
 // A source of the table; the Rust's TableSource.
-#[derive(Drop)]
+#[derive(Clone, Copy)]
 pub struct Source {
     // Its frames.
     pub frames: u64,
@@ -35,7 +37,7 @@ pub struct Source {
 }
 
 // A segment's unsigned words; of the Rust's TrimSegment.
-#[derive(Drop)]
+#[derive(Clone, Copy)]
 pub struct Words {
     // The source's number: source.
     pub source: u64,
@@ -51,7 +53,7 @@ pub struct Words {
 
 // What a segment's signed words say: whether one of the six times is negative, and each one's magnitude.
 // The magnitudes of times are used only after 13, where none is negative.
-#[derive(Drop)]
+#[derive(Clone, Copy)]
 pub struct SixTimes {
     pub negative: bool,
     // src_start_us.
@@ -72,7 +74,7 @@ pub struct SixTimes {
 }
 
 // Whether there is a segment before, and where it ends: the frame, the time and the capture time after its last.
-#[derive(Drop)]
+#[derive(Clone, Copy)]
 pub struct Ends {
     pub some: bool,
     pub frame: u64,
@@ -81,28 +83,28 @@ pub struct Ends {
 }
 
 // What a segment's tests say: a refusal, or where the segment ends.
-#[derive(Drop)]
+#[derive(Clone, Copy)]
 pub enum Turn {
     Stop(u64),
     Go(Ends),
 }
 
 // What a check answers: the frame total, or a refusal's number and index.
-#[derive(Drop)]
+#[derive(Clone, Copy)]
 pub enum Checked {
     Frames(u64),
     Refused(u64, usize),
 }
 
 // What a lookup answers: the segment's index, or the check's refusal.
-#[derive(Drop)]
+#[derive(Clone, Copy)]
 pub enum Lookup {
     Index(usize),
     NoIndex(u64, usize),
 }
 
 // What `continues` answers, or the check's refusal.
-#[derive(Drop)]
+#[derive(Clone, Copy)]
 pub enum Continued {
     Answer(bool),
     NoAnswer(u64, usize),

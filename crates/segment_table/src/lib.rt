@@ -79,6 +79,8 @@
 // 52 over 1,024 rows in or out (all cuts of st_cuts together may have more), or lent room too small
 // 53 joined frames pass 2^64 - 1
 // 54 frame past the map
+#![tactic(auto)]
+
 pub mod clock;
 pub mod cutting;
 pub mod judging;

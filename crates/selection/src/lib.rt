@@ -1,4 +1,6 @@
 // The k-th smallest of a lent slice of i64.
+#![tactic(auto)]
+
 ghost use Rattle.std.specs.Prelude.{◌≡◌, true, ◌+◌, ◌-◌, ◌*◌, ◌<◌, length, get_or, take, pos};
 ghost use Rattle.std.specs.Int.Signed.{le_z, lt_z};
 ghost use Rattle.order.specs.Order.{sorted};
@@ -14,7 +16,7 @@ const SAMPLES: usize = 16;
 const ASIDE: usize = 4;
 
 // A range of values, how many elements are below it, and how many at most its greatest.
-#[derive(Drop)]
+#[derive(Clone, Copy)]
 struct Bounds {
     pub lo: i64,
     pub hi: i64,

@@ -1,5 +1,7 @@
 // i64 numbers: equality, order, sums and differences that say where they leave the range, magnitude, negation.
 // The laws that let sums of signed numbers be told from sums of natural ones are in proofs/; other crates cite them.
+#![tactic(auto)]
+
 ghost use Rattle.std.specs.Prelude.{◌≡◌, ◌<◌, ◌^◌, pos, neg_ℤ, nat_abs, ◌+ℤ◌, ◌-ℤ◌, ◌≤ℤ◌};
 ghost use Rattle.std.specs.Int.Signed.{lt_z, le_z, mag};
 ghost use Rattle.signed.specs.Signed.{eqZ, within, of_bits};
@@ -7,7 +9,7 @@ ghost use Rattle.signed.specs.Rounded.{rounded};
 ghost use Rattle.signed.specs.Steps.{with_sign};
 
 // A number, or none where an i64 doesn't hold it.
-#[derive(Drop)]
+#[derive(Clone, Copy)]
 pub enum Held {
     Is(i64),
     Outside,

@@ -1,4 +1,6 @@
 // Lent slices: clear and copy.
+#![tactic(auto)]
+
 ghost use Rattle.std.specs.Prelude.{◌≡◌, ◌≤◌, length};
 ghost use Rattle.slices.specs.Slices.{laid, zeros};
 

@@ -1,5 +1,7 @@
 // One line of text as one step on a frame map: `row`, `cut`, `join`, `merge` or `origin` with its numbers. `#` begins a comment.
 // Words and numbers are public: other programs read their lines with them.
+#![tactic(auto)]
+
 ghost use Rattle.std.specs.Prelude.{◌≡◌, length, drop, ◌≤◌};
 ghost use Rattle.steps.specs.Words.{passing, leadingOf, sameAs, code_of, trimmed, word_of, rest_of};
 ghost use Rattle.steps.specs.Numbers.{digitOf, oversOf, number_in, signedAs, integerIn};
@@ -9,7 +11,7 @@ use choice::MAX_U64;
 use signed::Held;
 
 // Kinds of bytes: blanks between words, bytes of words, bytes before a comment.
-#[derive(Drop)]
+#[derive(Clone, Copy)]
 enum Kind {
     Blank,
     Word,
@@ -17,7 +19,7 @@ enum Kind {
 }
 
 // A word as a number below 2^64.
-#[derive(Drop)]
+#[derive(Clone, Copy)]
 pub enum Number {
     Is(u64),
     Large,
@@ -25,7 +27,7 @@ pub enum Number {
 }
 
 // A word as a signed number of 64 bits.
-#[derive(Drop)]
+#[derive(Clone, Copy)]
 pub enum Integer {
     Is(i64),
     Large,
@@ -33,7 +35,7 @@ pub enum Integer {
 }
 
 // The word that begins a step.
-#[derive(Drop)]
+#[derive(Clone, Copy)]
 enum Keyword {
     Absent,
     Row,
@@ -45,7 +47,7 @@ enum Keyword {
 }
 
 // What a line asks for. A row is source, source first, count, shift flag and shift; `Large` is a number over 64 bits.
-#[derive(Drop)]
+#[derive(Clone, Copy)]
 pub enum Step {
     Nothing,
     Row(u64, u64, u64, u64, i64),

@@ -1,4 +1,6 @@
 // A table lent as rows of words, and its check. The Rust's SegmentTable.
+#![tactic(auto)]
+
 ghost use Rattle.std.specs.Prelude.{◌≡◌, true, false, List, ◌+◌, ◌*◌, ◌/◌, ◌≤◌, ◌<◌, length, get_or, ℤ, pos, nat_abs};
 ghost use Rattle.choice.specs.Records.{any, firstRefused};
 ghost use Rattle.rules.specs.Rules.{negative, badSource, badSegment, sourceRefusal, stampTimes, frontRefusal, checkOf};

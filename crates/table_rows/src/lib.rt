@@ -1,4 +1,6 @@
 // The rows of an accepted table: the map that document 01 adds to the Rust.
+#![tactic(auto)]
+
 ghost use Rattle.std.specs.Prelude.{◌≡◌, map, ◌+◌, ◌*◌, ◌/◌, ◌≤◌, length};
 ghost use Rattle.slices.specs.Slices.{laid};
 ghost use Rattle.rows.specs.Lent.{shiftsOf};
@@ -9,7 +11,7 @@ use rules::Checked;
 use table::{STAMPS, WORDS};
 
 // What `rows_of_table` answers: how many rows it wrote, or a refusal's number and index.
-#[derive(Drop)]
+#[derive(Clone, Copy)]
 pub enum Filled {
     Rows(usize),
     NoRows(u64, usize),

@@ -1,4 +1,6 @@
 // Time of a frame: ticks in microseconds, what is near the end of a video, an edit's time in media ticks.
+#![tactic(auto)]
+
 ghost use Rattle.std.specs.Prelude.{◌≡◌, ◌+◌, ◌-◌, ◌^◌, ◌≤◌, ◌<◌, leb, pos, nat_abs, ◌+ℤ◌, ◌*ℤ◌};
 ghost use Rattle.signed.specs.Rounded.{rounded};
 ghost use Rattle.wide.specs.Value.{value, number};
@@ -19,21 +21,21 @@ pub const NO_TIME: u64 = 23;
 const SMALL_TICKS: u64 = 4_611_686_018_427;
 
 // A time in microseconds, or a refusal: its number and its index, which is 0.
-#[derive(Drop)]
+#[derive(Clone, Copy)]
 pub enum Us {
     At(i64),
     Refused(u64, usize),
 }
 
 // Media ticks below 2^63, or none where an i64 doesn't hold them.
-#[derive(Drop)]
+#[derive(Clone, Copy)]
 pub enum MediaTicks {
     Are(u64),
     Beyond,
 }
 
 // A number that may be below 0 as the difference plus - minus.
-#[derive(Drop)]
+#[derive(Clone, Copy)]
 struct Allowance {
     plus: Wide,
     minus: Wide,

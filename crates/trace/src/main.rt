@@ -7,6 +7,8 @@
 //     origin FRAME                           where a frame comes from
 //
 // Every map goes through the proved calls, and every refusal is theirs, that of a 1,025th row too; this program only holds the rows and prints.
+#![tactic(auto)]
+
 ghost use Rattle.std.specs.Prelude.{◌≤◌, length};
 
 use maps::Mapped;
@@ -14,7 +16,7 @@ use reading::Ending;
 use steps::Step;
 
 // How many rows the map has, how many the second map of a join, and whether a join waits for its rows.
-#[derive(Drop)]
+#[derive(Clone, Copy)]
 struct Held {
     rows: usize,
     second: usize,

@@ -1,16 +1,18 @@
 // What the boxes of a track say (ISO/IEC 14496-12): its timescale, its tables of durations and offsets, its edit list.
+#![tactic(auto)]
+
 pub mod edits;
 pub mod tables;
 
 // How many entries a table has, where they are all there.
-#[derive(Drop)]
+#[derive(Clone, Copy)]
 pub enum Rows {
     Whole(usize),
     Torn,
 }
 
 // Where a walk over a table's entries stands: value is for count frames more, and then left entries follow, from at on.
-#[derive(Drop)]
+#[derive(Clone, Copy)]
 pub struct Cursor {
     pub left: usize,
     pub at: usize,
@@ -19,7 +21,7 @@ pub struct Cursor {
 }
 
 // An entry of an edit list.
-#[derive(Drop)]
+#[derive(Clone, Copy)]
 pub struct Line {
     pub duration: u64,
     pub time: i64,
@@ -27,7 +29,7 @@ pub struct Line {
 }
 
 // What an edit list says: whether there is an edit, from where in the media, whether it is open, to where if it isn't, and after how many empty ticks.
-#[derive(Drop)]
+#[derive(Clone, Copy)]
 pub struct Edit {
     pub edited: bool,
     pub time: i64,
@@ -37,7 +39,7 @@ pub struct Edit {
 }
 
 // An edit, or an edit list that is refused.
-#[derive(Drop)]
+#[derive(Clone, Copy)]
 pub enum Edited {
     By(Edit),
     Bad,

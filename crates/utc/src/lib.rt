@@ -1,4 +1,6 @@
 // The UTC rule of creation times: YYYY-MM-DDTHH:MM:SSZ.
+#![tactic(auto)]
+
 ghost use Rattle.std.specs.Prelude.{◌≡◌, ◌+◌, ◌*◌, ◌-◌, ◌<◌, length};
 ghost use Rattle.utc.specs.Utc.{figures, two, allFigures, marks, leap, days, dated, timeOfDay, utcBytes, utcSecond};
 

@@ -1,24 +1,26 @@
 // Two-word unsigned numbers: sum, product, order, and the quotient by a number of 32 bits.
+#![tactic(auto)]
+
 ghost use Rattle.std.specs.Prelude.{◌≡◌, ◌+◌, ◌*◌, ◌/◌, ◌^◌, ◌<◌, nat_le};
 ghost use Rattle.wide.specs.Value.{value};
 ghost use Rattle.wide.specs.Divided.{Divided};
 
 // hi * 2^64 + lo
-#[derive(Drop)]
+#[derive(Clone, Copy)]
 pub struct Wide {
     pub hi: u64,
     pub lo: u64,
 }
 
 // An integer: below 0 where neg, of the magnitude mag.
-#[derive(Drop)]
+#[derive(Clone, Copy)]
 pub struct Big {
     pub neg: bool,
     pub mag: Wide,
 }
 
 // A digit of a quotient, in base 2^32 or in base 2^64, and the remainder after it.
-#[derive(Drop)]
+#[derive(Clone, Copy)]
 pub struct Digit {
     pub quotient: u64,
     pub rest: u64,

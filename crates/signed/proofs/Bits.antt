@@ -16,13 +16,13 @@ abbrev pub read : ℤ → ℤ
 read z = to_z w64 (of_z w64 z)
 
 pub reads : {z : ℤ} → SFits w64 z → read z ≡ z
-reads f = to_z-of_z f
+reads f = to_z-of_z {w = w64} f
 
 pub fits-of : {z : ℤ} → I64 z → SFits w64 z
 fits-of h = record { sfits = h }
 
 pub back : (z : ℤ) → I64 z → read z ≡ z
-back z h = to_z-of_z (record { sfits = h })
+back z h = to_z-of_z {w = w64} (record { sfits = h })
 
 module _ (a b : ℤ) (p : I64 a) (q : I64 b) (t : Bool) where
   pub le_read : le_z (read a) (read b) ≡ t → le_z a b ≡ t

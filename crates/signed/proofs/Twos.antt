@@ -1,7 +1,7 @@
 -- Bits read as a signed number, for every number of bits up to 64. Assumes nothing.
 use mathlib.Core.Path.{◌≡◌, sym, ap, ◌∙◌, subst}
 use mathlib.Core.Bool.{Bool, cond}
-use Prim.Native.Nat.{ℕ, suc, ◌-◌, ◌*◌, ◌≤◌, ◌<◌, ◌^◌}
+use Prim.Native.Nat.{ℕ, zero, suc, ◌-◌, ◌*◌, ◌≤◌, ◌<◌, ◌^◌}
 use lib.IntN.{ℤ, pos, negsuc, ◌-ℤ◌}
 use mir.Syntax.{w64}
 use mir.Val.{SFits, to_z}
@@ -20,6 +20,7 @@ unfolding of_bits
 high_is half x l h = rw (le-ltb x half l) (sym (below x (2 * half) h))
   where
     below : (x n : ℕ) → x < n → pos x -ℤ pos n ≡ negsuc (n - suc x)
+    below x zero h = elim h [ ]
     below x (suc n) h = ap (λ (t : Bool). cond t (negsuc (suc n - suc x)) (pos (x - suc n))) (lt-ltb x (suc n) h)
 
 -- y is how far x lies below the largest number of that many bits

@@ -1,9 +1,9 @@
-// Standard input of the programs. Which bytes C's read gives no contract can say; these say how many bytes of the room are held.
+// Standard input of the programs. Which bytes the system gives no contract can say; these say how many bytes of the room are held.
 #![tactic(auto)]
 
-ghost use Rattle.io.specs.Counts.{IsPrefixLen};
+ghost use Rattle.reading.specs.Held.{IsPrefixLen};
 
-use libc::STDIN_FILENO;
+use std::io::Read;
 
 // What a read filled: how many bytes are held, and whether it stopped because it failed.
 #[derive(Clone, Copy)]
@@ -27,21 +27,22 @@ pub struct Input {
     pub end: Ending,
 }
 
-// Reads until the room is full, the input ends, or a read fails. io::read_full does the same, but doesn't tell the last two apart.
-pub fn fill(room: &mut [u8]) -> Taken
+// Reads until the room is full, the input ends, or a read fails. `read_exact` does the same, but doesn't tell how many bytes came before the end.
+pub fn fill<R: Read>(input: &mut R, room: &mut [u8]) -> Taken
     ensures { IsPrefixLen result.held room.new }
 {
     let mut held = 0;
     while held < room.len() {
-        let got = libc::read(STDIN_FILENO, &mut room[held..]);
-        let more = io::count(got, &room[held..]);
-        if more == 0 {
-            return Taken {
-                held,
-                failed: got < 0,
-            };
+        match input.read(&mut room[held..]) {
+            Ok(0) => {
+                return Taken {
+                    held,
+                    failed: false,
+                };
+            }
+            Ok(more) => held += more,
+            Err(_) => return Taken { held, failed: true },
         }
-        held += more;
     }
     Taken {
         held,
@@ -50,9 +51,9 @@ pub fn fill(room: &mut [u8]) -> Taken
 }
 
 // How the input ends after the room is full: one byte more is asked for.
-fn after_full() -> Ending {
+fn after_full<R: Read>(input: &mut R) -> Ending {
     let mut byte = [0u8; 1];
-    let next = fill(&mut byte);
+    let next = fill(input, &mut byte);
     if next.failed {
         return Ending::Failed;
     }
@@ -63,10 +64,10 @@ fn after_full() -> Ending {
 }
 
 // The whole input, where it has room.
-pub fn read_input(room: &mut [u8]) -> Input
+pub fn read_input<R: Read>(input: &mut R, room: &mut [u8]) -> Input
     ensures { IsPrefixLen result.held room.new }
 {
-    let filled = fill(room);
+    let filled = fill(input, room);
     let held = filled.held;
     if filled.failed {
         return Input {
@@ -82,11 +83,11 @@ pub fn read_input(room: &mut [u8]) -> Input
     }
     Input {
         held,
-        end: after_full(),
+        end: after_full(input),
     }
 }
 
 // The line of an input that can't be read.
-pub fn say_failed() {
-    printing::text(b"cannot read standard input\n");
+pub fn say_failed(rt: &impl Print) {
+    printing::text(rt, b"cannot read standard input\n");
 }

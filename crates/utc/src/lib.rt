@@ -15,6 +15,7 @@ fn value(c: u8) -> u64
 }
 
 // The number of two figures.
+#[tactic(auto, unfolding(crate::specs::Utc::two))]
 fn two_at(b: &[u8], i: usize) -> u64
     requires { i + 1 < length b.now }
     ensures { (result ≡ two b.now i) × (result < 4096) }
@@ -56,6 +57,7 @@ fn is_leap(y: u64) -> bool
 }
 
 // How many days a month has.
+#[tactic(auto, unfolding(crate::specs::Utc::days))]
 fn days_of(y: u64, m: u64) -> u64
     ensures { result ≡ days y m }
 {
@@ -79,6 +81,7 @@ fn is_timed(h: u64, m: u64, s: u64) -> bool
 }
 
 // The rule for 20 bytes.
+#[tactic(auto, unfolding(crate::specs::Utc::utcBytes))]
 fn utc_bytes(b: &[u8]) -> bool
     requires { length b.now ≡ 20 }
     ensures { result ≡ utcBytes b.now }
@@ -91,6 +94,7 @@ fn utc_bytes(b: &[u8]) -> bool
 }
 
 // Whether some bytes are a time of day of a date, to the second, in UTC. The Rust's is_utc_second.
+#[tactic(auto, unfolding(crate::specs::Utc::utcSecond))]
 pub fn is_utc_second(b: &[u8]) -> bool
     ensures { result ≡ utcSecond b.now }
 {

@@ -3,7 +3,6 @@ use Rattle.std.specs.Prelude.{ℕ, Bool, List, [], ◌≡◌, refl, ℤ}
 use Rattle.std.specs.Borrow.{Bor}
 use Rattle.audit.specs.Promise.{Promise, Result, Anywhere, lent}
 use Rattle.judge.specs.declared.Video.{Video}
-use Rattle.records.specs.Records.{locate}
 use Rattle.records.specs.declared.TrimSegment.{TrimSegment}
 use Rattle.ticks.specs.contracts.ticks_to_us as ticks-to-us·
 use Rattle.ticks.proofs.ticks_to_us.Reads as ticks-to-us·reads
@@ -56,6 +55,7 @@ use Rattle.maps.proofs.origin.Reads as origin·reads
 use Rattle.cuts.specs.contracts.cuts as cuts·
 use Rattle.cuts.proofs.cuts.Reads as cuts·reads
 use Rattle.records.specs.contracts.segment_of_frame_records as segment-of-frame-records·
+use Rattle.records.proofs.segment_of_frame_records.Reads as segment-of-frame-records·reads
 
 -- ticks::ticks_to_us
 abbrev pub ticks-to-us : Promise
@@ -332,9 +332,9 @@ Cuts u s ranges ou os counts ans ou' os' counts' = cuts.Learnt ([], ([], ([], ([
 pub cuts·anywhere : Anywhere cuts (λ κs a e. Cuts a.0.now a.1.0.now a.1.1.0.now a.1.1.1.0.now a.1.1.1.1.0.now a.1.1.1.1.1.0.now e.result e.last.1.1.1.0 e.last.1.1.1.1.0 e.last.1.1.1.1.1.0)
 cuts·anywhere κs a e = refl
 
--- records::segment_of_frame_records, proved by hand: its clause, as the source has it
+-- records::segment_of_frame_records
 abbrev pub segment-of-frame-records : Promise
-segment-of-frame-records = record { types = segment-of-frame-records·.ended; Asked = λ κs a. Unit {0}; Learnt = λ κs a z e. z ≡ locate a.0.now a.1.0.now a.1.1.0.now a.1.1.1.0 a.1.1.1.1.0 }
+segment-of-frame-records = record { types = segment-of-frame-records·.ended; Asked = segment-of-frame-records·reads.Asked; Learnt = segment-of-frame-records·reads.Learnt }
 
 -- segment_of_frame_records(sources, text, records, log, frame) answers ans
 abbrev pub SegmentOfFrameRecords : List ℕ → List ℕ → List TrimSegment → Bool → ℕ → Result segment-of-frame-records ([], ([], ([], tt))) → Type 0

@@ -1,9 +1,8 @@
 -- Made by tools/calls: the promise of each call for C, quoted from what Rattle generates of its source, and the same in plain lists and numbers.
 use Rattle.std.specs.Prelude.{ℕ, Bool, List, [], ◌≡◌, refl, ℤ}
+use Rattle.std.specs.Borrow.{Bor}
 use Rattle.audit.specs.Promise.{Promise, Result, Anywhere, lent}
-use Rattle.records.specs.Records.{locate}
 use Rattle.records.specs.declared.TrimSegment.{TrimSegment}
-use Rattle.told.specs.Told.{lookupTold}
 use Rattle.segment_table.specs.contracts.clock.st_is_utc_second as st-is-utc-second·
 use Rattle.segment_table.proofs.clock.st_is_utc_second.Reads as st-is-utc-second·reads
 use Rattle.segment_table.specs.contracts.clock.st_ticks_to_us as st-ticks-to-us·
@@ -27,6 +26,7 @@ use Rattle.segment_table.proofs.judging.st_validate_times.Reads as st-validate-t
 use Rattle.segment_table.specs.contracts.judging.st_check_mcraw as st-check-mcraw·
 use Rattle.segment_table.proofs.judging.st_check_mcraw.Reads as st-check-mcraw·reads
 use Rattle.segment_table.specs.contracts.listed.st_segment_of_frame_records as st-segment-of-frame-records·
+use Rattle.segment_table.proofs.listed.st_segment_of_frame_records.Reads as st-segment-of-frame-records·reads
 use Rattle.segment_table.specs.contracts.recordings.st_mcraw_times as st-mcraw-times·
 use Rattle.segment_table.proofs.recordings.st_mcraw_times.Reads as st-mcraw-times·reads
 use Rattle.segment_table.specs.contracts.recordings.st_video_frame_times_of_moov as st-video-frame-times-of-moov·
@@ -175,9 +175,9 @@ StCheckMcraw sources segments times log text timestamps work-a work-b frames ind
 pub st-check-mcraw·anywhere : Anywhere st-check-mcraw (λ κs a e. StCheckMcraw a.0.now a.1.0.now a.1.1.0.now a.1.1.1.0 a.1.1.1.1.0.now a.1.1.1.1.1.0.now a.1.1.1.1.1.1.0.now a.1.1.1.1.1.1.1.0.now a.1.1.1.1.1.1.1.1.0.now a.1.1.1.1.1.1.1.1.1.0.now e.result e.last.1.1.1.1.1.1.0 e.last.1.1.1.1.1.1.1.0 e.last.1.1.1.1.1.1.1.1.0 e.last.1.1.1.1.1.1.1.1.1.0)
 st-check-mcraw·anywhere κs a e = refl
 
--- segment_table::listed::st_segment_of_frame_records, proved by hand: its clause, as the source has it
+-- segment_table::listed::st_segment_of_frame_records
 abbrev pub st-segment-of-frame-records : Promise
-st-segment-of-frame-records = record { types = st-segment-of-frame-records·.ended; Asked = λ κs a. Unit {0}; Learnt = λ κs a z e. (z, e.1.1.1.1.1.0.now, e.1.1.1.1.1.1.0.now) ≡ lookupTold (locate a.0.now a.1.0.now a.1.1.0.now a.1.1.1.0 a.1.1.1.1.0) a.1.1.1.1.1.0.now }
+st-segment-of-frame-records = record { types = st-segment-of-frame-records·.ended; Asked = st-segment-of-frame-records·reads.Asked; Learnt = st-segment-of-frame-records·reads.Learnt }
 
 -- st_segment_of_frame_records(sources, text, records, log, frame, segment, index) answers ans, and leaves segment', index'
 abbrev pub StSegmentOfFrameRecords : List ℕ → List ℕ → List TrimSegment → Bool → ℕ → ℕ → ℕ → Result st-segment-of-frame-records ([], ([], ([], ([], ([], tt))))) → ℕ → ℕ → Type 0

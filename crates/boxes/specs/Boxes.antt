@@ -1,6 +1,5 @@
 -- The boxes of some bytes, by ISO/IEC 14496-12, 4.2, and how they end.
-use Rattle.std.specs.Prelude.{ℕ, zero, suc, ◌+◌, ◌-◌, ◌/◌, ◌%◌, List, Bool, true, false, ◌&&◌, length, drop, ltb, leb, eqb}
-use Rattle.choice.specs.Choice.{if◌then◌else◌}
+use Rattle.std.specs.Prelude.{ℕ, zero, suc, ◌+◌, ◌-◌, ◌/◌, ◌%◌, List, Bool, true, false, ◌&&◌, length, drop, ltb, leb, eqb, if◌then◌else◌}
 use Rattle.boxes.specs.Bytes.{be32At, be64At}
 use Rattle.boxes.specs.declared.Sized.{Sized}
 use Rattle.boxes.specs.declared.Sized.TheVariants.{Box, Refused}

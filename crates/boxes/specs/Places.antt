@@ -1,7 +1,6 @@
 -- A part of the caller's own bytes, and what each search answers: a part's place, or a refusal's number and index.
-use Rattle.std.specs.Prelude.{ℕ, ◌+◌, ◌-◌, List, [], ◌∷◌, Bool, ◌≡◌, length, take, drop, ltb, eqb}
+use Rattle.std.specs.Prelude.{ℕ, ◌+◌, ◌-◌, List, [], ◌∷◌, Bool, ◌≡◌, length, take, drop, ltb, eqb, if◌then◌else◌}
 use Rattle.std.specs.Borrow.{Bor}
-use Rattle.choice.specs.Choice.{if◌then◌else◌}
 use Rattle.boxes.specs.Bytes.{moov, udta, mtrm}
 use Rattle.boxes.specs.Boxes.{mostBytes, Boxes, clean, bad, box, boxesOf, searched, textual, first_of}
 use Rattle.boxes.specs.declared.Place.{Place}

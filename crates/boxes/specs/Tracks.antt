@@ -1,6 +1,5 @@
 -- The first video track of a moov (ISO/IEC 14496-12, 8.3.1, 8.4.1, 8.4.3).
-use Rattle.std.specs.Prelude.{ℕ, List, Bool, false, length, take, drop, ltb, eqb}
-use Rattle.choice.specs.Choice.{if◌then◌else◌}
+use Rattle.std.specs.Prelude.{ℕ, List, Bool, false, length, take, drop, ltb, eqb, if◌then◌else◌}
 use Rattle.boxes.specs.Bytes.{be32At, trak, mdia, hdlr, vide}
 use Rattle.boxes.specs.Boxes.{boxesOf, firstSuch}
 use Rattle.boxes.specs.Places.{childOf}

@@ -4,6 +4,7 @@
 --     and-, or-          what a conjunction or disjunction says of its parts
 --     le-or-lt, same-    orders of numbers as tests
 --     tests, sums        rulesets: `search tests` where a definition tests what the code tests
+use Rattle.std.specs.Prelude.{if◌then◌else◌}
 use mathlib.Core.Path.{◌≡◌, ◌∙◌, refl, sym}
 use mathlib.Core.Bool.{Bool, true, false, true≢false, ◌||◌, ◌&&◌}
 use mathlib.Core.Logic.{◌⊎◌, inl, inr, ⊎_elim}
@@ -13,7 +14,6 @@ use lib.Dec.{leb, ltb}
 use mir.Syntax.{w64}
 use mir.Val.{Fits}
 use borrow.Author.Tests.{eq-eqb, ne_eqb, lt-ltb, le-ltb, le-leb, lt-leb}
-use Rattle.choice.specs.Choice.{if◌then◌else◌}
 
 -- a test, and the equation of its answer
 pub data Test (b : Bool) : Type 0 where

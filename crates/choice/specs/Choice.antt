@@ -1,11 +1,6 @@
 -- A choice by a test, and chains of tests in order.
 use Rattle.std.specs.Prelude.{ℕ, ◌+◌, Bool, true, false, ltb}
 
-infixr 1 if◌then◌else◌
-abbrev pub if◌then◌else◌ : {A : Type 0} → Bool → A → A → A
-if◌then◌else◌ true a b = a
-if◌then◌else◌ false a b = b
-
 -- what is given where a test holds, else what the tests after it give
 unfoldable pub when : {A : Type 0} → Bool → A → A → A
 when true n rest = n

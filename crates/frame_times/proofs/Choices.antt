@@ -1,4 +1,5 @@
 -- Choices whose tests are known. Assumes nothing.
+use Rattle.std.specs.Prelude.{if◌then◌else◌}
 use mathlib.Core.Path.{◌≡◌, refl, ◌∙◌}
 use mathlib.Core.Bool.{true, false}
 use Prim.Native.Nat.{ℕ, ◌≤◌, ◌^◌}
@@ -10,7 +11,6 @@ use lib.Signed.{le_z, lt_z, mag}
 use lib.Dec.{ltb}
 use borrow.Author.Tests.{ltb-true, ltb-false}
 use native.Mathlib.Omega.{arith}
-use Rattle.choice.specs.Choice.{if◌then◌else◌}
 use Rattle.choice.proofs.Tests.{decide}
 use Rattle.signed.specs.Signed.{within}
 use Rattle.signed.specs.contracts.Held.{the_type as held-type}

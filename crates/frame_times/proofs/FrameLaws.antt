@@ -1,4 +1,5 @@
 -- The frames of a track, those that are kept, and the last of them. Assumes nothing.
+use Rattle.std.specs.Prelude.{if◌then◌else◌}
 use mathlib.Core.Path.{◌≡◌, refl, sym, ◌∙◌, subst}
 use mathlib.Core.Bool.{Bool, true, false}
 use mathlib.Core.List.{List, [], ◌∷◌, ◌++◌, map}
@@ -7,7 +8,6 @@ use native.Mathlib.Omega.{arith}
 use lib.ListN.{length, get_or, drop}
 use lib.IntN.{ℤ, pos, ◌+ℤ◌}
 use lib.Signed.{le_z}
-use Rattle.choice.specs.Choice.{if◌then◌else◌}
 use Rattle.choice.proofs.Tests.{decide, either, tf}
 use Rattle.signed.specs.Signed.{of_bits}
 use Rattle.signed.proofs.Order.{le_refl, le_trans, le_total, lt-le}

@@ -1,4 +1,5 @@
 -- The pass over the frames, turn by turn. Assumes nothing.
+use Rattle.std.specs.Prelude.{if◌then◌else◌}
 use mathlib.Core.Path.{◌≡◌, refl, sym, ap, ◌∙◌, subst}
 use mathlib.Core.Bool.{Bool, true, false}
 use mathlib.Core.List.{List, [], ◌∷◌, ◌++◌, append_assoc, append-nil, map, map-append}
@@ -10,7 +11,6 @@ use lib.Seq.{take-suc-set}
 use lib.IntN.{ℤ, pos, ◌+ℤ◌}
 use lib.Signed.{le_z}
 use borrow.Author.Tests.{eq-eqb, ne_eqb}
-use Rattle.choice.specs.Choice.{if◌then◌else◌}
 use Rattle.signed.specs.Steps.{I64}
 use Rattle.choice.proofs.Tests.{decide}
 use Rattle.slices.proofs.Every.{all_append}

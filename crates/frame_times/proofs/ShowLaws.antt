@@ -1,4 +1,5 @@
 -- Why the test of the end is the test of every start: no kept time is above the end, and none is far from 0. Assumes nothing.
+use Rattle.std.specs.Prelude.{if◌then◌else◌}
 use mathlib.Core.Path.{◌≡◌, refl, sym, ap, ◌∙◌, subst}
 use mathlib.Core.Bool.{true, false, ◌||◌}
 use mathlib.Core.List.{List, [], ◌∷◌, ◌++◌, map, map-append}
@@ -10,7 +11,6 @@ use lib.Seq.{take-suc, take_all, length-take-le}
 use lib.IntN.{ℤ, pos, negsuc, ◌-ℤ◌}
 use lib.Signed.{le_z, mag}
 use borrow.Author.Tests.{le-leb, lt-leb}
-use Rattle.choice.specs.Choice.{if◌then◌else◌}
 use Rattle.choice.specs.Records.{any}
 use Rattle.signed.specs.Steps.{I64}
 use Rattle.signed.specs.Signed.{isOutside}

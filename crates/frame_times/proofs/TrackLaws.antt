@@ -1,4 +1,5 @@
 -- The refusals and the answer, case by case, down from the moov. Assumes nothing.
+use Rattle.std.specs.Prelude.{if◌then◌else◌}
 use mathlib.Core.Path.{◌≡◌, refl, sym, ap, ◌∙◌, subst}
 use mathlib.Core.Bool.{Bool, false, ◌||◌}
 use mathlib.Core.List.{List, [], ◌∷◌}
@@ -11,7 +12,6 @@ use lib.IntN.{ℤ}
 use lib.ListN.{length}
 use lib.Dec.{ltb, eqb}
 use borrow.Author.Tests.{lt-ltb, le-ltb, eqb-false}
-use Rattle.choice.specs.Choice.{if◌then◌else◌}
 use Rattle.choice.proofs.Tests.{or-false}
 use Rattle.boxes.specs.Places.{placeOr, part_of}
 use Rattle.boxes.specs.Steps.{offsetIn}

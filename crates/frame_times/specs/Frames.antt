@@ -1,7 +1,6 @@
 -- The frames of a track: when each is decoded and composed, which of them an edit keeps, and where those lie (ISO/IEC 14496-12, 8.6.1 and 8.6.6).
-use Rattle.std.specs.Prelude.{ℕ, ◌+◌, Bool, true, false, List, [], ◌∷◌, map, get_or, drop, ℤ, pos, ◌+ℤ◌, ◌-ℤ◌}
+use Rattle.std.specs.Prelude.{ℕ, ◌+◌, Bool, true, false, List, [], ◌∷◌, map, get_or, drop, ℤ, pos, ◌+ℤ◌, ◌-ℤ◌, if◌then◌else◌}
 use Rattle.std.specs.Int.Signed.{le_z, lt_z}
-use Rattle.choice.specs.Choice.{if◌then◌else◌}
 use Rattle.tracks.specs.declared.Edit.{Edit}
 
 -- a frame: its decode time, its composition time, its duration

@@ -1,7 +1,6 @@
 -- What the inner functions promise each other: what the pass over the frames tells, and how far from 0 its numbers lie.
-use Rattle.std.specs.Prelude.{ℕ, ◌+◌, ◌≤◌, ◌<◌, ◌^◌, ◌≡◌, true, false, List, [], ◌∷◌, length, take, ℤ, ◌-ℤ◌, eqb}
+use Rattle.std.specs.Prelude.{ℕ, ◌+◌, ◌≤◌, ◌<◌, ◌^◌, ◌≡◌, true, false, List, [], ◌∷◌, length, take, ℤ, ◌-ℤ◌, eqb, if◌then◌else◌}
 use Rattle.std.specs.Int.Signed.{le_z, mag}
-use Rattle.choice.specs.Choice.{if◌then◌else◌}
 use Rattle.signed.specs.Steps.{I64}
 use Rattle.slices.specs.Slices.{laid, All}
 use Rattle.tracks.specs.declared.Edit.{Edit}

@@ -1,8 +1,7 @@
 -- The frame times of a moov: what is answered, from its bytes down to its frames. With `standard` composition offsets are read by the standard, else by the Rust
 -- (`offsets` of tracks/specs/Tables.antt); nothing else goes by it.
-use Rattle.std.specs.Prelude.{ℕ, ◌+◌, min, ◌≡◌, Bool, ◌||◌, List, [], ◌∷◌, map, length, get_or, ℤ, pos, ltb, eqb}
+use Rattle.std.specs.Prelude.{ℕ, ◌+◌, min, ◌≡◌, Bool, ◌||◌, List, [], ◌∷◌, map, length, get_or, ℤ, pos, ltb, eqb, if◌then◌else◌}
 use Rattle.std.specs.Int.Signed.{le_z}
-use Rattle.choice.specs.Choice.{if◌then◌else◌}
 use Rattle.choice.specs.Records.{any}
 use Rattle.choice.specs.Numbers.{tooLong, noTimes, noRoom, outside, badHeader}
 use Rattle.signed.specs.Signed.{isOutside}

@@ -1,4 +1,5 @@
 -- Both readings of a moov are the same where no offset of version 0 has its top bit set. Assumes nothing.
+use Rattle.std.specs.Prelude.{if◌then◌else◌}
 use mathlib.Core.Path.{◌≡◌, refl, ap, ◌∙◌}
 use mathlib.Core.Bool.{Bool, true, false, ◌||◌}
 use mathlib.Core.List.{List, [], ◌∷◌, map}
@@ -7,7 +8,6 @@ use lib.ListN.{length, get_or}
 use lib.IntN.{ℤ}
 use lib.Dec.{ltb, eqb}
 use borrow.Author.Tests.{eqb-true}
-use Rattle.choice.specs.Choice.{if◌then◌else◌}
 use Rattle.choice.specs.Numbers.{tooLong, noTimes, noRoom}
 use Rattle.choice.proofs.Tests.{decide}
 use Rattle.slices.specs.Slices.{All}

@@ -1,4 +1,5 @@
 -- `mode l` is the one value that is `MostFrequent` in l, and sorting does not change it. Assumes nothing.
+use Rattle.std.specs.Prelude.{if◌then◌else◌}
 use mathlib.Core.Path.{◌≡◌, refl, sym, ◌∙◌}
 use mathlib.Core.Bool.{true, false}
 use mathlib.Core.Logic.{◌⊎◌, inl, inr, ⊎_elim}
@@ -11,7 +12,6 @@ use lib.Dec.{eqb}
 use lib.IntN.{ℤ}
 use lib.ListN.{length}
 use lib.Signed.{le_z}
-use Rattle.choice.specs.Choice.{if◌then◌else◌}
 use Rattle.choice.proofs.Tests.{decide, either}
 use Rattle.signed.specs.Signed.{eqZ}
 use Rattle.signed.proofs.Order.{le_refl, le_trans, le_antisym, lt-le, not-lt-le, eqZ-refl, eqZ-true}

@@ -1,6 +1,5 @@
 -- What `order_sort` answers and leaves. Assumes nothing: these are definitions.
-use Rattle.std.specs.Prelude.{Bool, List, ◌≡◌, leb, ℤ, length}
-use Rattle.choice.specs.Choice.{if◌then◌else◌}
+use Rattle.std.specs.Prelude.{Bool, List, ◌≡◌, leb, ℤ, length, if◌then◌else◌}
 use Rattle.order.specs.Order.{sorted}
 
 -- r says whether scratch is long enough; then xs is left sorted, else as it was

@@ -2,11 +2,12 @@
 --     next-none, next-stop, next-go    a record more: after one that was refused, one that is, one that isn't
 --     after_none, after_more    the two steps of a loop over the records
 --     stopped-answer, whole-answer    the answer where the walk stopped, and where it went over all records
+use Rattle.std.specs.Prelude.{if◌then◌else◌}
 use Rattle.std.proofs.Common.{◌≡◌, ℕ, zero, suc, ◌+◌, ◌-◌, ◌%◌, ◌^◌, ◌<◌, ◌≤◌, min, Bool, true, false, cond, leb, List, length, sym, refl, ap, ◌∙◌, zero-add, add-one, arith}
 use native.Mathlib.Nat.{sub-zero}
 use Rattle.choice.specs.declared.Refusal.{Refusal}
 use Rattle.choice.specs.declared.Refusal.TheVariants.{Never, At}
-use Rattle.choice.specs.Choice.{when, if◌then◌else◌}
+use Rattle.choice.specs.Choice.{when}
 use Rattle.choice.specs.Records.{run}
 use Rattle.choice.proofs.Tests.{either, decide, tf}
 use Rattle.choice.proofs.Runs.{run-cons, run-nil, length_run}

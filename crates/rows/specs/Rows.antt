@@ -1,6 +1,6 @@
 -- Frame maps (document 01, 'Frame maps'): which rows are well formed, the origin of a frame, cut, join and merge.
-use Rattle.std.specs.Prelude.{ℕ, ◌+◌, ◌-◌, min, max, Bool, true, not, ◌&&◌, ◌||◌, List, [], ◌∷◌, ◌++◌, map, ◌≡◌, ℤ, pos, leb, ltb, eqb}
-use Rattle.choice.specs.Choice.{if◌then◌else◌, past, maxU64}
+use Rattle.std.specs.Prelude.{ℕ, ◌+◌, ◌-◌, min, max, Bool, true, not, ◌&&◌, ◌||◌, List, [], ◌∷◌, ◌++◌, map, ◌≡◌, ℤ, pos, leb, ltb, eqb, if◌then◌else◌}
+use Rattle.choice.specs.Choice.{past, maxU64}
 use Rattle.signed.specs.Signed.{eqZ}
 use Rattle.rows.specs.declared.Row.{Row}
 

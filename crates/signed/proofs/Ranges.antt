@@ -1,4 +1,5 @@
 -- What `within` gives, by where the number lies; a magnitude with a sign as an i64. Assumes nothing.
+use Rattle.std.specs.Prelude.{if◌then◌else◌}
 use mathlib.Core.Path.{◌≡◌, refl, sym, ap, ◌∙◌, subst}
 use mathlib.Core.Bool.{Bool, true, false}
 use Prim.Native.Nat.{ℕ, zero, suc, ◌≤◌, ◌<◌, ◌^◌}
@@ -9,7 +10,6 @@ use mir.Syntax.{w64}
 use mir.Val.{SFits, to_z}
 use mir.Facts.{to_z_pos}
 use borrow.Author.Tests.{lt-ltb, le-ltb}
-use Rattle.choice.specs.Choice.{if◌then◌else◌}
 use Rattle.signed.specs.declared.Held.TheVariants.{Is, Outside}
 use Rattle.signed.specs.Signed.{within}
 use Rattle.signed.specs.Steps.{I64, with_sign}

@@ -1,7 +1,6 @@
 -- Integers that an i64 holds, equality of integers, and the number that some bits are.
-use Rattle.std.specs.Prelude.{ℕ, ◌*◌, ◌^◌, Bool, false, eqb, ltb, leb, ℤ, pos, negsuc, ◌-ℤ◌}
+use Rattle.std.specs.Prelude.{ℕ, ◌*◌, ◌^◌, Bool, false, eqb, ltb, leb, ℤ, pos, negsuc, ◌-ℤ◌, if◌then◌else◌}
 use Rattle.std.specs.Int.Signed.{mag}
-use Rattle.choice.specs.Choice.{if◌then◌else◌}
 use Rattle.signed.specs.declared.Held.{Held}
 use Rattle.signed.specs.declared.Held.TheVariants.{Is, Outside}
 

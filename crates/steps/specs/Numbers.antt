@@ -1,6 +1,6 @@
 -- Words as numbers: decimal digits, and `-` before them where a number may be below 0.
-use Rattle.std.specs.Prelude.{ℕ, ◌+◌, ◌-◌, ◌*◌, Bool, true, false, List, [], ◌∷◌, ltb, leb, eqb}
-use Rattle.choice.specs.Choice.{if◌then◌else◌, maxU64}
+use Rattle.std.specs.Prelude.{ℕ, ◌+◌, ◌-◌, ◌*◌, Bool, true, false, List, [], ◌∷◌, ltb, leb, eqb, if◌then◌else◌}
+use Rattle.choice.specs.Choice.{maxU64}
 use Rattle.signed.specs.Signed.{within}
 use Rattle.signed.specs.declared.Held.{Held}
 use Rattle.signed.specs.declared.Held.TheVariants as held

@@ -1,4 +1,5 @@
 -- 31 is divided, and nothing else: with 36 taken back every answer is that of document 01. Assumes nothing.
+use Rattle.std.specs.Prelude.{if◌then◌else◌}
 use mathlib.Core.Path.{◌≡◌, refl, ap, ◌∙◌}
 use mathlib.Core.Bool.{Bool, true, false}
 use mathlib.Core.List.{List}
@@ -6,7 +7,6 @@ use Prim.Native.Nat.{ℕ, ◌-◌}
 use lib.IntN.{ℤ}
 use lib.ListN.{length, take, drop}
 use lib.Dec.{ltb}
-use Rattle.choice.specs.Choice.{if◌then◌else◌}
 use Rattle.slices.specs.Slices.{laid}
 use Rattle.boxes.specs.Boxes.{mostBytes, header_at, boxesOf, searched, first_of, reachedBy, childrenAt}
 use Rattle.boxes.specs.Places.{placeOr, place_of, movedWalk, movedPlace, childPlace, findBoxPlace}

@@ -1,4 +1,5 @@
 -- Frame times with 36 taken back to 31 are those of document 01, down from the moov. Assumes nothing.
+use Rattle.std.specs.Prelude.{if◌then◌else◌}
 use mathlib.Core.Path.{◌≡◌, refl, sym, ap, ◌∙◌, subst}
 use mathlib.Core.Bool.{Bool, true, false, ◌||◌}
 use mathlib.Core.List.{List}
@@ -7,7 +8,6 @@ use native.Mathlib.Omega.{arith}
 use lib.ListN.{length, get_or}
 use lib.Dec.{ltb, eqb}
 use borrow.Author.Tests.{lt-ltb, ltb-true, leb-false}
-use Rattle.choice.specs.Choice.{if◌then◌else◌}
 use Rattle.choice.specs.Numbers.{tooLong, noTimes}
 use Rattle.choice.proofs.Tests.{either, tf}
 use Rattle.boxes.specs.Bytes.{mdia, be32At}

@@ -1,7 +1,6 @@
 -- The answers of document 01, where 31 isn't divided: however a walk ends without a box that has to be there, it is 31. And 36 taken back to it.
 -- Frame times have `standard` as in frame_times/specs/Times.antt: without it they are document 01's.
-use Rattle.std.specs.Prelude.{ℕ, ◌-◌, Bool, ◌||◌, List, length, take, drop, ltb, eqb}
-use Rattle.choice.specs.Choice.{if◌then◌else◌}
+use Rattle.std.specs.Prelude.{ℕ, ◌-◌, Bool, ◌||◌, List, length, take, drop, ltb, eqb, if◌then◌else◌}
 use Rattle.choice.specs.Numbers.{tooLong, noTimes, badHeader}
 use Rattle.boxes.specs.Bytes.{mdia}
 use Rattle.boxes.specs.Boxes.{mostBytes, header_at, boxesOf, searched, first_of}

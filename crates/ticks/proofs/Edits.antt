@@ -1,10 +1,10 @@
 -- An edit's time in media ticks, as the program makes it. Assumes nothing.
+use Rattle.std.specs.Prelude.{if◌then◌else◌}
 use mathlib.Core.Path.{◌≡◌, sym, ap, ◌∙◌}
 use Prim.Native.Nat.{ℕ, ◌+◌, ◌*◌, ◌/◌, ◌^◌, ◌≤◌, ◌<◌}
 use native.Mathlib.Omega.{arith}
 use lib.Dec.{ltb}
 use borrow.Author.Tests.{lt-ltb, le-ltb}
-use Rattle.choice.specs.Choice.{if◌then◌else◌}
 use Rattle.ticks.specs.declared.MediaTicks.TheVariants.{Are, Beyond}
 use Rattle.ticks.specs.Ticks.{editTicks, mediaTicks}
 

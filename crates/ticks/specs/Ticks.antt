@@ -1,7 +1,7 @@
 -- Time of a frame: ticks of a scale in microseconds, and what is near the end of a video. And an edit's time in media ticks.
-use Rattle.std.specs.Prelude.{ℕ, ◌+◌, ◌*◌, ◌/◌, ◌^◌, Bool, eqb, ltb, ℤ, pos, nat_abs, ◌+ℤ◌, ◌-ℤ◌, ◌*ℤ◌}
+use Rattle.std.specs.Prelude.{ℕ, ◌+◌, ◌*◌, ◌/◌, ◌^◌, Bool, eqb, ltb, ℤ, pos, nat_abs, ◌+ℤ◌, ◌-ℤ◌, ◌*ℤ◌, if◌then◌else◌}
 use Rattle.std.specs.Int.Signed.{le_z}
-use Rattle.choice.specs.Choice.{if◌then◌else◌, when}
+use Rattle.choice.specs.Choice.{when}
 use Rattle.signed.specs.declared.Held.{Held}
 use Rattle.signed.specs.declared.Held.TheVariants.{Is, Outside}
 use Rattle.signed.specs.Signed.{within}

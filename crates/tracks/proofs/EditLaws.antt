@@ -1,4 +1,5 @@
 -- The cases of the edit list, each from plain facts, and what every edit keeps to. Assumes nothing.
+use Rattle.std.specs.Prelude.{if◌then◌else◌}
 use mathlib.Core.Path.{◌≡◌, refl, sym, ap, ◌∙◌, subst}
 use mathlib.Core.Bool.{Bool, true, false}
 use mathlib.Core.List.{List, [], ◌∷◌}
@@ -13,7 +14,6 @@ use lib.IntN.{ℤ, pos, negsuc, nat_abs}
 use lib.Signed.{le_z, lt_z}
 use lib.Dec.{ltb, eqb}
 use borrow.Author.Tests.{lt-ltb, le-ltb, eq-eqb, ne_eqb, ltb-true, le-leb}
-use Rattle.choice.specs.Choice.{if◌then◌else◌}
 use Rattle.choice.proofs.Tests.{either, tf}
 use Rattle.signed.specs.Signed.{eqZ}
 use Rattle.signed.specs.Steps.{I64}

@@ -1,4 +1,5 @@
 -- What is taken off an offset makes it the offset of the definition; and where both readings of it are the same. Assumes nothing.
+use Rattle.std.specs.Prelude.{if◌then◌else◌}
 use mathlib.Core.Path.{◌≡◌, refl, sym, ap}
 use mathlib.Core.Bool.{Bool, true, false}
 use Prim.Native.Nat.{ℕ, ◌+◌, ◌≤◌, ◌<◌, ◌^◌}
@@ -6,7 +7,6 @@ use native.Mathlib.Omega.{arith}
 use lib.IntN.{pos, ◌-ℤ◌}
 use lib.Dec.{ltb}
 use borrow.Author.Tests.{lt-ltb}
-use Rattle.choice.specs.Choice.{if◌then◌else◌}
 use Rattle.choice.proofs.Tests.{either}
 use Rattle.signed.specs.Signed.{of_bits}
 use Rattle.tracks.specs.Tables.{offset_of}

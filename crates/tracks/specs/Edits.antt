@@ -1,6 +1,5 @@
 -- The edit list (ISO/IEC 14496-12, 8.6.6): none, one edit of the media, or an empty edit and then one.
-use Rattle.std.specs.Prelude.{ℕ, ◌+◌, ◌*◌, ◌^◌, Bool, true, false, List, length, get_or, ℤ, pos, negsuc, ltb, eqb}
-use Rattle.choice.specs.Choice.{if◌then◌else◌}
+use Rattle.std.specs.Prelude.{ℕ, ◌+◌, ◌*◌, ◌^◌, Bool, true, false, List, length, get_or, ℤ, pos, negsuc, ltb, eqb, if◌then◌else◌}
 use Rattle.signed.specs.Signed.{eqZ, of_bits}
 use Rattle.ticks.specs.Ticks.{mediaTicks}
 use Rattle.ticks.specs.declared.MediaTicks.{MediaTicks}

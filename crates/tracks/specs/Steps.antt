@@ -1,7 +1,6 @@
 -- What the functions promise each other: walks over a table, frame by frame, and how large an edit's numbers are.
-use Rattle.std.specs.Prelude.{ℕ, ◌+◌, ◌-◌, ◌*◌, ◌≤◌, ◌^◌, min, ◌≡◌, List, ◌++◌, map, length, get_or, drop, replicate, ℤ, pos, ◌-ℤ◌, Bool, true, false, ltb}
+use Rattle.std.specs.Prelude.{ℕ, ◌+◌, ◌-◌, ◌*◌, ◌≤◌, ◌^◌, min, ◌≡◌, List, ◌++◌, map, length, get_or, drop, replicate, ℤ, pos, ◌-ℤ◌, Bool, true, false, ltb, if◌then◌else◌}
 use Rattle.std.specs.Int.Signed.{le_z}
-use Rattle.choice.specs.Choice.{if◌then◌else◌}
 use Rattle.signed.specs.Steps.{I64}
 use Rattle.slices.specs.Slices.{laid}
 use Rattle.tracks.specs.declared.Cursor.{Cursor}

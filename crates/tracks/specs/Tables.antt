@@ -1,6 +1,5 @@
 -- The timescales and the tables of a track (ISO/IEC 14496-12, 8.2.2, 8.4.2 and 8.6.1).
-use Rattle.std.specs.Prelude.{ℕ, zero, suc, ◌+◌, ◌*◌, ◌^◌, List, [], ◌∷◌, ◌++◌, map, length, get_or, replicate, ℤ, pos, Bool, true, false, ◌&&◌, ltb, leb, eqb}
-use Rattle.choice.specs.Choice.{if◌then◌else◌}
+use Rattle.std.specs.Prelude.{ℕ, zero, suc, ◌+◌, ◌*◌, ◌^◌, List, [], ◌∷◌, ◌++◌, map, length, get_or, replicate, ℤ, pos, Bool, true, false, ◌&&◌, ltb, leb, eqb, if◌then◌else◌}
 use Rattle.signed.specs.Signed.{of_bits}
 use Rattle.boxes.specs.Bytes.{be32At}
 use Rattle.tracks.specs.declared.Rows.{Rows}

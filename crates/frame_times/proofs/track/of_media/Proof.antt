@@ -1,9 +1,9 @@
+use Rattle.std.specs.Prelude.{if◌then◌else◌}
 use mathlib.Core.Path.{◌≡◌, sym, ap, ◌∙◌, subst}
 use mathlib.Core.List.{List}
 use Prim.Native.Nat.{ℕ, ◌+◌, ◌≤◌}
 use native.Mathlib.Omega.{arith}
 use lib.ListN.{length}
-use Rattle.choice.specs.Choice.{if◌then◌else◌}
 use Rattle.boxes.specs.Boxes.{boxesOf, first_of}
 use Rattle.boxes.proofs.Within.{Walked, walk-stays, found_within}
 use Rattle.tracks.specs.Tables.{scale_of}

@@ -1,3 +1,4 @@
+use Rattle.std.specs.Prelude.{if◌then◌else◌}
 use mathlib.Core.Path.{◌≡◌, ap, ◌∙◌, sym, subst}
 use mathlib.Core.List.{List}
 use Prim.Native.Nat.{ℕ}
@@ -5,7 +6,6 @@ use native.Mathlib.Nat.{zero-add}
 use native.Mathlib.Omega.{arith}
 use lib.ListN.{length}
 use borrow.Author.Tests.{lt-ltb, le-ltb, not-true, not-false}
-use Rattle.choice.specs.Choice.{if◌then◌else◌}
 use Rattle.boxes.specs.Boxes.{mostBytes, boxesOf, first_of}
 use Rattle.boxes.specs.Tracks.{videoTrack}
 use Rattle.boxes.proofs.Within.{Walked, walk-stays, found_within}

@@ -1,8 +1,8 @@
+use Rattle.std.specs.Prelude.{if◌then◌else◌}
 use mathlib.Core.Path.{sym, ap, ◌∙◌}
 use borrow.Author.Tests.{lt-ltb, le-ltb}
 use lib.ListN.{get_or, length}
 use lib.Dec.{eqb}
-use Rattle.choice.specs.Choice.{if◌then◌else◌}
 use Rattle.boxes.specs.Bytes.{be32At}
 use Rattle.tracks.specs.declared.Edited.TheVariants.{Bad}
 use Rattle.tracks.specs.Edits.{lines_of, elstOf}

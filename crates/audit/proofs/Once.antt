@@ -44,7 +44,7 @@ once = record {
   merge = λ κs a. (tt, record { the = record { result = _; last = _ }; said = record { answer = refl; words = refl; shifts = refl }; only = λ e p i. record { result = p.answer i; last = (tt, (tt, (p.words i, (p.shifts i, tt)))) } });
   origin = λ κs a. (tt, record { the = record { result = _; last = _ }; said = refl; only = λ e p i. record { result = p i; last = e.last } });
   segment-of-frame-records = λ κs a. (tt, record { the = record { result = _; last = _ }; said = refl; only = λ e p i. record { result = p i; last = e.last } });
-  child = λ κs a. (tt, record { the = record { result = record { ref_ptr = _; now = _ }; last = _ }; said = record { bytes = refl; place = refl }; bytes = λ e p. p.bytes; address = λ e p. p.place });
-  find-box = λ κs a. (tt, record { the = record { result = record { ref_ptr = _; now = _ }; last = _ }; said = record { bytes = refl; place = refl }; bytes = λ e p. p.bytes; address = λ e p. p.place });
-  table-text = λ κs a. (tt, record { the = record { result = record { ref_ptr = _; now = _ }; last = _ }; said = record { bytes = refl; place = refl }; bytes = λ e p. p.bytes; address = λ e p. p.place });
+  child = λ κs a. (tt, record { the = record { result = record { ref_ptr = _; now = _ }; last = _ }; said = record { bytes = refl; place = refl }; only = λ e p i. record { result = record { ref_ptr = p.place i; now = p.bytes i }; last = e.last } });
+  find-box = λ κs a. (tt, record { the = record { result = record { ref_ptr = _; now = _ }; last = _ }; said = record { bytes = refl; place = refl }; only = λ e p i. record { result = record { ref_ptr = p.place i; now = p.bytes i }; last = e.last } });
+  table-text = λ κs a. (tt, record { the = record { result = record { ref_ptr = _; now = _ }; last = _ }; said = record { bytes = refl; place = refl }; only = λ e p i. record { result = record { ref_ptr = p.place i; now = p.bytes i }; last = e.last } });
 }

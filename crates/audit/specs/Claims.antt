@@ -59,7 +59,7 @@ use Rattle.frame_times.specs.Times as frames
 use Rattle.mcraw.specs.declared.RecordingTimes.{RecordingTimes}
 use Rattle.mcraw.specs.Mcraw.{McrawAnswers}
 use Rattle.told.specs.Told.{usTold, sizeTold, placeTold, reachedTold, checkedTold, refusalTold, lookupTold, indexedTold, continuedTold, filledTold, mappedTold, tracedTold, timesTold, moovTold}
-use Rattle.audit.specs.Promise.{OneAnswer, OnePart}
+use Rattle.audit.specs.Promise.{OneAnswer}
 use Rattle.audit.specs.Calls as calls
 use Rattle.audit.specs.Face as face
 use Rattle.audit.specs.Words.{Lent, table, on, Tells, Check, SegmentOfFrame, SegmentOfTimeUs, Continues, RowsOfTable, SegmentsOfFrames, Validate, CheckMcraw, in_words, mapWritten}
@@ -90,12 +90,11 @@ pub record Answers : Type 0 where
   pub join : OneAnswer calls.join
   pub merge : OneAnswer calls.merge
   pub origin : OneAnswer calls.origin
-  -- Of the lookup over records, which is proved by hand, the promise is its clause as the source has it.
   pub segment-of-frame-records : OneAnswer calls.segment-of-frame-records
-  -- The exception: a returned part is fixed in its bytes and its address, and not in the name that proofs give a reference.
-  pub child : OnePart calls.child (λ κs r. r)
-  pub find-box : OnePart calls.find-box (λ κs r. r)
-  pub table-text : OnePart calls.table-text (λ κs r. r)
+  -- A part of the caller's own bytes: its bytes and its address, which is all that a shared reference is.
+  pub child : OneAnswer calls.child
+  pub find-box : OneAnswer calls.find-box
+  pub table-text : OneAnswer calls.table-text
 
 -- THE C FACE: of each exported call too exactly one answer meets the promise: the number that it returns, and what each word and each slice that is lent holds
 -- afterwards. It asks nothing either. (Demand 1.)

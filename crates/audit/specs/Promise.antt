@@ -42,18 +42,6 @@ module _ (f : Promise) where
   abbrev pub OneAnswer : Type 0
   OneAnswer = (κs : Regions) (a : Given κs) → f.Asked κs a × ExactlyOne κs a
 
-  -- a part of the caller's bytes meets the promise, and every part that does has the same bytes at the same address
-  pub record ExactlyOnePart (part : (κs : Regions) → Result κs → Bor (List ℕ)) (κs : Regions) (a : Given κs) : Type 0 where
-    pub the : End κs a
-    pub said : Says κs a the
-    pub bytes : (e : End κs a) → Says κs a e → (part κs e.result).now ≡ (part κs the.result).now
-    pub address : (e : End κs a) → Says κs a e → (part κs e.result).ptr ≡ (part κs the.result).ptr
-
-  -- ONE PART, of a call that answers a part of the caller's bytes: it asks nothing, and exactly one part meets the promise. What stays open is the name that the
-  -- proofs give a reference, which no program sees
-  abbrev pub OnePart : ((κs : Regions) → Result κs → Bor (List ℕ)) → Type 0
-  OnePart part = (κs : Regions) (a : Given κs) → f.Asked κs a × ExactlyOnePart part κs a
-
   -- the promise of any call, wherever its slices live and lie, is P of it
   abbrev pub Anywhere : ((κs : Regions) (a : Given κs) → End κs a → Type 0) → Type 1
   Anywhere P = (κs : Regions) (a : Given κs) (e : End κs a) → Says κs a e ≡ P κs a e

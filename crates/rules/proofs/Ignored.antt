@@ -13,7 +13,7 @@ use Rattle.choice.specs.Records.{any, firstRefused, orRefused}
 use Rattle.choice.proofs.Tests.{decide}
 use Rattle.rules.specs.declared.Source.{Source}
 use Rattle.rules.specs.declared.Ends.{Ends}
-use Rattle.rules.specs.Records.{Segment, Table, noSource, noSegment, source, segment, source_of, frameTotal}
+use Rattle.rules.specs.Records.{Segment, Table, noSource, noSegment, segment, source_of, frameTotal}
 use Rattle.rules.specs.Rules.{negative, badWords, badSource, badSegment, malformed, badDate, badClock, badShift, sourceRefusal, stampTimes, judged, segmentRefusal, start, endsOf, ends, segmentsFrom, frontRefusal, refusal, checkedOf, checkOf}
 use Rattle.rules.specs.Lookups.{countSuch, ended, overBy, overByUs, lookedUp, segmentOfFrame, segmentOfTime, sameShift, segmentRunsOn, continued, continuesAt}
 use Rattle.rules.specs.Absent.{strippedSource, strippedSegment, stripped}

@@ -159,6 +159,7 @@ fn bad_clock(kind: u64, ticks: u64, per: u64, modulus: u64) -> bool
 }
 
 // 4 to 7 of a source: a number, or 0 where none refuses it.
+#[tactic(auto, unfolding(choice::specs::Choice::when, crate::specs::Rules::sourceRefusal))]
 pub fn source_refusal(log: bool, text: &[u8], s: Source) -> u64
     ensures { result ≡ sourceRefusal log text.now s }
 {
@@ -203,6 +204,7 @@ fn bad_shift(kind: u64, modulus: u64, flag: u64, back: bool, shift: u64) -> bool
 }
 
 // 10 to 12: a number, or 0. Each test leaves at once, since most segments pass all and a walk of many is long.
+#[tactic(auto, unfolding(choice::specs::Choice::when))]
 fn frames_refusal(frames: u64, first: u64, count: u64, out: u64) -> u64
     ensures { result ≡ framesOr frames first count out 0 }
 {
@@ -222,6 +224,7 @@ fn frames_refusal(frames: u64, first: u64, count: u64, out: u64) -> u64
 }
 
 // 13 to 16, and 14 of the out pairs: a number, or 0.
+#[tactic(auto, unfolding(choice::specs::Choice::when))]
 fn times_refusal(prev: Ends, out: u64, t: SixTimes) -> u64
     ensures { result ≡ timesOr prev out t 0 }
 {
@@ -278,6 +281,7 @@ pub fn turn_of(s: Source, prev: Ends, w: Words, t: SixTimes) -> Turn
 }
 
 // No end: what stands before the first segment, and what a segment that isn't passed has.
+#[tactic(auto, unfolding(crate::specs::Rules::start))]
 pub fn no_end() -> Ends
     ensures { result ≡ start }
 {
@@ -346,6 +350,7 @@ fn fine_shift(kind: u64, modulus: u64, flag: u64, shift: i64) -> bool
 }
 
 // 14 of numbers that aren't negative: their sums fit.
+#[tactic(auto, unfolding(choice::specs::Choice::past))]
 fn late(start: u64, duration: u64, cap: u64, capdur: u64) -> bool
     requires { (start ≤ maxI64) × (duration ≤ maxI64) × (cap ≤ maxI64) × (capdur ≤ maxI64) }
     ensures { result ≡ tooLate start duration cap capdur }

@@ -72,7 +72,8 @@ fn passes(k: Kind, b: u8) -> bool
 
 // How many of the first bytes are of a kind.
 fn leading(l: &[u8], k: Kind) -> usize
-    ensures { result ≡ leadingOf k l.now }
+    ensures value { result ≡ leadingOf k l.now }
+    ensures bound { result ≤ length l.now }
 {
     let mut i = 0;
     while i < l.len() {
@@ -85,6 +86,7 @@ fn leading(l: &[u8], k: Kind) -> usize
 }
 
 // Whether two words are the same.
+#[tactic(auto, unfolding(crate::specs::Words::sameAs))]
 pub fn same(a: &[u8], b: &[u8]) -> bool
     ensures { result ≡ sameAs a.now b.now }
 {
@@ -102,6 +104,7 @@ pub fn same(a: &[u8], b: &[u8]) -> bool
 }
 
 // A line before its comment.
+#[tactic(auto, unfolding(crate::specs::Words::code_of))]
 fn code(l: &[u8]) -> &[u8]
     ensures { result.now ≡ code_of l.now }
 {
@@ -110,6 +113,7 @@ fn code(l: &[u8]) -> &[u8]
 }
 
 // A line from its first word on.
+#[tactic(auto, unfolding(crate::specs::Words::trimmed))]
 fn trim(l: &[u8]) -> &[u8]
     ensures { result.now ≡ trimmed l.now }
 {
@@ -118,6 +122,7 @@ fn trim(l: &[u8]) -> &[u8]
 }
 
 // The first word of a line, empty where there is none.
+#[tactic(auto, unfolding(crate::specs::Words::word_of))]
 pub fn word(l: &[u8]) -> &[u8]
     ensures { result.now ≡ word_of l.now }
 {
@@ -127,6 +132,7 @@ pub fn word(l: &[u8]) -> &[u8]
 }
 
 // What comes after the first word.
+#[tactic(auto, unfolding(crate::specs::Words::rest_of))]
 pub fn rest(l: &[u8]) -> &[u8]
     ensures { result.now ≡ rest_of l.now }
 {
@@ -214,6 +220,7 @@ pub fn integer_of(l: &[u8]) -> Integer
 }
 
 // A step that nothing may follow.
+#[tactic(auto, unfolding(crate::specs::Steps::endedBy, choice::specs::Choice::when))]
 fn ended(s: Step, l: &[u8]) -> Step
     ensures { result ≡ endedBy s l.now }
 {
@@ -224,6 +231,7 @@ fn ended(s: Step, l: &[u8]) -> Step
 }
 
 // The shift of a row, if it has one.
+#[tactic(auto, unfolding(crate::specs::Steps::rowShift, choice::specs::Choice::when))]
 fn row_shift(source: u64, first: u64, count: u64, l: &[u8]) -> Step
     ensures { result ≡ rowShift source first count l.now }
 {
@@ -243,6 +251,7 @@ fn row_shift(source: u64, first: u64, count: u64, l: &[u8]) -> Step
 }
 
 // The count of a row, and what follows it.
+#[tactic(auto, unfolding(crate::specs::Steps::rowCount))]
 fn row_count(source: u64, first: u64, l: &[u8]) -> Step
     ensures { result ≡ rowCount source first l.now }
 {
@@ -254,6 +263,7 @@ fn row_count(source: u64, first: u64, l: &[u8]) -> Step
 }
 
 // The source first of a row, and what follows it.
+#[tactic(auto, unfolding(crate::specs::Steps::rowFirst))]
 fn row_first(source: u64, l: &[u8]) -> Step
     ensures { result ≡ rowFirst source l.now }
 {
@@ -265,6 +275,7 @@ fn row_first(source: u64, l: &[u8]) -> Step
 }
 
 // The source of a row, and what follows it.
+#[tactic(auto, unfolding(crate::specs::Steps::rowSource))]
 fn row_source(l: &[u8]) -> Step
     ensures { result ≡ rowSource l.now }
 {
@@ -276,6 +287,7 @@ fn row_source(l: &[u8]) -> Step
 }
 
 // The end of a cut.
+#[tactic(auto, unfolding(crate::specs::Steps::cutEnd))]
 fn cut_end(start: u64, l: &[u8]) -> Step
     ensures { result ≡ cutEnd start l.now }
 {
@@ -287,6 +299,7 @@ fn cut_end(start: u64, l: &[u8]) -> Step
 }
 
 // The start of a cut, and what follows it.
+#[tactic(auto, unfolding(crate::specs::Steps::cutStart))]
 fn cut_start(l: &[u8]) -> Step
     ensures { result ≡ cutStart l.now }
 {
@@ -298,6 +311,7 @@ fn cut_start(l: &[u8]) -> Step
 }
 
 // The frame whose origin is asked.
+#[tactic(auto, unfolding(crate::specs::Steps::originFrame))]
 fn origin_frame(l: &[u8]) -> Step
     ensures { result ≡ originFrame l.now }
 {
@@ -309,6 +323,7 @@ fn origin_frame(l: &[u8]) -> Step
 }
 
 // Which word begins a step.
+#[tactic(auto, unfolding(crate::specs::Steps::keywordIn, choice::specs::Choice::when))]
 fn keyword_of(w: &[u8]) -> Keyword
     ensures { result ≡ keywordIn w.now }
 {
@@ -334,6 +349,7 @@ fn keyword_of(w: &[u8]) -> Keyword
 }
 
 // What a line without its comment asks for.
+#[tactic(auto, unfolding(crate::specs::Steps::stepIn))]
 fn step_in(l: &[u8]) -> Step
     ensures { result ≡ stepIn l.now }
 {
@@ -349,6 +365,7 @@ fn step_in(l: &[u8]) -> Step
 }
 
 // What a line asks for.
+#[tactic(auto, unfolding(crate::specs::Steps::step_of))]
 pub fn parse(line: &[u8]) -> Step
     ensures { result ≡ step_of line.now }
 {

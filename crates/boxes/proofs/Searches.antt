@@ -1,10 +1,8 @@
 -- The first box of a type, with text types or without, and all boxes of a type, from `at` on, by the header at `at`. Assumes nothing.
 use mathlib.Core.Path.{◌≡◌, refl, sym, ap, ◌∙◌}
 use mathlib.Core.Bool.{Bool, true, false, not, ◌&&◌}
-use mathlib.Core.Logic.{⊎_elim}
 use mathlib.Core.List.{List, [], ◌∷◌}
 use Prim.Native.Nat.{ℕ}
-use native.Mathlib.Omega.{arith}
 use borrow.Author.Tests.{eq-eqb, ne_eqb, not-true, not-false}
 use Rattle.choice.proofs.Tests.{tf}
 use Rattle.boxes.specs.Boxes.{Boxes, bad, box, header_at, afterHeader, boxesAt, isText, textual, searched, firstSuch, first_of}
@@ -35,13 +33,13 @@ module _ (kind : ℕ) (s : List ℕ) (at : ℕ) where
   stop true Bad t = refl
   stop false Short t = refl
   stop false Bad t = refl
-  stop text (Whole k start len next) t = absurd (⊎_elim (λ x. omega arith) (λ x. omega arith) t)
+  stop text (Whole k start len next) t = absurd (t k start len next refl)
 
   none : (h : Header) → Stops h → all_of kind (afterHeader h at (boxesAt s)) ≡ []
   unfolding all_of
   none Short t = refl
   none Bad t = refl
-  none (Whole k start len next) t = absurd (⊎_elim (λ x. omega arith) (λ x. omega arith) t)
+  none (Whole k start len next) t = absurd (t k start len next refl)
 
   pub search-stops : (text : Bool) {h : Header} → h ≡ header_at s at → Stops h → first_of kind (searched text (boxesAt s at)) ≡ stop_at h at
   search-stops text {h} e t = rw (at-header s at e) (stop text h t)

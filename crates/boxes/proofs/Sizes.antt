@@ -7,7 +7,7 @@ use native.Mathlib.Omega.{arith}
 use lib.ListN.{length, take, drop, length-drop}
 use lib.Seq.{get_or-drop}
 use lib.Dec.{ltb, eqb}
-use borrow.Author.Tests.{lt-ltb, le-ltb, ltb-false, eq-eqb, ne_eqb}
+use borrow.Author.Tests.{lt-ltb, le-ltb, ltb-false, ne_eqb}
 use Rattle.choice.proofs.Tests.{either}
 use Rattle.boxes.specs.Bytes.{be32At, be64At}
 use Rattle.boxes.specs.Boxes.{fittingIn, size_of, headerBy, header_at}
@@ -43,28 +43,10 @@ size-fitting s remaining =
 pub fits : (s : List ℕ) (remaining : ℕ) {z : Sized} → z ≡ size_of s remaining → Fitting remaining z
 fits s remaining e = subst (Fitting remaining) (sym e) (size-fitting s remaining)
 
--- the cases of a size, each from plain facts on numbers
-module _ (s : List ℕ) (remaining : ℕ) where
-  pub none : length s < 4 → Refused 31 0 ≡ size_of s remaining
-  unfolding size_of
-  none h = rw (lt-ltb _ _ h)
-
-  module _ (h : 4 ≤ length s) where
-    pub rest : {r : Sized} → be32At s 0 ≡ 0 → r ≡ fittingIn remaining 8 remaining → r ≡ size_of s remaining
-    unfolding size_of
-    rest z r = simp (le-ltb _ _ h, eq-eqb _ _ z, r)
-
-    pub torn : be32At s 0 ≡ 1 → length s < 16 → Refused 31 0 ≡ size_of s remaining
-    unfolding size_of
-    torn z l = simp (le-ltb _ _ h, ne_eqb (be32At s 0) 0 (omega arith), eq-eqb _ _ z, lt-ltb _ _ l)
-
-    pub large : {n : ℕ} {r : Sized} → be32At s 0 ≡ 1 → 16 ≤ length s → n ≡ be64At s 8 → r ≡ fittingIn remaining 16 n → r ≡ size_of s remaining
-    unfolding size_of
-    large z l n r = simp (le-ltb _ _ h, ne_eqb (be32At s 0) 0 (omega arith), eq-eqb _ _ z, le-ltb _ _ l, r, n)
-
-    pub small : {n : ℕ} {r : Sized} → 2 ≤ be32At s 0 → n ≡ be32At s 0 → r ≡ fittingIn remaining 8 n → r ≡ size_of s remaining
-    unfolding size_of
-    small z n r = simp (le-ltb _ _ h, ne_eqb (be32At s 0) 0 (omega arith), ne_eqb (be32At s 0) 1 (omega arith), r, n)
+-- a size of 32 bits
+small : (s : List ℕ) (remaining : ℕ) → 4 ≤ length s → {n : ℕ} {r : Sized} → 2 ≤ be32At s 0 → n ≡ be32At s 0 → r ≡ fittingIn remaining 8 n → r ≡ size_of s remaining
+unfolding size_of
+small s remaining h z n r = simp (le-ltb _ _ h, ne_eqb (be32At s 0) 0 (omega arith), ne_eqb (be32At s 0) 1 (omega arith), r, n)
 
 module _ (s : List ℕ) (at : ℕ) where
   pub short : length s - at < 8 → Short ≡ header_at s at

@@ -1,11 +1,8 @@
 -- The laws of a walk over the boxes of a list: what the boxes from `at` on are, by the header at `at`. Assumes nothing.
 use mathlib.Core.Path.{◌≡◌, refl, ap, ◌∙◌}
 use mathlib.Core.Bool.{Bool, true, false}
-use mathlib.Core.Logic.{⊎_elim}
-use mathlib.Core.List.{List, [], ◌∷◌}
+use mathlib.Core.List.{List}
 use Prim.Native.Nat.{ℕ, zero, suc, ◌+◌, ◌-◌, ◌≤◌}
-use types.Run.{OneOf}
-use denote.Enum.Declared.{tag_of}
 use native.Mathlib.Omega.{arith}
 use lib.ListN.{length}
 use Rattle.boxes.specs.Boxes.{Boxes, box, header_at, afterHeader, boxesFrom, boxesAt, firstSuch}
@@ -13,7 +10,6 @@ use Rattle.boxes.specs.declared.Header.{Header}
 use Rattle.boxes.specs.declared.Header.TheVariants.{Whole, Short, Bad}
 use Rattle.boxes.specs.declared.Walk.TheVariants.{Found}
 use Rattle.boxes.specs.Steps.{stop_at}
-use Rattle.boxes.specs.contracts.Header.{the_type}
 use Rattle.boxes.proofs.Sizes.{Lies, header-lies, short}
 
 -- any count that is enough gives the same boxes
@@ -44,7 +40,7 @@ at-header s at e = rw (unrolled s at, ← e)
 
 -- a header that is not whole, as an `else` knows it
 abbrev pub Stops : Header → Type 0
-Stops h = OneOf (1 ∷ 2 ∷ []) (tag_of the_type h)
+Stops h = (kind start len next : ℕ) → h ≡ Whole kind start len next → ⊥
 
 -- the first box that passes a test from `at` on, by the header at `at`
 module _ (test : ℕ → ℕ → ℕ → Bool) (s : List ℕ) (at : ℕ) where
@@ -52,7 +48,7 @@ module _ (test : ℕ → ℕ → ℕ → Bool) (s : List ℕ) (at : ℕ) where
   unfolding firstSuch
   stop Short t = refl
   stop Bad t = refl
-  stop (Whole kind start len next) t = absurd (⊎_elim (λ e. omega arith) (λ e. omega arith) t)
+  stop (Whole kind start len next) t = absurd (t kind start len next refl)
 
   pub first_stops : {h : Header} → h ≡ header_at s at → Stops h → firstSuch test (boxesAt s at) ≡ stop_at h at
   first_stops {h} e t = rw (at-header s at e) (stop h t)

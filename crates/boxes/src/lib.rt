@@ -76,6 +76,7 @@ pub enum Reached {
 }
 
 // The size of the box at the start of data and of its header, where remaining bytes are left of what it is in: the Rust's box_size. 30, 31.
+#[tactic(auto, using(choice::proofs::Tests::tests), unfolding(crate::specs::Boxes::boxSize))]
 pub fn box_size(data: &[u8], remaining: u64) -> Sized
     ensures { result ≡ boxSize «data».now remaining }
 {
@@ -87,6 +88,7 @@ pub fn box_size(data: &[u8], remaining: u64) -> Sized
 
 // The box at an offset: a turn of the Rust's children. From 0 on, and then from each answer's next, all boxes are met, in order,
 // until 31, where fewer than 8 bytes are left, or 36, where a bad header stands: both are the Rust's None. 30, 42, 31 or 36.
+#[tactic(auto, using(choice::proofs::Tests::tests), unfolding(crate::specs::Boxes::childrenAt))]
 pub fn children(payload: &[u8], at: usize) -> Reached
     ensures { result ≡ childrenAt payload.now at }
 {
@@ -115,6 +117,7 @@ pub fn children(payload: &[u8], at: usize) -> Reached
 
 // Where the payload of the first child of a type lies: the Rust's child. 30, 31 where the boxes end without it, 36 where a bad header ends
 // them before, with its offset.
+#[tactic(auto, using(choice::proofs::Tests::tests), unfolding(crate::specs::Places::childPlace))]
 pub fn child_place(payload: &[u8], kind: u32) -> Place
     ensures { result ≡ childPlace payload.now kind }
 {
@@ -133,6 +136,7 @@ pub fn child(payload: &[u8], kind: u32) -> &[u8]
 
 // Where the payload of the first box of a type among those from start to end lies, in the whole of bytes: the Rust's find_box. 30, 42, 31
 // or 36; the bad header's offset is in the whole too.
+#[tactic(auto, using(choice::proofs::Tests::tests), unfolding(crate::specs::Places::findBoxPlace))]
 pub fn find_box_place(bytes: &[u8], start: usize, end: usize, kind: u32, text_types: bool) -> Place
     ensures { result ≡ findBoxPlace bytes.now start end kind text_types }
 {

@@ -30,6 +30,7 @@ fn text_byte(b: u32) -> bool
 }
 
 // Whether the four bytes of a type are text.
+#[tactic(auto, unfolding(crate::specs::Boxes::isText))]
 fn is_text(kind: u32) -> bool
     ensures { result ≡ isText kind }
 {

@@ -9,6 +9,7 @@ use crate::size::header_at;
 use crate::{Header, Walk};
 
 // Whether a track is a video track: its first mdia's first hdlr has `vide` at 8.
+#[tactic(auto, using(choice::proofs::Tests::tests), unfolding(crate::specs::Tracks::isVideo))]
 fn is_video(trak: &[u8]) -> bool
     ensures { result ≡ isVideo trak.now }
 {
@@ -20,6 +21,7 @@ fn is_video(trak: &[u8]) -> bool
 }
 
 // Whether a box of a moov is a video track.
+#[tactic(auto, using(choice::proofs::Tests::tests), unfolding(crate::specs::Tracks::isVideoTrack))]
 fn is_video_track(s: &[u8], kind: u32, start: usize, len: usize) -> bool
     requires { start + len ≤ length s.now }
     ensures { result ≡ isVideoTrack s.now kind start len }

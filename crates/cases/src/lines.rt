@@ -1,6 +1,8 @@
 // The lines of standard input, of which one piece at a time is held.
 ghost use Rattle.std.specs.Prelude.{◌≤◌, length};
 
+use std::io::Read;
+
 // Where the line at hand lies in the piece, where the next one begins, how many bytes are held, and whether there was no line left.
 #[derive(Clone, Copy)]
 pub struct Lines {
@@ -54,22 +56,28 @@ fn to_front(text: &mut [u8], from: usize, held: usize)
 }
 
 // The bytes from a place on stay, and more are read after them: how many are held then. Where a read fails that is said, and none are: what was cut off is no case.
-fn refilled(text: &mut [u8], from: usize, held: usize) -> usize
+fn refilled<R: Read>(
+    rt: &impl Print,
+    input: &mut R,
+    text: &mut [u8],
+    from: usize,
+    held: usize,
+) -> usize
     requires { (from ≤ held) × (held ≤ length text.old) }
     ensures { result ≤ length text.new }
 {
     to_front(text, from, held);
     let kept = held - from;
-    let more = reading::fill(&mut text[kept..]);
+    let more = reading::fill(input, &mut text[kept..]);
     if more.failed {
-        reading::say_failed();
+        reading::say_failed(rt);
         return 0;
     }
     kept + more.held
 }
 
 // The line after the one at hand. One that is longer than the piece comes in parts.
-pub fn next(text: &mut [u8], l: Lines) -> Lines {
+pub fn next<R: Read>(rt: &impl Print, input: &mut R, text: &mut [u8], l: Lines) -> Lines {
     let from = l.next;
     let held = l.held;
     if text.len() < held {
@@ -82,7 +90,7 @@ pub fn next(text: &mut [u8], l: Lines) -> Lines {
     if end < held {
         return at(from, end, held);
     }
-    let more = refilled(text, from, held);
+    let more = refilled(rt, input, text, from, held);
     at(0, line_end(text, 0, more), more)
 }
 

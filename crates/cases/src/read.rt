@@ -33,6 +33,7 @@ fn word(line: &[u8], at: usize) -> &[u8] {
 }
 
 // The place after it.
+#[tactic(auto, using(crate::proofs::Rest::rest_le))]
 fn after(line: &[u8], at: usize) -> usize
     ensures { result ≤ length line.now }
 {

@@ -7,59 +7,59 @@ const MOST_ROWS: usize = 1024;
 const ROW: usize = 5;
 
 // The line of a case that isn't one.
-pub fn unreadable() {
-    text(b"malformed\n");
+pub fn unreadable(rt: &impl Print) {
+    text(rt, b"malformed\n");
 }
 
 // The line of a bool alone.
-pub fn flag(yes: bool) {
-    number(yes as u64);
-    text(b"\n");
+pub fn flag(rt: &impl Print, yes: bool) {
+    number(rt, yes as u64);
+    text(rt, b"\n");
 }
 
 // An answer's beginning: the number and the index of a refusal.
-pub fn refused(refusal: u64, index: usize) {
-    number(refusal);
-    value(index as u64);
+pub fn refused(rt: &impl Print, refusal: u64, index: usize) {
+    number(rt, refusal);
+    value(rt, index as u64);
 }
 
 // The same where accepted, before the values.
-pub fn accepted() {
-    refused(0, 0);
+pub fn accepted(rt: &impl Print) {
+    refused(rt, 0, 0);
 }
 
 // A value.
-pub fn value(n: u64) {
-    text(b" ");
-    number(n);
+pub fn value(rt: &impl Print, n: u64) {
+    text(rt, b" ");
+    number(rt, n);
 }
 
 // A signed value.
-pub fn long(z: i64) {
-    text(b" ");
-    signed(z);
+pub fn long(rt: &impl Print, z: i64) {
+    text(rt, b" ");
+    signed(rt, z);
 }
 
 // The first n of a list of numbers.
-pub fn words(u: &[u64], n: usize) {
+pub fn words(rt: &impl Print, u: &[u64], n: usize) {
     let mut i = 0;
     while i < u.len() {
         if i == n {
             return;
         }
-        value(u[i]);
+        value(rt, u[i]);
         i += 1;
     }
 }
 
 // The first n of a list of signed numbers.
-pub fn longs(s: &[i64], n: usize) {
+pub fn longs(rt: &impl Print, s: &[i64], n: usize) {
     let mut i = 0;
     while i < s.len() {
         if i == n {
             return;
         }
-        long(s[i]);
+        long(rt, s[i]);
         i += 1;
     }
 }
@@ -70,9 +70,9 @@ fn row_words(n: usize) -> usize {
 }
 
 // The first n rows of lent slices; whether all after them is as it was lent.
-pub fn rows(u: &[u64], s: &[i64], n: usize) -> bool {
-    words(u, row_words(n));
-    longs(s, n);
+pub fn rows(rt: &impl Print, u: &[u64], s: &[i64], n: usize) -> bool {
+    words(rt, u, row_words(n));
+    longs(rt, s, n);
     unwritten(u, s, n)
 }
 
@@ -82,9 +82,9 @@ pub fn unwritten(u: &[u64], s: &[i64], n: usize) -> bool {
 }
 
 // The end of the line, with what is wrong where a call wrote more than its answer.
-pub fn end(kept: bool) {
+pub fn end(rt: &impl Print, kept: bool) {
     if !kept {
-        text(b" touched");
+        text(rt, b" touched");
     }
-    text(b"\n");
+    text(rt, b"\n");
 }

@@ -1,5 +1,5 @@
 -- Chains of refusals: what it says that none of them refused, and what each call's chain gives. Assumes nothing.
-use Rattle.std.proofs.Common.{◌≡◌, ℕ, suc, ◌+◌, ◌*◌, ◌<◌, ◌≤◌, true, false, not, ◌&&◌, eqb, ltb, leb, List, [], ◌∷◌, length, ℤ, refl, ◌∙◌, arith, ltb-false, ltb-true, le-ltb, lt-ltb, eq-eqb, eqb-true, le-leb, leb-false, leb-true}
+use Rattle.std.proofs.Common.{◌≡◌, ℕ, suc, ◌+◌, ◌*◌, ◌<◌, ◌≤◌, true, false, not, ◌&&◌, eqb, ltb, leb, List, [], ◌∷◌, length, ℤ, refl, sym, ◌∙◌, arith, ltb-false, ltb-true, le-ltb, lt-ltb, eq-eqb, eqb-true, le-leb, leb-false, leb-true}
 use borrow.Author.Tests.{lt-leb, not-false}
 use Rattle.choice.specs.Choice.{when, past, maxU64}
 use Rattle.choice.specs.Records.{orRefused}
@@ -24,6 +24,10 @@ counted-are (At n i) t d e = let z : ◌≡◌ {A = ℕ} 0 1 = cc in absurd (ome
 pub counted-refused : (x : Refusal) (t n i : ℕ) → counted x t ≡ frames.Refused n i → x ≡ At n i
 counted-refused Never t n i e = let z : ◌≡◌ {A = ℕ} 0 1 = cc in absurd (omega arith)
 counted-refused (At m j) t n i e = cc
+
+-- the same of a lent map's count, as a match on it tells
+pub counted-map : (u : List ℕ) (s : List ℤ) {d : ℕ} → frames.Are d ≡ counted (mapRefusal u s) (total (rows u s)) → (mapRefusal u s ≡ Never) × (d ≡ total (rows u s))
+counted-map u s {d} e = counted-are (mapRefusal u s) (total (rows u s)) d (sym e)
 
 -- 51
 first-well : (m : List Row) (p i : ℕ) → firstBad p i m ≡ Never → WellFrom p m

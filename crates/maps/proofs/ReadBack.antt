@@ -1,5 +1,5 @@
 -- Rows that are written read back as they are, and what an accepted call wrote is a map that can be lent. Assumes nothing.
-use Rattle.std.proofs.Common.{◌≡◌, ℕ, ◌+◌, ◌*◌, ◌<◌, ◌≤◌, List, [], ◌∷◌, ◌++◌, length, take, drop, ℤ, sym, refl, ap, ◌∙◌, ap₂, arith, take_at, drop_at}
+use Rattle.std.proofs.Common.{◌≡◌, ℕ, ◌*◌, ◌<◌, ◌≤◌, List, [], ◌∷◌, ◌++◌, length, take, drop, ℤ, sym, refl, ap, ◌∙◌, ap₂, arith, take_at, drop_at}
 use Rattle.choice.specs.declared.Refusal.{Refusal}
 use Rattle.choice.specs.declared.Refusal.TheVariants.{Never, At}
 use Rattle.slices.specs.Slices.{after}
@@ -8,7 +8,7 @@ use Rattle.rows.specs.Rows.{total, WellFormed}
 use Rattle.rows.proofs.Demanded.{demanded}
 use Rattle.maps.specs.declared.Mapped.{Mapped}
 use Rattle.maps.specs.declared.Mapped.TheVariants.{Rows, Refused}
-use Rattle.rows.specs.Lent.{rows, words, words_of, shiftsOf}
+use Rattle.rows.specs.Lent.{rows, words_of, shiftsOf}
 use Rattle.maps.specs.Answers.{mostRows, mappedOf, Placed}
 use Rattle.maps.specs.Laws.{Wrote, AsLent}
 use Rattle.rows.proofs.Flat.{length-words, length-shifts, rows-flat}

@@ -1,5 +1,5 @@
 -- What the private steps ask and promise. No public promise names these.
-use Rattle.std.specs.Prelude.{ℕ, ◌/◌, ◌≤◌, ◌<◌, min, List, map, ◌≡◌, ℤ, length}
+use Rattle.std.specs.Prelude.{ℕ, ◌/◌, ◌<◌, min, List, map, ◌≡◌, ℤ, length}
 use Rattle.slices.specs.Slices.{laid}
 use Rattle.rows.specs.declared.Row.{Row}
 use Rattle.rows.specs.Rows.{total}

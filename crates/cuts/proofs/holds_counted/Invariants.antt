@@ -1,0 +1,17 @@
+use Rattle.std.proofs.Common.{◌≡◌, ◌-◌, ◌≤◌, leb, length}
+use Rattle.rows.specs.Lent.{rows}
+use Rattle.cuts.specs.Answers.{rangeAt, rangesOf, cuts_of, concat}
+use Rattle.cuts.proofs.Rows.{rest}
+use Rattle.cuts.proofs.holds_counted.Given as goal
+
+abbrev pub invariant-loop-k : goal.invariant-loop-k
+invariant-loop-k l =
+    record {
+      within : l.k ≤ l.n;
+      same :
+          leb (length (rest (rows l.u l.s) (rangeAt l.ranges) l.k l.n)) l.left
+          ≡ leb (length (concat (cuts_of (rows l.u l.s) (rangesOf l.ranges)))) l.room;
+    }
+
+abbrev pub decreases-loop-k : goal.decreases-loop-k
+decreases-loop-k l = l.n - l.k

@@ -1,0 +1,18 @@
+use Rattle.std.proofs.Common.{◌≡◌, ◌-◌, ◌≤◌, ◌++◌, map, length, take, drop}
+use Rattle.rows.specs.Lent.{rows}
+use Rattle.maps.proofs.Written.{Written}
+use Rattle.cuts.specs.Answers.{rangeAt, rangesOf, cuts_of, concat}
+use Rattle.cuts.proofs.Rows.{rest}
+use Rattle.cuts.proofs.write_cuts.Given as goal
+
+abbrev pub invariant-loop-k : goal.invariant-loop-k
+invariant-loop-k l =
+    record {
+      within : l.k ≤ l.n;
+      written :
+          Written (concat (cuts_of (rows l.u l.s) (rangesOf l.ranges))) (rest (rows l.u l.s) (rangeAt l.ranges) l.k l.n) l.fn.ou l.fn.os l.ou l.os l.w;
+      counted : l.counts ≡ take l.k (map length (cuts_of (rows l.u l.s) (rangesOf l.ranges))) ++ drop l.k l.fn.counts;
+    }
+
+abbrev pub decreases-loop-k : goal.decreases-loop-k
+decreases-loop-k l = l.n - l.k

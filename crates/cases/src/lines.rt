@@ -3,6 +3,9 @@ ghost use Rattle.std.specs.Prelude.{◌≤◌, length};
 
 use std::io::Read;
 
+// How many bytes of the input a program holds at a time.
+pub const PIECE: usize = 65_536;
+
 // Where the line at hand lies in the piece, where the next one begins, how many bytes are held, and whether there was no line left.
 #[derive(Clone, Copy)]
 pub struct Lines {

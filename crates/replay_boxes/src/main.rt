@@ -23,41 +23,41 @@ fn is_at(part: &[u8], bytes: &[u8], place: Place) -> bool {
 }
 
 // The line of a place, and whether the part that is answered for the same arguments lies there.
-fn say_place(place: Place, kept: bool) {
+fn say_place(rt: &impl Print, place: Place, kept: bool) {
     match place {
         Place::At { start, len } => {
-            say::accepted();
-            say::value(start as u64);
-            say::value(len as u64);
+            say::accepted(rt);
+            say::value(rt, start as u64);
+            say::value(rt, len as u64);
         }
-        Place::Refused(number, index) => say::refused(number, index),
+        Place::Refused(number, index) => say::refused(rt, number, index),
     }
-    say::end(kept);
+    say::end(rt, kept);
 }
 
 // box_size BYTES REMAINING
-fn box_size(line: &[u8], c: Cursor, bytes: &[u8]) {
+fn box_size(rt: &impl Print, line: &[u8], c: Cursor, bytes: &[u8]) {
     let remaining = read::number(line, c);
     if !read::ended(line, remaining) {
-        say::unreadable();
+        say::unreadable(rt);
         return;
     }
     match boxes::box_size(bytes, remaining.number) {
         Sized::Box { size, header } => {
-            say::accepted();
-            say::value(size);
-            say::value(header);
+            say::accepted(rt);
+            say::value(rt, size);
+            say::value(rt, header);
         }
-        Sized::Refused(number, index) => say::refused(number, index),
+        Sized::Refused(number, index) => say::refused(rt, number, index),
     }
-    say::end(true);
+    say::end(rt, true);
 }
 
 // children BYTES AT
-fn children(line: &[u8], c: Cursor, bytes: &[u8]) {
+fn children(rt: &impl Print, line: &[u8], c: Cursor, bytes: &[u8]) {
     let at = read::number(line, c);
     if !read::ended(line, at) {
-        say::unreadable();
+        say::unreadable(rt);
         return;
     }
     match boxes::children(bytes, at.number as usize) {
@@ -67,38 +67,38 @@ fn children(line: &[u8], c: Cursor, bytes: &[u8]) {
             len,
             next,
         } => {
-            say::accepted();
-            say::value(kind as u64);
-            say::value(start as u64);
-            say::value(len as u64);
-            say::value(next as u64);
+            say::accepted(rt);
+            say::value(rt, kind as u64);
+            say::value(rt, start as u64);
+            say::value(rt, len as u64);
+            say::value(rt, next as u64);
         }
-        Reached::Refused(number, index) => say::refused(number, index),
+        Reached::Refused(number, index) => say::refused(rt, number, index),
     }
-    say::end(true);
+    say::end(rt, true);
 }
 
 // child BYTES KIND
-fn child(line: &[u8], c: Cursor, bytes: &[u8]) {
+fn child(rt: &impl Print, line: &[u8], c: Cursor, bytes: &[u8]) {
     let kind = read::kind(line, c);
     if !read::ended(line, kind) {
-        say::unreadable();
+        say::unreadable(rt);
         return;
     }
     let code = kind.number as u32;
     let place = boxes::child_place(bytes, code);
     let part = boxes::child(bytes, code);
-    say_place(place, is_at(part, bytes, place));
+    say_place(rt, place, is_at(part, bytes, place));
 }
 
 // find_box BYTES FROM TO KIND TEXT_TYPES
-fn find_box(line: &[u8], c: Cursor, bytes: &[u8]) {
+fn find_box(rt: &impl Print, line: &[u8], c: Cursor, bytes: &[u8]) {
     let from = read::number(line, c);
     let to = read::number(line, from);
     let kind = read::kind(line, to);
     let text = read::flag(line, kind);
     if !read::ended(line, text) {
-        say::unreadable();
+        say::unreadable(rt);
         return;
     }
     let start = from.number as usize;
@@ -107,52 +107,51 @@ fn find_box(line: &[u8], c: Cursor, bytes: &[u8]) {
     let texts = text.number == 1;
     let place = boxes::find_box_place(bytes, start, end, code, texts);
     let part = boxes::find_box(bytes, start, end, code, texts);
-    say_place(place, is_at(part, bytes, place));
+    say_place(rt, place, is_at(part, bytes, place));
 }
 
 // table_text BYTES
-fn table_text(line: &[u8], c: Cursor, bytes: &[u8]) {
+fn table_text(rt: &impl Print, line: &[u8], c: Cursor, bytes: &[u8]) {
     if !read::ended(line, c) {
-        say::unreadable();
+        say::unreadable(rt);
         return;
     }
     let place = boxes::table_text_place(bytes);
     let part = boxes::table_text(bytes);
-    say_place(place, is_at(part, bytes, place));
+    say_place(rt, place, is_at(part, bytes, place));
 }
 
 // One case: every call begins with its bytes.
-fn answer(line: &[u8]) {
+fn answer(rt: &impl Print, line: &[u8]) {
     let mut held = [0u8; 512];
     let c = read::bytes(line, read::start(line), &mut held);
     let n = c.count;
     let bytes = &held[..n];
     if read::is(line, b"box_size") {
-        box_size(line, c, bytes);
+        box_size(rt, line, c, bytes);
     } else if read::is(line, b"children") {
-        children(line, c, bytes);
+        children(rt, line, c, bytes);
     } else if read::is(line, b"child") {
-        child(line, c, bytes);
+        child(rt, line, c, bytes);
     } else if read::is(line, b"find_box") {
-        find_box(line, c, bytes);
+        find_box(rt, line, c, bytes);
     } else if read::is(line, b"table_text") {
-        table_text(line, c, bytes);
+        table_text(rt, line, c, bytes);
     } else {
-        say::unreadable();
+        say::unreadable(rt);
     }
 }
 
 // All cases of standard input.
-fn main() {
-    let mut text = io::large_buffer();
+fn main(rt: HostRuntime) {
+    let mut input = rt.reader();
+    let mut text = [0u8; lines::PIECE];
     let mut l = lines::none();
-    let mut turns: u64 = MAX_U64;
-    while 0 < turns {
-        l = lines::next(&mut text, l);
+    for _ in 0..MAX_U64 {
+        l = lines::next(&rt, &mut input, &mut text, l);
         if l.done {
             return;
         }
-        answer(lines::line(&text, l));
-        turns -= 1;
+        answer(&rt, lines::line(&text, l));
     }
 }

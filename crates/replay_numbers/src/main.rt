@@ -7,58 +7,57 @@ use choice::MAX_U64;
 use ticks::Us;
 
 // is_utc_second BYTES
-fn is_utc_second(line: &[u8], c: Cursor) {
+fn is_utc_second(rt: &impl Print, line: &[u8], c: Cursor) {
     let mut bytes = [0u8; 512];
     let b = read::bytes(line, c, &mut bytes);
     let n = b.count;
     if !read::ended(line, b) {
-        say::unreadable();
+        say::unreadable(rt);
         return;
     }
-    say::flag(utc::is_utc_second(&bytes[..n]));
+    say::flag(rt, utc::is_utc_second(&bytes[..n]));
 }
 
 // ticks_to_us TICKS SCALE
-fn ticks_to_us(line: &[u8], c: Cursor) {
+fn ticks_to_us(rt: &impl Print, line: &[u8], c: Cursor) {
     let t = read::signed(line, c);
     let s = read::number(line, t);
     if !read::ended(line, s) {
-        say::unreadable();
+        say::unreadable(rt);
         return;
     }
     match ticks::ticks_to_us(t.signed, s.number) {
         Us::At(us) => {
-            say::accepted();
-            say::long(us);
+            say::accepted(rt);
+            say::long(rt, us);
         }
-        Us::Refused(number, index) => say::refused(number, index),
+        Us::Refused(number, index) => say::refused(rt, number, index),
     }
-    say::end(true);
+    say::end(rt, true);
 }
 
 // One case.
-fn answer(line: &[u8]) {
+fn answer(rt: &impl Print, line: &[u8]) {
     let c = read::start(line);
     if read::is(line, b"is_utc_second") {
-        is_utc_second(line, c);
+        is_utc_second(rt, line, c);
     } else if read::is(line, b"ticks_to_us") {
-        ticks_to_us(line, c);
+        ticks_to_us(rt, line, c);
     } else {
-        say::unreadable();
+        say::unreadable(rt);
     }
 }
 
 // All cases of standard input.
-fn main() {
-    let mut text = io::large_buffer();
+fn main(rt: HostRuntime) {
+    let mut input = rt.reader();
+    let mut text = [0u8; lines::PIECE];
     let mut l = lines::none();
-    let mut turns: u64 = MAX_U64;
-    while 0 < turns {
-        l = lines::next(&mut text, l);
+    for _ in 0..MAX_U64 {
+        l = lines::next(&rt, &mut input, &mut text, l);
         if l.done {
             return;
         }
-        answer(lines::line(&text, l));
-        turns -= 1;
+        answer(&rt, lines::line(&text, l));
     }
 }

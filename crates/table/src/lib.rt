@@ -71,6 +71,7 @@ fn magnitude_at(t: &[i64], i: usize) -> u64
 }
 
 // Whether any of the six times of segment k is negative.
+#[tactic(auto, unfolding(rules::specs::Rules::stampTimes))]
 fn negative_times_at(t: &[i64], k: usize) -> bool
     requires { k * segmentStamps + segmentStamps ≤ length t.now }
     ensures { result ≡ (stampTimes (stampsAt t.now k)).negative }
@@ -83,6 +84,7 @@ fn negative_times_at(t: &[i64], k: usize) -> bool
 }
 
 // What the signed words of segment k say.
+#[tactic(auto, unfolding(rules::specs::Rules::stampTimes))]
 fn times_at(t: &[i64], k: usize) -> SixTimes
     requires { k * segmentStamps + segmentStamps ≤ length t.now }
     ensures { result ≡ stampTimes (stampsAt t.now k) }
@@ -109,6 +111,7 @@ fn bad_lengths(s: usize, u: usize, t: usize) -> bool
 }
 
 // 1, of source k, where n bytes of text are lent.
+#[tactic(auto, unfolding(rules::specs::Rules::badSource))]
 fn bad_source_at(s: &[u64], n: u64, k: usize) -> bool
     requires { k * sourceWords + sourceWords ≤ length s.now }
     ensures { result ≡ badSource n (sourceAt s.now k) }

@@ -5,21 +5,21 @@ use choice::MAX_U64;
 use maps::{MOST_ROWS, Traced};
 
 // A refusal, by its number and index.
-pub fn refuse(number: u64, index: usize) {
-    printing::text(b"refused ");
-    printing::number(number);
-    printing::text(b" at ");
-    printing::number(index as u64);
-    printing::text(b"\n");
+pub fn refuse(rt: &impl Print, number: u64, index: usize) {
+    printing::text(rt, b"refused ");
+    printing::number(rt, number);
+    printing::text(rt, b" at ");
+    printing::number(rt, index as u64);
+    printing::text(rt, b"\n");
 }
 
 // What is wrong with a line, by its number.
-pub fn fault(line: usize, what: &[u8]) {
-    printing::text(b"line ");
-    printing::number(line as u64);
-    printing::text(b": ");
-    printing::text(what);
-    printing::text(b"\n");
+pub fn fault(rt: &impl Print, line: usize, what: &[u8]) {
+    printing::text(rt, b"line ");
+    printing::number(rt, line as u64);
+    printing::text(rt, b": ");
+    printing::text(rt, what);
+    printing::text(rt, b"\n");
 }
 
 // The words of the first n rows.
@@ -47,64 +47,64 @@ fn after(a: u64, n: u64) -> u64 {
 }
 
 // Frames from a first one on, as first..end.
-fn say_frames(first: u64, count: u64) {
-    printing::number(first);
-    printing::text(b"..");
-    printing::number(after(first, count));
+fn say_frames(rt: &impl Print, first: u64, count: u64) {
+    printing::number(rt, first);
+    printing::text(rt, b"..");
+    printing::number(rt, after(first, count));
 }
 
 // A row: its source, source frames, output frames, and its shift where it has one.
-fn say_row(source: u64, first: u64, count: u64, out: u64, flag: u64, shift: i64) {
-    printing::text(b"source ");
-    printing::number(source);
-    printing::text(b" frames ");
-    say_frames(first, count);
-    printing::text(b" at ");
-    say_frames(out, count);
+fn say_row(rt: &impl Print, source: u64, first: u64, count: u64, out: u64, flag: u64, shift: i64) {
+    printing::text(rt, b"source ");
+    printing::number(rt, source);
+    printing::text(rt, b" frames ");
+    say_frames(rt, first, count);
+    printing::text(rt, b" at ");
+    say_frames(rt, out, count);
     if flag == 1 {
-        printing::text(b", shift ");
-        printing::signed(shift);
+        printing::text(rt, b", shift ");
+        printing::signed(rt, shift);
     }
-    printing::text(b"\n");
+    printing::text(rt, b"\n");
 }
 
 // Row i of a map.
-fn say_row_at(u: &[u64], s: &[i64], i: usize) {
+fn say_row_at(rt: &impl Print, u: &[u64], s: &[i64], i: usize) {
     if i < MOST_ROWS {
         let j = 5 * i;
         if i < s.len() {
             if j + 4 < u.len() {
-                say_row(u[j], u[j + 1], u[j + 2], u[j + 3], u[j + 4], s[i]);
+                say_row(rt, u[j], u[j + 1], u[j + 2], u[j + 3], u[j + 4], s[i]);
             }
         }
     }
 }
 
 // A map, a row a line.
-pub fn say_map(u: &[u64], s: &[i64]) {
+pub fn say_map(rt: &impl Print, u: &[u64], s: &[i64]) {
     let mut i = 0;
     while i < s.len() {
-        say_row_at(u, s, i);
+        say_row_at(rt, u, s, i);
         i += 1;
     }
 }
 
 // Where a frame comes from.
-pub fn say_origin(frame: u64, from: Traced) {
+pub fn say_origin(rt: &impl Print, frame: u64, from: Traced) {
     match from {
-        Traced::Refused(n, i) => refuse(n, i),
+        Traced::Refused(n, i) => refuse(rt, n, i),
         Traced::From(source, at, flag, shift) => {
-            printing::text(b"frame ");
-            printing::number(frame);
-            printing::text(b" is frame ");
-            printing::number(at);
-            printing::text(b" of source ");
-            printing::number(source);
+            printing::text(rt, b"frame ");
+            printing::number(rt, frame);
+            printing::text(rt, b" is frame ");
+            printing::number(rt, at);
+            printing::text(rt, b" of source ");
+            printing::number(rt, source);
             if flag == 1 {
-                printing::text(b", shift ");
-                printing::signed(shift);
+                printing::text(rt, b", shift ");
+                printing::signed(rt, shift);
             }
-            printing::text(b"\n");
+            printing::text(rt, b"\n");
         }
     }
 }

@@ -15,6 +15,9 @@ use maps::Mapped;
 use reading::Ending;
 use steps::Step;
 
+// How many bytes of the input are read.
+const FILE_BYTES: usize = 65_536;
+
 // How many rows the map has, how many the second map of a join, and whether a join waits for its rows.
 #[derive(Clone, Copy)]
 struct Held {
@@ -43,28 +46,43 @@ fn copy_shifts(from: &[i64], to: &mut [i64]) {
 }
 
 // A call's answer: its rows are kept and printed, a refusal is printed. How many rows the map then has.
-fn keep(answer: Mapped, had: usize, ou: &[u64], os: &[i64], u: &mut [u64], s: &mut [i64]) -> usize {
+fn keep(
+    rt: &impl Print,
+    answer: Mapped,
+    had: usize,
+    ou: &[u64],
+    os: &[i64],
+    u: &mut [u64],
+    s: &mut [i64],
+) -> usize {
     match answer {
         Mapped::Refused(n, i) => {
-            maptext::refuse(n, i);
+            maptext::refuse(rt, n, i);
             had
         }
         Mapped::Rows(k) => {
             copy_words(maptext::words(ou, k), u);
             copy_shifts(maptext::shifts(os, k), s);
-            maptext::say_map(maptext::words(u, k), maptext::shifts(s, k));
+            maptext::say_map(rt, maptext::words(u, k), maptext::shifts(s, k));
             k
         }
     }
 }
 
 // A map of n rows with one row more: the row alone where there are none, else both joined.
-fn add(n: usize, row: &[u64], shift: &[i64], u: &mut [u64], s: &mut [i64]) -> usize {
+fn add(
+    rt: &impl Print,
+    n: usize,
+    row: &[u64],
+    shift: &[i64],
+    u: &mut [u64],
+    s: &mut [i64],
+) -> usize {
     let mut ou = [0u64; 5120];
     let mut os = [0i64; 1024];
     if n == 0 {
         let first = maps::merge(row, shift, &mut ou, &mut os);
-        return keep(first, n, &ou, &os, u, s);
+        return keep(rt, first, n, &ou, &os, u, s);
     }
     let more = maps::join(
         maptext::words(u, n),
@@ -74,17 +92,17 @@ fn add(n: usize, row: &[u64], shift: &[i64], u: &mut [u64], s: &mut [i64]) -> us
         &mut ou,
         &mut os,
     );
-    keep(more, n, &ou, &os, u, s)
+    keep(rt, more, n, &ou, &os, u, s)
 }
 
 // A join that waits for its rows is made.
-fn settle(h: Held, u: &mut [u64], s: &mut [i64], v: &[u64], t: &[i64]) -> Held {
+fn settle(rt: &impl Print, h: Held, u: &mut [u64], s: &mut [i64], v: &[u64], t: &[i64]) -> Held {
     let rows = h.rows;
     let second = h.second;
     if !h.joining {
         return h;
     }
-    printing::text(b"joined:\n");
+    printing::text(rt, b"joined:\n");
     let mut ou = [0u64; 5120];
     let mut os = [0i64; 1024];
     let both = maps::join(
@@ -95,7 +113,7 @@ fn settle(h: Held, u: &mut [u64], s: &mut [i64], v: &[u64], t: &[i64]) -> Held {
         &mut ou,
         &mut os,
     );
-    let k = keep(both, rows, &ou, &os, u, s);
+    let k = keep(rt, both, rows, &ou, &os, u, s);
     Held {
         rows: k,
         second: 0,
@@ -104,27 +122,28 @@ fn settle(h: Held, u: &mut [u64], s: &mut [i64], v: &[u64], t: &[i64]) -> Held {
 }
 
 // A step's name and its first two numbers, above what it gives.
-fn head(word: &[u8], a: u64, b: u64) {
-    printing::text(word);
-    printing::number(a);
-    printing::text(b" ");
-    printing::number(b);
+fn head(rt: &impl Print, word: &[u8], a: u64, b: u64) {
+    printing::text(rt, word);
+    printing::number(rt, a);
+    printing::text(rt, b" ");
+    printing::number(rt, b);
 }
 
 // A row step above the map that it gives.
-fn head_row(source: u64, first: u64, count: u64, flag: u64, shift: i64) {
-    head(b"row ", source, first);
-    printing::text(b" ");
-    printing::number(count);
+fn head_row(rt: &impl Print, source: u64, first: u64, count: u64, flag: u64, shift: i64) {
+    head(rt, b"row ", source, first);
+    printing::text(rt, b" ");
+    printing::number(rt, count);
     if flag == 1 {
-        printing::text(b" shift ");
-        printing::signed(shift);
+        printing::text(rt, b" shift ");
+        printing::signed(rt, shift);
     }
-    printing::text(b":\n");
+    printing::text(rt, b":\n");
 }
 
 // A row goes to the second map of a join that waits for its rows, else to the map.
 fn do_row(
+    rt: &impl Print,
     h: Held,
     row: &[u64],
     shift: &[i64],
@@ -136,14 +155,14 @@ fn do_row(
     let rows = h.rows;
     let second = h.second;
     if h.joining {
-        let k = add(second, row, shift, v, t);
+        let k = add(rt, second, row, shift, v, t);
         return Held {
             rows: rows,
             second: k,
             joining: true,
         };
     }
-    let k = add(rows, row, shift, u, s);
+    let k = add(rt, rows, row, shift, u, s);
     Held {
         rows: k,
         second: 0,
@@ -152,11 +171,11 @@ fn do_row(
 }
 
 // The map is cut.
-fn do_cut(rows: usize, a: u64, b: u64, u: &mut [u64], s: &mut [i64]) -> Held {
+fn do_cut(rt: &impl Print, rows: usize, a: u64, b: u64, u: &mut [u64], s: &mut [i64]) -> Held {
     let mut ou = [0u64; 5120];
     let mut os = [0i64; 1024];
-    head(b"cut ", a, b);
-    printing::text(b":\n");
+    head(rt, b"cut ", a, b);
+    printing::text(rt, b":\n");
     let part = maps::cut(
         maptext::words(u, rows),
         maptext::shifts(s, rows),
@@ -165,7 +184,7 @@ fn do_cut(rows: usize, a: u64, b: u64, u: &mut [u64], s: &mut [i64]) -> Held {
         &mut ou,
         &mut os,
     );
-    let k = keep(part, rows, &ou, &os, u, s);
+    let k = keep(rt, part, rows, &ou, &os, u, s);
     Held {
         rows: k,
         second: 0,
@@ -174,17 +193,17 @@ fn do_cut(rows: usize, a: u64, b: u64, u: &mut [u64], s: &mut [i64]) -> Held {
 }
 
 // The map is merged.
-fn do_merge(rows: usize, u: &mut [u64], s: &mut [i64]) -> Held {
+fn do_merge(rt: &impl Print, rows: usize, u: &mut [u64], s: &mut [i64]) -> Held {
     let mut ou = [0u64; 5120];
     let mut os = [0i64; 1024];
-    printing::text(b"merge:\n");
+    printing::text(rt, b"merge:\n");
     let merged = maps::merge(
         maptext::words(u, rows),
         maptext::shifts(s, rows),
         &mut ou,
         &mut os,
     );
-    let k = keep(merged, rows, &ou, &os, u, s);
+    let k = keep(rt, merged, rows, &ou, &os, u, s);
     Held {
         rows: k,
         second: 0,
@@ -193,18 +212,18 @@ fn do_merge(rows: usize, u: &mut [u64], s: &mut [i64]) -> Held {
 }
 
 // A step other than a row, on a map that no join waits for.
-fn do_step(h: Held, step: Step, u: &mut [u64], s: &mut [i64]) -> Held {
+fn do_step(rt: &impl Print, h: Held, step: Step, u: &mut [u64], s: &mut [i64]) -> Held {
     let rows = h.rows;
     match step {
-        Step::Cut(a, b) => do_cut(rows, a, b, u, s),
-        Step::Merge => do_merge(rows, u, s),
+        Step::Cut(a, b) => do_cut(rt, rows, a, b, u, s),
+        Step::Merge => do_merge(rt, rows, u, s),
         Step::Origin(frame) => {
             let from = maps::origin(maptext::words(u, rows), maptext::shifts(s, rows), frame);
-            maptext::say_origin(frame, from);
+            maptext::say_origin(rt, frame, from);
             h
         }
         Step::Join => {
-            printing::text(b"join:\n");
+            printing::text(rt, b"join:\n");
             Held {
                 rows: rows,
                 second: 0,
@@ -217,6 +236,7 @@ fn do_step(h: Held, step: Step, u: &mut [u64], s: &mut [i64]) -> Held {
 
 // One line.
 fn act(
+    rt: &impl Print,
     h: Held,
     text: &[u8],
     line: usize,
@@ -229,22 +249,22 @@ fn act(
     match step {
         Step::Nothing => h,
         Step::Unknown => {
-            maptext::fault(line, b"not a step");
+            maptext::fault(rt, line, b"not a step");
             h
         }
         Step::Large => {
-            maptext::fault(line, b"a number over 64 bits");
+            maptext::fault(rt, line, b"a number over 64 bits");
             h
         }
         Step::Row(source, first, count, flag, shift) => {
-            head_row(source, first, count, flag, shift);
+            head_row(rt, source, first, count, flag, shift);
             let row = [source, first, count, 0, flag];
             let z = [shift];
-            do_row(h, &row, &z, u, s, v, t)
+            do_row(rt, h, &row, &z, u, s, v, t)
         }
         _ => {
-            let settled = settle(h, u, s, v, t);
-            do_step(settled, step, u, s)
+            let settled = settle(rt, h, u, s, v, t);
+            do_step(rt, settled, step, u, s)
         }
     }
 }
@@ -279,7 +299,14 @@ fn whole_lines(text: &[u8]) -> usize
 }
 
 // Every line of the text; how many there were.
-fn run(text: &[u8], u: &mut [u64], s: &mut [i64], v: &mut [u64], t: &mut [i64]) -> usize
+fn run(
+    rt: &impl Print,
+    text: &[u8],
+    u: &mut [u64],
+    s: &mut [i64],
+    v: &mut [u64],
+    t: &mut [i64],
+) -> usize
     ensures { result ≤ length text.now }
 {
     let mut h = Held {
@@ -292,42 +319,42 @@ fn run(text: &[u8], u: &mut [u64], s: &mut [i64], v: &mut [u64], t: &mut [i64]) 
     while at < text.len() {
         let end = line_end(text, at);
         line += 1;
-        h = act(h, &text[at..end], line, u, s, v, t);
+        h = act(rt, h, &text[at..end], line, u, s, v, t);
         at = end + 1;
     }
-    settle(h, u, s, v, t);
+    settle(rt, h, u, s, v, t);
     line
 }
 
 // Room for two maps, and the lines.
-fn lesson(text: &[u8]) -> usize
+fn lesson(rt: &impl Print, text: &[u8]) -> usize
     ensures { result ≤ length text.now }
 {
     let mut u = [0u64; 5120];
     let mut s = [0i64; 1024];
     let mut v = [0u64; 5120];
     let mut t = [0i64; 1024];
-    run(text, &mut u, &mut s, &mut v, &mut t)
+    run(rt, text, &mut u, &mut s, &mut v, &mut t)
 }
 
 // The whole lines of an input that is too long, and that it is. What comes after them is left unread: an input may never end.
-fn too_long(text: &[u8]) {
+fn too_long(rt: &impl Print, text: &[u8]) {
     let k = whole_lines(text);
-    let lines = lesson(&text[..k]);
-    maptext::fault(lines + 1, b"the input is too long");
+    let lines = lesson(rt, &text[..k]);
+    maptext::fault(rt, lines + 1, b"the input is too long");
 }
 
 // The lines of standard input; of one that can't be read to its end, none.
-fn main() {
-    let mut file = io::large_buffer();
-    let input = reading::read_input(&mut file);
+fn main(rt: HostRuntime) {
+    let mut file = [0u8; FILE_BYTES];
+    let input = reading::read_input(&mut rt.reader(), &mut file);
     let n = input.held;
     let end = input.end;
     match end {
         Ending::Within => {
-            lesson(&file[..n]);
+            lesson(&rt, &file[..n]);
         }
-        Ending::Past => too_long(&file[..n]),
-        Ending::Failed => reading::say_failed(),
+        Ending::Past => too_long(&rt, &file[..n]),
+        Ending::Failed => reading::say_failed(&rt),
     }
 }

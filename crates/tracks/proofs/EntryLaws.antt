@@ -79,9 +79,6 @@ pub record Laying (p : List ℕ) (n most : ℕ) (out₀ out : List ℤ) (sum lef
   pub count : length done ≡ sum
   pub laid : sum ≤ length out₀ → out ≡ laid (map pos done) out₀
 
-pub lay-start : (p : List ℕ) (n most : ℕ) (out : List ℤ) → n * 8 ≤ length p - 8 → Laying p n most out out 0 n 8
-lay-start p n most out h = record { long = refl; there = h; under = omega arith; sums = omega arith; done = []; is = refl; count = refl; laid = λ l. refl }
-
 -- a part filled at the end of what is laid
 filled : (p q o l part : List ℤ) (a b : ℕ) → l ≡ laid p o → length p ≡ a → a ≤ b → part ≡ q → length q ≡ b - a → take a l ++ (part ++ drop (b - a) (drop a l)) ≡ laid (p ++ q) o
 filled p q o l part a b e ea h ep lq =
@@ -118,10 +115,11 @@ module _ (p : List ℕ) (n most : ℕ) (out₀ out : List ℤ) (sum left at : �
 
     -- the entry's frames are filled in
     pub lay-fill : (part : List ℤ) {z : ℤ} → sum + c ≤ length out → part ≡ replicate (length (take (sum + c - sum) (drop sum out))) z → z ≡ pos v
-        → length (take sum out ++ (part ++ drop (sum + c - sum) (drop sum out))) ≡ length out
         → Laying p n most out₀ (take sum out ++ (part ++ drop (sum + c - sum) (drop sum out))) (sum + c) (left - 1) (at + 8)
-    lay-fill part room e ez long =
+    lay-fill part {z} room e ez =
         let k : length (take (sum + c - sum) (drop sum out)) ≡ c = simp (length-take, length-drop) (omega arith) in
+        let lp : length part ≡ c = ap length e ∙ length-replicate _ z ∙ k in
+        let long : length (take sum out ++ (part ++ drop (sum + c - sum) (drop sum out))) ≡ length out = simp (length-append, length-take, length-drop) (omega arith) in
         after _ (long ∙ h.long) (λ r.
         filled (map pos h.done) (replicate c (pos v)) out₀ out part sum (sum + c) (h.laid (omega arith)) (length-map h.done pos ∙ h.count) (omega arith)
         (e ∙ (λ i. replicate (k i) (ez i))) (length-replicate c (pos v) ∙ omega arith)

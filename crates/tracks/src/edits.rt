@@ -26,6 +26,7 @@ fn line_bytes(long: bool) -> usize
 }
 
 // The entry at at: the closure entry of video_frame_times_of_moov.
+#[tactic(auto, using(choice::proofs::Tests::tests), unfolding(crate::specs::Edits::line_at))]
 fn line_at(long: bool, p: &[u8], at: usize) -> Line
     requires { at + lineBytes long ≤ length p.now }
     ensures { result ≡ line_at long p.now at }
@@ -98,6 +99,7 @@ fn from_time(t: i64, duration: u64, scale: u64, movie: u64, empty: i64) -> Edite
 }
 
 // The edit of the entry that is kept.
+#[tactic(auto, using(choice::proofs::Tests::tests), unfolding(crate::specs::Edits::keptLine))]
 fn kept_line(l: Line, scale: u64, movie: u64, empty: i64) -> Edited
     requires { (scale < 2 ^ 32) × (0 < movie) × (movie < 2 ^ 32) }
     ensures { result ≡ keptLine l scale movie empty }
@@ -109,6 +111,7 @@ fn kept_line(l: Line, scale: u64, movie: u64, empty: i64) -> Edited
 }
 
 // The edit of two entries, the first an empty edit, whose rate isn't looked at.
+#[tactic(auto, using(choice::proofs::Tests::tests), unfolding(crate::specs::Edits::twoLines))]
 fn two_lines(first: Line, l: Line, scale: u64, movie: u64) -> Edited
     requires { (scale < 2 ^ 32) × (0 < movie) × (movie < 2 ^ 32) }
     ensures { result ≡ twoLines first l scale movie }
@@ -127,6 +130,7 @@ fn two_lines(first: Line, l: Line, scale: u64, movie: u64) -> Edited
 }
 
 // The edit of an edit list's n entries.
+#[tactic(auto, using(choice::proofs::Tests::tests), unfolding(crate::specs::Edits::lines_of))]
 fn lines(n: usize, long: bool, p: &[u8], scale: u64, movie: u64) -> Edited
     requires { (scale < 2 ^ 32) × (0 < movie) × (movie < 2 ^ 32) }
     ensures { result ≡ lines_of n long p.now scale movie }
@@ -149,6 +153,7 @@ fn lines(n: usize, long: bool, p: &[u8], scale: u64, movie: u64) -> Edited
 }
 
 // The edit of an elst's payload.
+#[tactic(auto, using(choice::proofs::Tests::tests), unfolding(crate::specs::Edits::elstOf))]
 fn elst(p: &[u8], scale: u64, movie: u64) -> Edited
     requires { (scale < 2 ^ 32) × (0 < movie) × (movie < 2 ^ 32) }
     ensures { result ≡ elstOf p.now scale movie }
@@ -160,6 +165,7 @@ fn elst(p: &[u8], scale: u64, movie: u64) -> Edited
 }
 
 // The edit of an edts' payload, which is empty where a track has none: the edit list of video_frame_times_of_moov.
+#[tactic(auto, using(choice::proofs::Tests::tests), unfolding(crate::specs::Edits::editOf))]
 pub fn edit_of(edts: &[u8], scale: u64, movie: u64) -> Edited
     requires { (scale < 2 ^ 32) × (0 < movie) × (movie < 2 ^ 32) }
     ensures { result ≡ editOf edts.now scale movie }

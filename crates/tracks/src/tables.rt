@@ -18,6 +18,7 @@ fn scale_at(p: &[u8], at: usize) -> u32
 }
 
 // The timescale of a mvhd or mdhd, 0 where it isn't whole: full_box and be_u32, as video_frame_times_of_moov of the Rust calls them.
+#[tactic(auto, using(choice::proofs::Tests::tests), unfolding(crate::specs::Tables::scale_of))]
 pub fn scale(p: &[u8]) -> u32
     ensures { result ≡ scale_of p.now }
 {
@@ -31,6 +32,7 @@ pub fn scale(p: &[u8]) -> u32
 }
 
 // Whether that timescale is whole: where it isn't, the Rust looks for no track.
+#[tactic(auto, using(choice::proofs::Tests::tests), unfolding(crate::specs::Tables::hasScale))]
 pub fn has_scale(p: &[u8]) -> bool
     ensures { result ≡ hasScale p.now }
 {
@@ -44,6 +46,7 @@ pub fn has_scale(p: &[u8]) -> bool
 }
 
 // How many entries a table has: one length tells whether they are all there.
+#[tactic(auto, using(choice::proofs::Tests::tests), unfolding(crate::specs::Tables::tableRows))]
 pub fn count_rows(p: &[u8]) -> Rows
     ensures { result ≡ tableRows p.now }
 {
@@ -58,6 +61,7 @@ pub fn count_rows(p: &[u8]) -> Rows
 }
 
 // The same of a table that may be absent.
+#[tactic(auto, using(choice::proofs::Tests::tests), unfolding(crate::specs::Tables::optionalRows))]
 pub fn optional_rows(p: &[u8]) -> Rows
     ensures { result ≡ optionalRows p.now }
 {

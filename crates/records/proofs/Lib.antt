@@ -1,4 +1,2 @@
 pub mod Laid
 pub mod Known
-pub mod Calling
-pub mod Lent

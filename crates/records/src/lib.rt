@@ -79,6 +79,7 @@ fn words_of(r: TrimSegment) -> Words
 }
 
 // What the signed words of a record say.
+#[tactic(auto, unfolding(rules::specs::Rules::stampTimes))]
 fn times_of(r: TrimSegment) -> SixTimes
     ensures { result ≡ stampTimes (stampsOf r) }
 {
@@ -123,6 +124,7 @@ fn pass_record(sources: &[u64], prev: Ends, r: TrimSegment) -> Ends
 }
 
 // Before the first record.
+#[tactic(auto, unfolding(crate::specs::Steps::begun))]
 fn begin(frame: u64) -> SoFar
     ensures { result ≡ begun frame }
 {
@@ -186,6 +188,7 @@ fn walk(sources: &[u64], records: &[TrimSegment], frame: u64) -> SoFar
 }
 
 // The record at which the walk over n of them stopped; n where it didn't.
+#[tactic(auto, unfolding(crate::specs::Steps::stoppedAt))]
 fn stopped_at(s: SoFar, n: usize) -> usize
     ensures { result ≡ stoppedAt s n }
 {
@@ -220,6 +223,7 @@ fn number_of(sources: &[u64], prev: Ends, r: TrimSegment) -> u64
 }
 
 // What the lookup answers where the walk over n records stopped at r: 1 to 8 first, then what refuses r.
+#[tactic(auto, unfolding(crate::specs::Steps::refusedOf, crate::specs::Steps::frontOr))]
 fn refused(sources: &[u64], text: &[u8], s: SoFar, r: TrimSegment, n: usize, log: bool) -> Lookup
     ensures { result ≡ refusedOf sources.now text.now s r n log }
 {

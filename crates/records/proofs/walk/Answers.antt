@@ -1,0 +1,18 @@
+use Rattle.std.proofs.Common.{arith, ap, ◌∙◌}
+use Rattle.table.specs.Layout.{sourcesOf}
+use Rattle.records.specs.Steps.{noRecord, recordAt, next_of}
+use Rattle.records.proofs.Known.{after_none, after_more}
+use Rattle.records.proofs.walk.Goals as goal
+
+pub loop-k-init : goal.loop-k-init
+loop-k-init c = (omega arith, c.begin-so_far.ensures ∙ after_none _ _ _)
+
+pub loop-k-preserved : goal.loop-k-preserved
+unfolding noRecord
+loop-k-preserved c =
+    let a = c.args in
+    let srcs = sourcesOf a.sources.now in
+    let k = c.loop-k.k in (
+      omega arith,
+      c.next-so_far.ensures ∙ ap (λ s. next_of srcs s (recordAt a.records.now k)) c.loop-k.invariant.1 ∙ after_more srcs a.frame a.records.now k,
+    )

@@ -37,22 +37,23 @@ fn write(
 }
 
 // The line of that.
-fn say_rows(answer: Mapped, ou: &[u64], os: &[i64]) {
+fn say_rows(rt: &impl Print, answer: Mapped, ou: &[u64], os: &[i64]) {
     match answer {
         Mapped::Rows(n) => {
-            say::accepted();
-            say::value(n as u64);
-            say::end(say::rows(ou, os, n));
+            say::accepted(rt);
+            say::value(rt, n as u64);
+            say::end(rt, say::rows(rt, ou, os, n));
         }
         Mapped::Refused(number, index) => {
-            say::refused(number, index);
-            say::end(say::unwritten(ou, os, 0));
+            say::refused(rt, number, index);
+            say::end(rt, say::unwritten(ou, os, 0));
         }
     }
 }
 
 // Both, of slices that are lent.
 fn answer_over(
+    rt: &impl Print,
     w: Written,
     u: &[u64],
     s: &[i64],
@@ -62,101 +63,109 @@ fn answer_over(
     os: &mut [i64],
 ) {
     let answer = write(w, u, s, v, t, ou, os);
-    say_rows(answer, ou, os);
+    say_rows(rt, answer, ou, os);
 }
 
 // ROOM ROOM, the last arguments
-fn lend(line: &[u8], c: Cursor, w: Written, u: &[u64], s: &[i64], v: &[u64], t: &[i64]) {
+fn lend(
+    rt: &impl Print,
+    line: &[u8],
+    c: Cursor,
+    w: Written,
+    u: &[u64],
+    s: &[i64],
+    v: &[u64],
+    t: &[i64],
+) {
     let x = read::room(line, c, ROOM);
     let y = read::room(line, x, ROOM);
     if !read::ended(line, y) {
-        say::unreadable();
+        say::unreadable(rt);
         return;
     }
     let mut ou = [0u64; 64];
     let mut os = [0i64; 64];
     let m = lent::words(&mut ou, x.count);
     let k = lent::longs(&mut os, y.count);
-    answer_over(w, u, s, v, t, &mut ou[..m], &mut os[..k]);
+    answer_over(rt, w, u, s, v, t, &mut ou[..m], &mut os[..k]);
 }
 
 // cut MAP A B ROOM ROOM
-fn cut(line: &[u8], c: Cursor, u: &[u64], s: &[i64]) {
+fn cut(rt: &impl Print, line: &[u8], c: Cursor, u: &[u64], s: &[i64]) {
     let a = read::number(line, c);
     let b = read::number(line, a);
-    lend(line, b, Written::Cut(a.number, b.number), u, s, u, s);
+    lend(rt, line, b, Written::Cut(a.number, b.number), u, s, u, s);
 }
 
 // join MAP MAP ROOM ROOM
-fn join(line: &[u8], c: Cursor, u: &[u64], s: &[i64]) {
+fn join(rt: &impl Print, line: &[u8], c: Cursor, u: &[u64], s: &[i64]) {
     let mut words = [0u64; 64];
     let mut shifts = [0i64; 64];
     let v = read::words(line, c, &mut words);
     let t = read::longs(line, v, &mut shifts);
     let n = v.count;
     let k = t.count;
-    lend(line, t, Written::Join, u, s, &words[..n], &shifts[..k]);
+    lend(rt, line, t, Written::Join, u, s, &words[..n], &shifts[..k]);
 }
 
 // origin MAP FRAME
-fn origin(line: &[u8], c: Cursor, u: &[u64], s: &[i64]) {
+fn origin(rt: &impl Print, line: &[u8], c: Cursor, u: &[u64], s: &[i64]) {
     let frame = read::number(line, c);
     if !read::ended(line, frame) {
-        say::unreadable();
+        say::unreadable(rt);
         return;
     }
     match maps::origin(u, s, frame.number) {
         Traced::From(source, at, flag, shift) => {
-            say::accepted();
-            say::value(source);
-            say::value(at);
-            say::value(flag);
-            say::long(shift);
+            say::accepted(rt);
+            say::value(rt, source);
+            say::value(rt, at);
+            say::value(rt, flag);
+            say::long(rt, shift);
         }
-        Traced::Refused(number, index) => say::refused(number, index),
+        Traced::Refused(number, index) => say::refused(rt, number, index),
     }
-    say::end(true);
+    say::end(rt, true);
 }
 
 // The case of a map, with what follows the map in its line.
-fn answer_to(line: &[u8], c: Cursor, u: &[u64], s: &[i64]) {
+fn answer_to(rt: &impl Print, line: &[u8], c: Cursor, u: &[u64], s: &[i64]) {
     if read::is(line, b"cut") {
-        cut(line, c, u, s);
+        cut(rt, line, c, u, s);
     } else if read::is(line, b"cuts") {
-        many::cuts(line, c, u, s);
+        many::cuts(rt, line, c, u, s);
     } else if read::is(line, b"join") {
-        join(line, c, u, s);
+        join(rt, line, c, u, s);
     } else if read::is(line, b"merge") {
-        lend(line, c, Written::Merge, u, s, u, s);
+        lend(rt, line, c, Written::Merge, u, s, u, s);
     } else if read::is(line, b"origin") {
-        origin(line, c, u, s);
+        origin(rt, line, c, u, s);
     } else {
-        say::unreadable();
+        say::unreadable(rt);
     }
 }
 
 // One case: every call begins with its map.
-fn answer(line: &[u8]) {
+fn answer(rt: &impl Print, line: &[u8]) {
     let mut words = [0u64; 64];
     let mut shifts = [0i64; 64];
     let m = read::words(line, read::start(line), &mut words);
     let c = read::longs(line, m, &mut shifts);
     let n = m.count;
     let k = c.count;
-    answer_to(line, c, &words[..n], &shifts[..k]);
+    answer_to(rt, line, c, &words[..n], &shifts[..k]);
 }
 
 // All cases of standard input.
-fn main() {
-    let mut text = io::large_buffer();
+fn main(rt: HostRuntime) {
+    let mut input = rt.reader();
+    let mut text = [0u8; lines::PIECE];
     let mut l = lines::none();
-    let mut turns: u64 = MAX_U64;
-    while 0 < turns {
-        l = lines::next(&mut text, l);
+    for _ in 0..MAX_U64 {
+        l = lines::next(&rt, &mut input, &mut text, l);
         if l.done {
             return;
         }
-        answer(lines::line(&text, l));
-        turns -= 1;
+        answer(&rt, lines::line(&text, l));
     }
 }

@@ -7,24 +7,25 @@ use maps::Mapped;
 const ROOM: usize = 64;
 
 // The line of n cuts that were written over lent slices.
-fn say_cuts(answer: Mapped, n: usize, ou: &[u64], os: &[i64], counts: &[u64]) {
+fn say_cuts(rt: &impl Print, answer: Mapped, n: usize, ou: &[u64], os: &[i64], counts: &[u64]) {
     match answer {
         Mapped::Rows(k) => {
-            say::accepted();
-            say::value(k as u64);
-            let kept = say::rows(ou, os, k);
-            say::words(counts, n);
-            say::end(kept & lent::kept_words(counts, n));
+            say::accepted(rt);
+            say::value(rt, k as u64);
+            let kept = say::rows(rt, ou, os, k);
+            say::words(rt, counts, n);
+            say::end(rt, kept & lent::kept_words(counts, n));
         }
         Mapped::Refused(number, index) => {
-            say::refused(number, index);
-            say::end(say::unwritten(ou, os, 0) & lent::kept_words(counts, 0));
+            say::refused(rt, number, index);
+            say::end(rt, say::unwritten(ou, os, 0) & lent::kept_words(counts, 0));
         }
     }
 }
 
 // Cuts over lent slices.
 fn cuts_over(
+    rt: &impl Print,
     u: &[u64],
     s: &[i64],
     ranges: &[u64],
@@ -33,18 +34,18 @@ fn cuts_over(
     counts: &mut [u64],
 ) {
     let answer = cuts::cuts(u, s, ranges, ou, os, counts);
-    say_cuts(answer, ranges.len() / 2, ou, os, counts);
+    say_cuts(rt, answer, ranges.len() / 2, ou, os, counts);
 }
 
 // cuts MAP RANGES ROOM ROOM ROOM
-pub fn cuts(line: &[u8], c: Cursor, u: &[u64], s: &[i64]) {
+pub fn cuts(rt: &impl Print, line: &[u8], c: Cursor, u: &[u64], s: &[i64]) {
     let mut ranges = [0u64; 64];
     let r = read::words(line, c, &mut ranges);
     let x = read::room(line, r, ROOM);
     let y = read::room(line, x, ROOM);
     let z = read::room(line, y, ROOM);
     if !read::ended(line, z) {
-        say::unreadable();
+        say::unreadable(rt);
         return;
     }
     let mut ou = [0u64; 64];
@@ -55,6 +56,7 @@ pub fn cuts(line: &[u8], c: Cursor, u: &[u64], s: &[i64]) {
     let k = lent::longs(&mut os, y.count);
     let j = lent::words(&mut counts, z.count);
     cuts_over(
+        rt,
         u,
         s,
         &ranges[..n],

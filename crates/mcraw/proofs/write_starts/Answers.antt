@@ -1,0 +1,33 @@
+use Rattle.std.proofs.Common.{◌<◌, length, get_or, set, pos, ◌-ℤ◌, arith, sym, ap, ◌∙◌}
+use Rattle.signed.proofs.Bits.{back}
+use Rattle.slices.proofs.Lists.{copy_more, copy-all}
+use Rattle.mcraw.specs.Mcraw.{startsOf}
+use Rattle.mcraw.proofs.Spans.{length-starts, start-at, start_fits}
+use Rattle.mcraw.proofs.write_starts.Goals as goal
+
+pub overflow_sub-starts : goal.overflow_sub-starts
+overflow_sub-starts c =
+    let l = c.loop-i in
+    let ts = c.args.ts.now in
+    let inside : l.i < length ts = c.loop-i-test.true in
+    rw (back (get_or ts l.i (pos 0)) (omega arith), back (get_or ts 0 (pos 0)) (omega arith)) (record { sfits = start_fits ts l.i inside c.requires.1 })
+
+pub loop-i-preserved : goal.loop-i-preserved
+loop-i-preserved c =
+    let l = c.loop-i in
+    let ts = c.args.ts.now in
+    let x = get_or ts l.i (pos 0) in
+    let f = get_or ts 0 (pos 0) in
+    let inside : l.i < length ts = c.loop-i-test.true in
+    rw (back x (omega arith), back f (omega arith), back (x -ℤ f) (start_fits ts l.i inside c.requires.1)) (
+      omega arith,
+      ap (set l.starts l.i) (sym (start-at ts l.i inside))
+          ∙ ap (λ t. set t l.i (get_or (startsOf ts) l.i (pos 0))) l.invariant.1
+          ∙ copy_more (startsOf ts) c.args.starts.now l.i (pos 0) (omega (arith, length-starts ts)) (omega arith),
+    )
+
+pub returns : goal.returns
+returns c =
+    let l = c.loop-i in
+    let ts = c.args.ts.now in
+    l.invariant.1 ∙ copy-all (startsOf ts) c.args.starts.now l.i (omega (arith, length-starts ts))

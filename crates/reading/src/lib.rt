@@ -1,7 +1,11 @@
-// Standard input of the programs. Which bytes the system gives no contract can say; these say how many bytes of the room are held.
+// Standard input of the programs. Which bytes the system gives no contract can say; these say how many bytes of the room are held, and of a reader whose
+// bytes are known, that those are its next ones.
 #![tactic(auto)]
 
+ghost use Rattle.std.specs.Prelude.{◌≡◌, ◌<◌, false, length, take, IfSome};
+ghost use Rattle.std.specs.Io.KnownBytes.{Consumes, IsAtEnd};
 ghost use Rattle.reading.specs.Held.{IsPrefixLen};
+ghost use Rattle.reading.specs.declared.Ending.TheVariants.{Within};
 
 use std::io::Read;
 
@@ -29,7 +33,9 @@ pub struct Input {
 
 // Reads until the room is full, the input ends, or a read fails. `read_exact` does the same, but doesn't tell how many bytes came before the end.
 pub fn fill<R: Read>(input: &mut R, room: &mut [u8]) -> Taken
-    ensures { IsPrefixLen result.held room.new }
+    ensures held { IsPrefixLen result.held room.new }
+    ensures bytes { Consumes (R.remaining input.old) (R.remaining input.new) (take result.held room.new) }
+    ensures end { result.failed ≡ false → result.held < length room.new → IsAtEnd (R.remaining input.new) }
 {
     let mut held = 0;
     while held < room.len() {
@@ -51,7 +57,10 @@ pub fn fill<R: Read>(input: &mut R, room: &mut [u8]) -> Taken
 }
 
 // How the input ends after the room is full: one byte more is asked for.
-fn after_full<R: Read>(input: &mut R) -> Ending {
+#[tactic(auto, using(crate::proofs::Known::none_left))]
+fn after_full<R: Read>(input: &mut R) -> Ending
+    ensures { result ≡ Within → IsAtEnd (R.remaining input.old) }
+{
     let mut byte = [0u8; 1];
     let next = fill(input, &mut byte);
     if next.failed {
@@ -64,8 +73,10 @@ fn after_full<R: Read>(input: &mut R) -> Ending {
 }
 
 // The whole input, where it has room.
+#[tactic(auto, using(crate::proofs::Known::all_held))]
 pub fn read_input<R: Read>(input: &mut R, room: &mut [u8]) -> Input
-    ensures { IsPrefixLen result.held room.new }
+    ensures held { IsPrefixLen result.held room.new }
+    ensures whole { result.end ≡ Within → IfSome (R.remaining input.old) (λ xs. take result.held room.new ≡ xs) }
 {
     let filled = fill(input, room);
     let held = filled.held;

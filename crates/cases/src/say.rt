@@ -1,5 +1,5 @@
-// An answer's line, to standard output.
-use printing::{number, signed, text};
+// An answer's line, to standard output. A value is one write, with the space before it.
+use printing::{number, text};
 
 // The most rows of a map, and the words of a row.
 const MOST_ROWS: usize = 1024;
@@ -30,14 +30,12 @@ pub fn accepted(rt: &impl Print) {
 
 // A value.
 pub fn value(rt: &impl Print, n: u64) {
-    text(rt, b" ");
-    number(rt, n);
+    let _ = print!(rt; " {n}");
 }
 
 // A signed value.
 pub fn long(rt: &impl Print, z: i64) {
-    text(rt, b" ");
-    signed(rt, z);
+    let _ = print!(rt; " {z}");
 }
 
 // The first n of a list of numbers.

@@ -6,18 +6,12 @@ use maps::{MOST_ROWS, Traced};
 
 // A refusal, by its number and index.
 pub fn refuse(rt: &impl Print, number: u64, index: usize) {
-    printing::text(rt, b"refused ");
-    printing::number(rt, number);
-    printing::text(rt, b" at ");
-    printing::number(rt, index as u64);
-    printing::text(rt, b"\n");
+    let _ = println!(rt; "refused {number} at {index}");
 }
 
 // What is wrong with a line, by its number.
 pub fn fault(rt: &impl Print, line: usize, what: &[u8]) {
-    printing::text(rt, b"line ");
-    printing::number(rt, line as u64);
-    printing::text(rt, b": ");
+    let _ = print!(rt; "line {line}: ");
     printing::text(rt, what);
     printing::text(rt, b"\n");
 }
@@ -48,16 +42,13 @@ fn after(a: u64, n: u64) -> u64 {
 
 // Frames from a first one on, as first..end.
 fn say_frames(rt: &impl Print, first: u64, count: u64) {
-    printing::number(rt, first);
-    printing::text(rt, b"..");
-    printing::number(rt, after(first, count));
+    let end = after(first, count);
+    let _ = print!(rt; "{first}..{end}");
 }
 
 // A row: its source, source frames, output frames, and its shift where it has one.
 fn say_row(rt: &impl Print, source: u64, first: u64, count: u64, out: u64, flag: u64, shift: i64) {
-    printing::text(rt, b"source ");
-    printing::number(rt, source);
-    printing::text(rt, b" frames ");
+    let _ = print!(rt; "source {source} frames ");
     say_frames(rt, first, count);
     printing::text(rt, b" at ");
     say_frames(rt, out, count);
@@ -94,12 +85,7 @@ pub fn say_origin(rt: &impl Print, frame: u64, from: Traced) {
     match from {
         Traced::Refused(n, i) => refuse(rt, n, i),
         Traced::From(source, at, flag, shift) => {
-            printing::text(rt, b"frame ");
-            printing::number(rt, frame);
-            printing::text(rt, b" is frame ");
-            printing::number(rt, at);
-            printing::text(rt, b" of source ");
-            printing::number(rt, source);
+            let _ = print!(rt; "frame {frame} is frame {at} of source {source}");
             if flag == 1 {
                 printing::text(rt, b", shift ");
                 printing::signed(rt, shift);

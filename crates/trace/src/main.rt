@@ -124,16 +124,13 @@ fn settle(rt: &impl Print, h: Held, u: &mut [u64], s: &mut [i64], v: &[u64], t: 
 // A step's name and its first two numbers, above what it gives.
 fn head(rt: &impl Print, word: &[u8], a: u64, b: u64) {
     printing::text(rt, word);
-    printing::number(rt, a);
-    printing::text(rt, b" ");
-    printing::number(rt, b);
+    let _ = print!(rt; "{a} {b}");
 }
 
 // A row step above the map that it gives.
 fn head_row(rt: &impl Print, source: u64, first: u64, count: u64, flag: u64, shift: i64) {
     head(rt, b"row ", source, first);
-    printing::text(rt, b" ");
-    printing::number(rt, count);
+    let _ = print!(rt; " {count}");
     if flag == 1 {
         printing::text(rt, b" shift ");
         printing::signed(rt, shift);

@@ -1,11 +1,8 @@
 -- Choices whose tests are known. Assumes nothing.
 use Rattle.std.specs.Prelude.{if◌then◌else◌}
-use mathlib.Core.Path.{◌≡◌, refl, ◌∙◌}
+use mathlib.Core.Path.{◌≡◌, ◌∙◌}
 use mathlib.Core.Bool.{true, false}
 use Prim.Native.Nat.{ℕ, ◌≤◌, ◌^◌}
-use mathlib.Core.List.{[], ◌∷◌}
-use types.Run.{OneOf}
-use denote.Enum.Declared.{tag_of}
 use lib.IntN.{ℤ, pos}
 use lib.Signed.{le_z, lt_z, mag}
 use lib.Dec.{ltb}
@@ -13,17 +10,12 @@ use borrow.Author.Tests.{ltb-true, ltb-false}
 use native.Mathlib.Omega.{arith}
 use Rattle.choice.proofs.Tests.{decide}
 use Rattle.signed.specs.Signed.{within}
-use Rattle.signed.specs.contracts.Held.{the_type as held-type}
-use Rattle.signed.specs.declared.Held.{Held}
 use Rattle.signed.specs.declared.Held.TheVariants.{Is, Outside}
 use Rattle.signed.specs.Steps.{I64}
 use Rattle.tracks.specs.declared.Edit.{Edit}
 use Rattle.frame_times.specs.Frames.{inEdit, capped, timeOrigin, maxZ, minZ}
 
 module _ (e : Edit) (c : ℤ) where
-  pub in-endless : le_z e.time c ≡ true → e.endless ≡ true → inEdit e c ≡ true
-  in-endless p q = (λ i. if p i then if e.endless then true else lt_z c e.end else false) ∙ (λ i. if q i then true else lt_z c e.end)
-
   pub in-ending : le_z e.time c ≡ true → e.endless ≡ false → inEdit e c ≡ lt_z c e.end
   in-ending p q = (λ i. if p i then if e.endless then true else lt_z c e.end else false) ∙ (λ i. if q i then true else lt_z c e.end)
 
@@ -65,7 +57,3 @@ module _ (z : ℤ) where
       decide (ltb (mag z) 9223372036854775808)
       (λ t. let s : Outside ≡ Is z = e ∙ (λ i. if t i then Is z else Outside) in let n : ◌≡◌ {A = ℕ} 0 1 = cc in absurd (omega arith))
       (λ t. ltb-false (mag z) 9223372036854775808 t)
-
-pub outside-is : (h : Held) → OneOf (1 ∷ []) (tag_of held-type h) → h ≡ Outside
-outside-is (Is z) t = absurd (omega arith)
-outside-is Outside t = refl

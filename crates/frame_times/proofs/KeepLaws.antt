@@ -12,12 +12,17 @@ use lib.IntN.{ℤ, pos, ◌+ℤ◌}
 use lib.Signed.{le_z}
 use borrow.Author.Tests.{eq-eqb, ne_eqb}
 use Rattle.signed.specs.Steps.{I64}
+use Rattle.signed.proofs.Bits.{read, back}
+use mir.Syntax.{w64}
+use mir.Val.{SFits, to_z}
+use mir.Facts.{to_z_pos}
 use Rattle.choice.proofs.Tests.{decide}
 use Rattle.slices.proofs.Every.{all_append}
 use Rattle.tracks.specs.declared.Edit.{Edit}
 use Rattle.tracks.specs.declared.Cursor.{Cursor}
 use Rattle.tracks.specs.Tables.{offset_of, entriesOf, entryTotal, perFrame, durations}
-use Rattle.tracks.specs.Steps.{rest, There, Next, atFirst}
+use Rattle.tracks.specs.Steps.{rest, There, Next, atFirst, offsetWrap, wrapped}
+use Rattle.tracks.proofs.OffsetLaws.{offset-wrapped}
 use Rattle.tracks.proofs.EntryLaws.{length-per-frame}
 use Rattle.frame_times.specs.declared.Kept.{Kept}
 use Rattle.frame_times.specs.Frames.{Frame, framesFrom, inEdit, kept, ctsOf, last_of}
@@ -114,6 +119,20 @@ module _ (u : Bool) (e : Edit) (stts ctts : List ℕ) (whole : List Frame) (time
   pub frame-good : Good frame
   frame-good = record { decode-near = omega (arith, h.small); cts-near = composed-near t (offset_of u os'.value) (omega (arith, h.small)) (offset-small u os'.value fo); short = fd }
 
+  -- its composition time, as the code adds it up
+  module _ {wrap : ℕ} {o : ℤ} (w : wrap ≡ offsetWrap u) (oi : I64 o) (oe : o ≡ wrapped wrap os'.value) where
+    abbrev added : ℤ
+    added = to_z w64 t +ℤ read o
+
+    sum_is : added ≡ frame.cts
+    sum_is = λ i. to_z_pos w64 {n = t} (omega (arith, frame-good.decode-near)) i +ℤ (back o oi ∙ oe ∙ ap (λ n. wrapped n os'.value) w ∙ offset-wrapped u os'.value) i
+
+    pub cts-fits : I64 added
+    cts-fits = subst I64 (sym sum_is) (omega (arith, frame-good.cts-near))
+
+    pub cts-is : read added ≡ frame.cts
+    cts-is = back added cts-fits ∙ sum_is
+
   here : framesFrom t (rest stts ds) (map (offset_of u) (rest ctts os)) ≡ frame ∷ framesFrom (t + ds'.value) (rest stts ds') (map (offset_of u) (rest ctts os'))
   here = frames-step u t (rest stts ds) (rest ctts os) (omega (arith, h.left))
       ∙ sym (λ i. record { decode = t; cts = pos t +ℤ offset_of u (no.value i); duration = nd.value i } ∷ framesFrom (t + nd.value i) (nd.rest i) (map (offset_of u) (no.rest i)))
@@ -168,6 +187,7 @@ keep-end u e stts ctts whole times₀ times ds os k t i h l =
 pub record Bounded (k : Kept) : Type 0 where
   pub first_small : k.first ≤ 2 ^ 56
   pub lasts-small : k.lasts < 2 ^ 32
+  pub last_inside : I64 k.last
   pub end_fits : I64 (k.last +ℤ pos k.lasts)
 
 pub told-bounded : (fs : List Frame) (k : Kept) (times : List ℤ) → Told fs k times → (k.count ≡ 0 → ⊥) → Bounded k
@@ -178,6 +198,7 @@ told-bounded (f ∷ fs) k times h n =
     record {
       first_small = omega (arith, h.ends.0, h.good.0.decode-near);
       lasts-small = omega (arith, h.ends.2, g.short);
+      last_inside = subst I64 (sym h.ends.1) (omega (arith, g.cts-near));
       end_fits = subst I64 (sym (told-last (f ∷ fs) k times h n)) (omega arith);
     }
 
@@ -188,3 +209,29 @@ module _ (fs : List Frame) (k : Kept) (times : List ℤ) (h : Told fs k times) w
 
   pub front-within : k.count ≤ length times
   front-within = omega (arith, front_long, length-take k.count times)
+
+-- where the first of some kept frames starts and the last one ends, as the code reads them
+module _ (fs : List Frame) (k : Kept) (times : List ℤ) (h : Told fs k times) (n : k.count ≡ 0 → ⊥) where
+  bounded : Bounded k
+  bounded = told-bounded fs k times h n
+
+  abbrev last_sum : ℤ
+  last_sum = read k.last +ℤ to_z w64 k.lasts
+
+  sum-is : last_sum ≡ k.last +ℤ pos k.lasts
+  sum-is = λ i. back k.last bounded.last_inside i +ℤ to_z_pos w64 {n = k.lasts} (omega (arith, bounded.lasts-small)) i
+
+  pub some-kept : 0 < length fs
+  some-kept = omega (arith, h.count, n)
+
+  pub lasts-fit : SFits w64 (pos k.lasts)
+  lasts-fit = record { sfits = omega (arith, bounded.lasts-small) }
+
+  pub first_read : to_z w64 k.first ≡ first_of fs
+  first_read = to_z_pos w64 {n = k.first} (omega (arith, bounded.first_small)) ∙ told-first fs k times h n
+
+  pub sum_fits : SFits w64 last_sum
+  sum_fits = subst (SFits w64) (sym sum-is) (record { sfits = bounded.end_fits })
+
+  pub last-read : read last_sum ≡ end-of fs
+  last-read = back last_sum sum_fits.sfits ∙ sum-is ∙ told-last fs k times h n

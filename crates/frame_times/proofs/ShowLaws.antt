@@ -7,26 +7,31 @@ use Prim.Native.Nat.{ℕ, ◌+◌, ◌≤◌, ◌<◌, ◌^◌}
 use native.Mathlib.Omega.{arith}
 use native.Mathlib.Numerals.{add-one}
 use lib.ListN.{length, get_or, take, set, length-map}
-use lib.Seq.{take-suc, take_all, length-take-le}
-use lib.IntN.{ℤ, pos, negsuc, ◌-ℤ◌}
+use lib.Seq.{take-suc, length-take-le}
+use lib.IntN.{ℤ, pos, negsuc, ◌+ℤ◌, ◌-ℤ◌}
+use mir.Syntax.{w64}
+use mir.Val.{SFits}
+use Rattle.signed.proofs.Bits.{read, reads, back}
+use Rattle.signed.specs.declared.Held.{Held}
+use Rattle.signed.specs.declared.Held.TheVariants.{Is, Outside}
 use lib.Signed.{le_z, mag}
 use borrow.Author.Tests.{le-leb, lt-leb}
 use Rattle.choice.specs.Records.{any}
 use Rattle.signed.specs.Steps.{I64}
-use Rattle.signed.specs.Signed.{isOutside}
+use Rattle.signed.specs.Signed.{isOutside, within}
 use Rattle.choice.proofs.Tests.{decide}
 use Rattle.signed.proofs.Up.{up, up_top, le_up, gt-up, sums, Difference, difference}
 use Rattle.slices.specs.Slices.{All, laid}
 use Rattle.slices.proofs.Every.{all-at, all_of, all-weaken}
 use Rattle.slices.proofs.Laid.{set-laid}
 use Rattle.order.specs.Order.{sorted}
-use Rattle.order.proofs.Sorted.{all-sorted}
+use Rattle.order.proofs.Sorted.{all-sorted, length-sorted}
 use Rattle.tracks.specs.declared.Edit.{Edit}
 use Rattle.frame_times.specs.declared.FrameTimes.TheVariants.{Presented}
 use Rattle.frame_times.specs.Frames.{capped, timeOrigin, movedTime, maxZ}
-use Rattle.frame_times.specs.Steps.{Near, Ended, Showable, Movable}
+use Rattle.frame_times.specs.Steps.{Near, Ended, Showable, Movable, OutcomeAnswered}
 use Rattle.frame_times.specs.Times.{Outcome, placed, shown, refused}
-use Rattle.frame_times.proofs.Choices.{cap-endless, cap-under, cap-past, origin-edited, origin-none, max-first, max-second}
+use Rattle.frame_times.proofs.Choices.{held, not-held, cap-endless, cap-under, cap-past, origin-edited, origin-none, max-first, max-second}
 
 -- at most 2^61 from 0
 pub record Mid (z : ℤ) : Type 0 where
@@ -174,5 +179,79 @@ module _ (f : ℤ → ℤ) (times out₀ : List ℤ) (i : ℕ) (out : List ℤ) 
       let s : map f (take (i + 1) times) ≡ map f (take i times) ++ v ∷ [] = rw add-one (ap (map f) (take-suc times i (pos 0) h) ∙ map-append f (take i times) (get_or times i (pos 0) ∷ [])) in
       ap (λ l. set l i v) e ∙ ap (λ j. set (laid (map f (take i times)) out₀) j v) (sym n) ∙ set-laid (map f (take i times)) out₀ v (omega arith) ∙ ap (λ l. laid l out₀) (sym s)
 
-  pub place-all : length times ≤ i → out ≡ laid (map f (take i times)) out₀ → out ≡ laid (map f times) out₀
-  place-all h e = e ∙ ap (λ l. laid (map f l) out₀) (take_all i times h)
+-- the sorted times, the origin and the capped end, as the code has them
+pub record Showing (times new : List ℤ) (first last : ℤ) (e : Edit) (o cap : ℤ) : Type 0 where
+  pub given : Showable times first last e
+  pub some₀ : 0 < length times
+  pub first_fits : SFits w64 first
+  pub last_fits : SFits w64 last
+  pub order : new ≡ sorted times
+  pub origin_fits : I64 o
+  pub origin : o ≡ timeOrigin e (read (get_or new 0 (pos 0))) (read first)
+  pub cap_fits : I64 cap
+  pub cap_is : cap ≡ capped e (read last)
+
+pub showing : {times new : List ℤ} {first last : ℤ} {e : Edit} {o cap : ℤ} → Showable times first last e → 0 < length times → SFits w64 first → SFits w64 last → new ≡ sorted times
+    → I64 o → o ≡ timeOrigin e (read (get_or new 0 (pos 0))) (read first) → I64 cap → cap ≡ capped e (read last) → Showing times new first last e o cap
+showing g s f l n x o y c = record { given = g; some₀ = s; first_fits = f; last_fits = l; order = n; origin_fits = x; origin = o; cap_fits = y; cap_is = c }
+
+module _ {times new : List ℤ} {first last : ℤ} {e : Edit} {o cap : ℤ} (h : Showing times new first last e o cap) where
+  abbrev pub org : ℤ
+  org = from-0 e first (sorted times)
+
+  abbrev pub top : ℤ
+  top = capped e last
+
+  pub some : 0 < length (sorted times)
+  some = rw (length-sorted times) h.some₀
+
+  pub able : Showable (sorted times) first last e
+  able = showable-sorted times first last e h.given
+
+  pub org-read : read o ≡ org
+  org-read =
+      let here : get_or new 0 (pos 0) ≡ get_or (sorted times) 0 (pos 0) = ap (λ (l : List ℤ). get_or l 0 (pos 0)) h.order in
+      let inside : I64 (get_or (sorted times) 0 (pos 0)) = omega (arith, all-at Near (sorted times) 0 (pos 0) able.near_times some) in
+      let least : read (get_or new 0 (pos 0)) ≡ get_or (sorted times) 0 (pos 0) = ap read here ∙ back (get_or (sorted times) 0 (pos 0)) inside in
+      back o h.origin_fits ∙ h.origin ∙ (λ i. timeOrigin e (least i) (reads h.first_fits i))
+
+  pub cap-read : read cap ≡ top
+  cap-read = back cap h.cap_fits ∙ h.cap_is ∙ ap (capped e) (reads h.last_fits)
+
+  pub empty-read : read e.empty ≡ e.empty
+  empty-read = back e.empty able.sound.empty-fits
+
+  pub top-apart : I64 (top -ℤ org)
+  top-apart = (end-apart (sorted times) first last e able some).inside
+
+  pub apart_fits : SFits w64 (read cap -ℤ read o)
+  apart_fits = rw (org-read, cap-read) (record { sfits = top-apart })
+
+  -- the end that is tested
+  abbrev pub end_is : ℤ
+  end_is = movedTime org e.empty top
+
+  pub summed : {r : Held} → r ≡ within (read (read cap -ℤ read o) +ℤ read e.empty) → r ≡ within end_is
+  summed q = q ∙ (λ i. within (((λ j. read (cap-read j -ℤ org-read j)) ∙ back (top -ℤ org) top-apart) i +ℤ empty-read i))
+
+  pub refused_is : (scale : ℕ) (nominal : ℤ) → Outside ≡ within end_is → shown scale nominal e first last (sorted times) ≡ refused 33
+  refused_is scale nominal q = shown-out (sorted times) first last e able some scale nominal (not-held end_is q)
+
+  module _ {z : ℤ} (q : Is z ≡ within end_is) where
+    pub end-fits : I64 end_is
+    end-fits = (held end_is q).1
+
+    pub end-read : read z ≡ end_is
+    end-read = ap read (held end_is q).0 ∙ back end_is end-fits
+
+    pub placeable : All (Movable (read o) (read e.empty)) new
+    placeable = movable-as org (read o) e.empty (read e.empty) (sorted times) new org-read empty-read h.order (times-move (sorted times) first last e able some end-fits)
+
+    pub answers : (scale : ℕ) (nominal : ℤ) {l l' : List ℤ} → SFits w64 nominal → l' ≡ laid (map (movedTime (read o) (read e.empty)) new) l
+        → OutcomeAnswered (shown scale nominal e first last (sorted times)) (Presented (length new) scale (read nominal) (read z)) l l'
+    answers scale nominal {l} {l'} f p =
+        let s = shown-in (sorted times) first last e able some end-fits scale nominal in
+        record {
+          answer = (λ i. Presented (length (h.order i)) scale (reads f i) (end-read i)) ∙ ap (λ (o : Outcome). o.answer) (sym s);
+          starts = p ∙ (λ i. laid (map (movedTime (org-read i) (empty-read i)) (h.order i)) l) ∙ ap (λ (o : Outcome). laid o.starts l) (sym s);
+        }

@@ -22,6 +22,7 @@ fn in_edit(e: Edit, c: i64) -> bool
 }
 
 // One kept frame more, which comes last where its composition time isn't below the last one's.
+#[tactic(auto, using(choice::proofs::Tests::tests), unfolding(crate::specs::Steps::keptWith))]
 fn with_frame(k: Kept, decode: u64, c: i64, duration: u64) -> Kept
     requires { k.count ≤ 16777216 }
     ensures { result ≡ keptWith k decode c duration }

@@ -114,6 +114,7 @@ fn of_durations(
 }
 
 // Answers with the edts of such a track, and with its stbl, which starts at base of the moov.
+#[tactic(auto, using(choice::proofs::Tests::tests), unfolding(crate::specs::Times::ofTables))]
 fn of_tables(
     standard: bool,
     bytes: usize,
@@ -183,6 +184,7 @@ fn of_info(
 }
 
 // Answers with the mdia of a video track, at base of the moov, which has its timescale and its minf.
+#[tactic(auto, using(choice::proofs::Tests::tests), unfolding(crate::specs::Times::ofMedia))]
 fn of_media(
     standard: bool,
     bytes: usize,
@@ -224,6 +226,7 @@ fn of_media(
 }
 
 // Answers with a video track, which starts at base of the moov.
+#[tactic(auto, using(choice::proofs::Tests::tests), unfolding(crate::specs::Times::ofTrack))]
 fn of_track(
     standard: bool,
     bytes: usize,
@@ -256,6 +259,7 @@ fn of_track(
 }
 
 // Answers with a moov, and leaves the working slices as they happen to be.
+#[tactic(auto, using(choice::proofs::Tests::tests), unfolding(crate::specs::Times::timesOfMoov))]
 pub(crate) fn of_moov(
     moov: &[u8],
     standard: bool,

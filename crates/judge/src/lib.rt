@@ -41,6 +41,7 @@ pub enum Video {
 }
 
 // Whether there is a video.
+#[tactic(auto, unfolding(crate::specs::Video::shownBy))]
 fn is_given(video: Video) -> bool
     ensures { (starts : List ℤ) → result ≡ (shownBy video starts).given }
 {
@@ -60,6 +61,7 @@ fn is_given(video: Video) -> bool
 }
 
 // 20: whether one of its numbers is over its limit.
+#[tactic(auto, unfolding(crate::specs::Video::shownBy))]
 fn is_over(video: Video, starts: &[i64]) -> bool
     ensures { result ≡ (shownBy video starts.now).over }
 {
@@ -79,6 +81,7 @@ fn is_over(video: Video, starts: &[i64]) -> bool
 }
 
 // How many frames it has.
+#[tactic(auto, unfolding(crate::specs::Video::shownBy))]
 fn frame_count(video: Video, starts: &[i64]) -> u64
     ensures { result ≡ (shownBy video starts.now).frames }
 {
@@ -261,6 +264,7 @@ fn single_frame(s: &[u64], u: &[u64]) -> Video
 }
 
 // 31 as 35, any other number as it is.
+#[tactic(auto, unfolding(crate::specs::Judge::recoded))]
 fn recode(n: u64) -> u64
     ensures { result ≡ recoded n }
 {

@@ -1,0 +1,18 @@
+use Rattle.std.proofs.Common.{Bool, sym, ap, ◌∙◌, rules}
+use Rattle.choice.specs.Choice.{when}
+use Rattle.signed.specs.declared.Held.{Held}
+use Rattle.signed.specs.Signed.{eqZ}
+use Rattle.signed.proofs.Bits.{reads, fits-of}
+use Rattle.judge.specs.Judge.{otherStart, startsAt}
+use Rattle.judge.proofs.starts_at.Goals as goal
+
+pub returns-in-Outside : goal.returns-in-Outside
+unfolding startsAt
+returns-in-Outside c = sym (ap (λ (h : Held). startsAt h c.args.out) c.in-Outside.is)
+
+pub returns-in-Is : goal.returns-in-Is
+unfolding startsAt
+returns-in-Is c =
+    c.first_of.ensures
+    ∙ ap (λ (b : Bool). when b 0 otherStart) (c.same.ensures ∙ (λ i. eqZ (reads (fits-of {z = c.in-Is.time} (search rules)) i) (reads c.ranges.out i)))
+    ∙ sym (ap (λ (h : Held). startsAt h c.args.out) c.in-Is.is)

@@ -5,6 +5,7 @@ ghost use Rattle.told.specs.Told.{usTold};
 use ticks::Us;
 
 // Tells a time in microseconds.
+#[tactic(auto, unfolding(crate::specs::Told::usTold))]
 pub fn tell_us(answer: Us, us: &mut i64, index: &mut u64) -> u64
     ensures { (result, us.new, index.new) ≡ usTold answer us.old }
 {

@@ -5,6 +5,7 @@ ghost use Rattle.told.specs.Told.{mappedTold, tracedTold};
 use maps::{Mapped, Traced};
 
 // Tells how many rows were written.
+#[tactic(auto, unfolding(crate::specs::Told::mappedTold))]
 pub fn tell_mapped(answer: Mapped, rows: &mut u64, index: &mut u64) -> u64
     ensures { (result, rows.new, index.new) ≡ mappedTold answer rows.old }
 {
@@ -22,6 +23,7 @@ pub fn tell_mapped(answer: Mapped, rows: &mut u64, index: &mut u64) -> u64
 }
 
 // Tells where a frame comes from.
+#[tactic(auto, unfolding(crate::specs::Told::tracedTold))]
 pub fn tell_traced(
     answer: Traced,
     source: &mut u64,

@@ -5,6 +5,7 @@ ghost use Rattle.told.specs.Told.{refusalTold};
 use rules::Checked;
 
 // Tells a refusal alone.
+#[tactic(auto, unfolding(crate::specs::Told::refusalTold))]
 pub fn tell_refusal(answer: Checked, index: &mut u64) -> u64
     ensures { (result, index.new) ≡ refusalTold answer }
 {

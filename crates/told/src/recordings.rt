@@ -6,6 +6,7 @@ use frame_times::FrameTimes;
 use mcraw::RecordingTimes;
 
 // Tells frame count, scale, nominal and end.
+#[tactic(auto, unfolding(crate::specs::Told::timesTold))]
 pub fn tell_times(
     answer: RecordingTimes,
     frames: &mut u64,
@@ -38,6 +39,7 @@ pub fn tell_times(
 }
 
 // Tells the same of a moov.
+#[tactic(auto, unfolding(crate::specs::Told::moovTold))]
 pub fn tell_moov(
     answer: FrameTimes,
     frames: &mut u64,

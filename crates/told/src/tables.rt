@@ -7,6 +7,7 @@ use rules::{Checked, Continued, Lookup};
 use table_rows::Filled;
 
 // Tells a frame total.
+#[tactic(auto, unfolding(crate::specs::Told::checkedTold))]
 pub fn tell_checked(answer: Checked, frames: &mut u64, index: &mut u64) -> u64
     ensures { (result, frames.new, index.new) ≡ checkedTold answer frames.old }
 {
@@ -24,6 +25,7 @@ pub fn tell_checked(answer: Checked, frames: &mut u64, index: &mut u64) -> u64
 }
 
 // Tells a segment.
+#[tactic(auto, unfolding(crate::specs::Told::lookupTold))]
 pub fn tell_lookup(answer: Lookup, segment: &mut u64, index: &mut u64) -> u64
     ensures { (result, segment.new, index.new) ≡ lookupTold answer segment.old }
 {
@@ -41,6 +43,7 @@ pub fn tell_lookup(answer: Lookup, segment: &mut u64, index: &mut u64) -> u64
 }
 
 // Tells how many indices were written.
+#[tactic(auto, unfolding(crate::specs::Told::indexedTold))]
 pub fn tell_indexed(answer: Indexed, written: &mut u64, index: &mut u64) -> u64
     ensures { (result, written.new, index.new) ≡ indexedTold answer written.old }
 {
@@ -58,6 +61,7 @@ pub fn tell_indexed(answer: Indexed, written: &mut u64, index: &mut u64) -> u64
 }
 
 // Tells whether a segment continues the one before.
+#[tactic(auto, unfolding(crate::specs::Told::continuedTold))]
 pub fn tell_continued(answer: Continued, yes: &mut u64, index: &mut u64) -> u64
     ensures { (result, yes.new, index.new) ≡ continuedTold answer yes.old }
 {
@@ -75,6 +79,7 @@ pub fn tell_continued(answer: Continued, yes: &mut u64, index: &mut u64) -> u64
 }
 
 // Tells how many rows were written.
+#[tactic(auto, unfolding(crate::specs::Told::filledTold))]
 pub fn tell_filled(answer: Filled, rows: &mut u64, index: &mut u64) -> u64
     ensures { (result, rows.new, index.new) ≡ filledTold answer rows.old }
 {

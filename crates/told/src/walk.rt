@@ -5,6 +5,7 @@ ghost use Rattle.told.specs.Told.{placeTold, reachedTold, sizeTold};
 use boxes::{Place, Reached, Sized};
 
 // Tells a box's size and its header's.
+#[tactic(auto, unfolding(crate::specs::Told::sizeTold))]
 pub fn tell_size(answer: Sized, size: &mut u64, header: &mut u64, index: &mut u64) -> u64
     ensures { (result, size.new, header.new, index.new) ≡ sizeTold answer size.old header.old }
 {
@@ -23,6 +24,7 @@ pub fn tell_size(answer: Sized, size: &mut u64, header: &mut u64, index: &mut u6
 }
 
 // Tells a box's type, where its payload lies, and where the next box is.
+#[tactic(auto, unfolding(crate::specs::Told::reachedTold))]
 pub fn tell_reached(
     answer: Reached,
     kind: &mut u32,
@@ -55,6 +57,7 @@ pub fn tell_reached(
 }
 
 // Tells where a part of the caller's bytes lies.
+#[tactic(auto, unfolding(crate::specs::Told::placeTold))]
 pub fn tell_place(answer: Place, start: &mut u64, length: &mut u64, index: &mut u64) -> u64
     ensures { (result, start.new, length.new, index.new) ≡ placeTold answer start.old length.old }
 {

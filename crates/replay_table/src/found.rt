@@ -3,13 +3,13 @@ use cases::say;
 use rules::Lookup;
 
 // The line of a segment.
-pub fn say_found(answer: Lookup) {
+pub fn say_found(rt: &impl Print, answer: Lookup) {
     match answer {
         Lookup::Index(k) => {
-            say::accepted();
-            say::value(k as u64);
+            say::accepted(rt);
+            say::value(rt, k as u64);
         }
-        Lookup::NoIndex(number, index) => say::refused(number, index),
+        Lookup::NoIndex(number, index) => say::refused(rt, number, index),
     }
-    say::end(true);
+    say::end(rt, true);
 }

@@ -120,6 +120,7 @@ fn located(
 
 // segment_of_frame_records TABLE FRAME
 pub fn segment_of_frame_records(
+    rt: &impl Print,
     line: &[u8],
     c: Cursor,
     sources: &[u64],
@@ -130,14 +131,14 @@ pub fn segment_of_frame_records(
 ) {
     let frame = read::number(line, c);
     if !read::ended(line, frame) {
-        say::unreadable();
+        say::unreadable(rt);
         return;
     }
     let n = count(u, t);
     if !whole(u, t, n) {
-        say::unreadable();
+        say::unreadable(rt);
         return;
     }
     let list = listed(u, t, n);
-    say_found(located(sources, text, list, n, log, frame.number));
+    say_found(rt, located(sources, text, list, n, log, frame.number));
 }

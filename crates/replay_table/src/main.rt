@@ -16,23 +16,33 @@ use table_rows::Filled;
 const ROOM: usize = 64;
 
 // check TABLE
-fn check(line: &[u8], c: Cursor, sources: &[u64], u: &[u64], t: &[i64], log: bool, text: &[u8]) {
+fn check(
+    rt: &impl Print,
+    line: &[u8],
+    c: Cursor,
+    sources: &[u64],
+    u: &[u64],
+    t: &[i64],
+    log: bool,
+    text: &[u8],
+) {
     if !read::ended(line, c) {
-        say::unreadable();
+        say::unreadable(rt);
         return;
     }
     match table::check(sources, u, t, log, text) {
         Checked::Frames(n) => {
-            say::accepted();
-            say::value(n);
+            say::accepted(rt);
+            say::value(rt, n);
         }
-        Checked::Refused(number, index) => say::refused(number, index),
+        Checked::Refused(number, index) => say::refused(rt, number, index),
     }
-    say::end(true);
+    say::end(rt, true);
 }
 
 // segment_of_frame TABLE FRAME
 fn segment_of_frame(
+    rt: &impl Print,
     line: &[u8],
     c: Cursor,
     sources: &[u64],
@@ -43,14 +53,18 @@ fn segment_of_frame(
 ) {
     let frame = read::number(line, c);
     if !read::ended(line, frame) {
-        say::unreadable();
+        say::unreadable(rt);
         return;
     }
-    say_found(lookup::segment_of_frame(sources, u, t, log, text, frame.number));
+    say_found(
+        rt,
+        lookup::segment_of_frame(sources, u, t, log, text, frame.number),
+    );
 }
 
 // segment_of_time_us TABLE TIME
 fn segment_of_time_us(
+    rt: &impl Print,
     line: &[u8],
     c: Cursor,
     sources: &[u64],
@@ -61,14 +75,18 @@ fn segment_of_time_us(
 ) {
     let time = read::signed(line, c);
     if !read::ended(line, time) {
-        say::unreadable();
+        say::unreadable(rt);
         return;
     }
-    say_found(lookup::segment_of_time_us(sources, u, t, log, text, time.signed));
+    say_found(
+        rt,
+        lookup::segment_of_time_us(sources, u, t, log, text, time.signed),
+    );
 }
 
 // continues TABLE SEGMENT
 fn continues(
+    rt: &impl Print,
     line: &[u8],
     c: Cursor,
     sources: &[u64],
@@ -79,36 +97,37 @@ fn continues(
 ) {
     let segment = read::number(line, c);
     if !read::ended(line, segment) {
-        say::unreadable();
+        say::unreadable(rt);
         return;
     }
     match lookup::continues(sources, u, t, log, text, segment.number as usize) {
         Continued::Answer(yes) => {
-            say::accepted();
-            say::value(yes as u64);
+            say::accepted(rt);
+            say::value(rt, yes as u64);
         }
-        Continued::NoAnswer(number, index) => say::refused(number, index),
+        Continued::NoAnswer(number, index) => say::refused(rt, number, index),
     }
-    say::end(true);
+    say::end(rt, true);
 }
 
 // The line of rows that were written over lent slices.
-fn say_rows(answer: Filled, ou: &[u64], os: &[i64]) {
+fn say_rows(rt: &impl Print, answer: Filled, ou: &[u64], os: &[i64]) {
     match answer {
         Filled::Rows(n) => {
-            say::accepted();
-            say::value(n as u64);
-            say::end(say::rows(ou, os, n));
+            say::accepted(rt);
+            say::value(rt, n as u64);
+            say::end(rt, say::rows(rt, ou, os, n));
         }
         Filled::NoRows(number, index) => {
-            say::refused(number, index);
-            say::end(say::unwritten(ou, os, 0));
+            say::refused(rt, number, index);
+            say::end(rt, say::unwritten(ou, os, 0));
         }
     }
 }
 
 // Rows over lent slices.
 fn rows_over(
+    rt: &impl Print,
     sources: &[u64],
     u: &[u64],
     t: &[i64],
@@ -118,11 +137,12 @@ fn rows_over(
     os: &mut [i64],
 ) {
     let answer = table_rows::rows_of_table(sources, u, t, log, text, ou, os);
-    say_rows(answer, ou, os);
+    say_rows(rt, answer, ou, os);
 }
 
 // rows_of_table TABLE ROOM ROOM
 fn rows_of_table(
+    rt: &impl Print,
     line: &[u8],
     c: Cursor,
     sources: &[u64],
@@ -134,18 +154,19 @@ fn rows_of_table(
     let x = read::room(line, c, ROOM);
     let y = read::room(line, x, ROOM);
     if !read::ended(line, y) {
-        say::unreadable();
+        say::unreadable(rt);
         return;
     }
     let mut ou = [0u64; 64];
     let mut os = [0i64; 64];
     let m = lent::words(&mut ou, x.count);
     let k = lent::longs(&mut os, y.count);
-    rows_over(sources, u, t, log, text, &mut ou[..m], &mut os[..k]);
+    rows_over(rt, sources, u, t, log, text, &mut ou[..m], &mut os[..k]);
 }
 
 // The case of a table, with what follows the table in its line.
 fn answer_to(
+    rt: &impl Print,
     line: &[u8],
     c: Cursor,
     sources: &[u64],
@@ -155,26 +176,26 @@ fn answer_to(
     text: &[u8],
 ) {
     if read::is(line, b"check") {
-        check(line, c, sources, u, t, log, text);
+        check(rt, line, c, sources, u, t, log, text);
     } else if read::is(line, b"segment_of_frame") {
-        segment_of_frame(line, c, sources, u, t, log, text);
+        segment_of_frame(rt, line, c, sources, u, t, log, text);
     } else if read::is(line, b"segment_of_frame_records") {
-        listed::segment_of_frame_records(line, c, sources, u, t, log, text);
+        listed::segment_of_frame_records(rt, line, c, sources, u, t, log, text);
     } else if read::is(line, b"segments_of_frames") {
-        many::segments_of_frames(line, c, sources, u, t, log, text);
+        many::segments_of_frames(rt, line, c, sources, u, t, log, text);
     } else if read::is(line, b"segment_of_time_us") {
-        segment_of_time_us(line, c, sources, u, t, log, text);
+        segment_of_time_us(rt, line, c, sources, u, t, log, text);
     } else if read::is(line, b"continues") {
-        continues(line, c, sources, u, t, log, text);
+        continues(rt, line, c, sources, u, t, log, text);
     } else if read::is(line, b"rows_of_table") {
-        rows_of_table(line, c, sources, u, t, log, text);
+        rows_of_table(rt, line, c, sources, u, t, log, text);
     } else {
-        say::unreadable();
+        say::unreadable(rt);
     }
 }
 
 // One case: every call begins with its table.
-fn answer(line: &[u8]) {
+fn answer(rt: &impl Print, line: &[u8]) {
     let mut sources = [0u64; 650];
     let mut u = [0u64; 64];
     let mut t = [0i64; 64];
@@ -187,6 +208,7 @@ fn answer(line: &[u8]) {
     let b = l.text;
     let after = tables::after(l);
     answer_to(
+        rt,
         line,
         after,
         &sources[..n],
@@ -198,16 +220,15 @@ fn answer(line: &[u8]) {
 }
 
 // All cases of standard input.
-fn main() {
-    let mut text = io::large_buffer();
+fn main(rt: HostRuntime) {
+    let mut input = rt.reader();
+    let mut text = [0u8; lines::PIECE];
     let mut l = lines::none();
-    let mut turns: u64 = MAX_U64;
-    while 0 < turns {
-        l = lines::next(&mut text, l);
+    for _ in 0..MAX_U64 {
+        l = lines::next(&rt, &mut input, &mut text, l);
         if l.done {
             return;
         }
-        answer(lines::line(&text, l));
-        turns -= 1;
+        answer(&rt, lines::line(&text, l));
     }
 }

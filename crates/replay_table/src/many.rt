@@ -7,23 +7,24 @@ use lookups::Indexed;
 const ROOM: usize = 64;
 
 // The line of indices that were written over lent room.
-fn say_indices(answer: Indexed, out: &[u64]) {
+fn say_indices(rt: &impl Print, answer: Indexed, out: &[u64]) {
     match answer {
         Indexed::Indices(n) => {
-            say::accepted();
-            say::value(n as u64);
-            say::words(out, n);
-            say::end(lent::kept_words(out, n));
+            say::accepted(rt);
+            say::value(rt, n as u64);
+            say::words(rt, out, n);
+            say::end(rt, lent::kept_words(out, n));
         }
         Indexed::NoIndices(number, index) => {
-            say::refused(number, index);
-            say::end(lent::kept_words(out, 0));
+            say::refused(rt, number, index);
+            say::end(rt, lent::kept_words(out, 0));
         }
     }
 }
 
 // Indices over lent room.
 fn indices_over(
+    rt: &impl Print,
     sources: &[u64],
     u: &[u64],
     t: &[i64],
@@ -33,11 +34,12 @@ fn indices_over(
     out: &mut [u64],
 ) {
     let answer = lookups::segments_of_frames(sources, u, t, log, text, frames, out);
-    say_indices(answer, out);
+    say_indices(rt, answer, out);
 }
 
 // segments_of_frames TABLE FRAMES ROOM
 pub fn segments_of_frames(
+    rt: &impl Print,
     line: &[u8],
     c: Cursor,
     sources: &[u64],
@@ -50,11 +52,11 @@ pub fn segments_of_frames(
     let f = read::words(line, c, &mut frames);
     let x = read::room(line, f, ROOM);
     if !read::ended(line, x) {
-        say::unreadable();
+        say::unreadable(rt);
         return;
     }
     let mut out = [0u64; 64];
     let n = f.count;
     let m = lent::words(&mut out, x.count);
-    indices_over(sources, u, t, log, text, &frames[..n], &mut out[..m]);
+    indices_over(rt, sources, u, t, log, text, &frames[..n], &mut out[..m]);
 }

@@ -10,6 +10,7 @@ use judge::Video;
 
 // Judges a table where its file has no video: it is always refused.
 // Lent: a table. Writes index. Refuses: 1 to 17, 21.
+#[tactic(auto, unfolding(judge::specs::Video::shownBy))]
 #[unsafe(no_mangle)]
 pub extern "C" fn st_validate_no_video(
     sources: &[u64],
@@ -35,6 +36,7 @@ pub extern "C" fn st_validate_no_video(
 
 // Judges a table by a video of video_frames frames at num / den a second: its frame total.
 // Lent: a table. Writes frames, index. Refuses: 1 to 17, 20, 22, 23 with 24, 25.
+#[tactic(auto, unfolding(judge::specs::Video::shownBy))]
 #[unsafe(no_mangle)]
 pub extern "C" fn st_validate_constant(
     sources: &[u64],
@@ -61,6 +63,7 @@ pub extern "C" fn st_validate_constant(
 
 // Judges a table by a video's frame times, in ticks of scale a second: its frame total. The last frame ends at end.
 // Lent: a table, the starts. Writes frames, index. Refuses: 1 to 17, 20, 22, 23 with 24, 25.
+#[tactic(auto, unfolding(judge::specs::Video::shownBy))]
 #[unsafe(no_mangle)]
 pub extern "C" fn st_validate_times(
     sources: &[u64],

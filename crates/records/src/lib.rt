@@ -79,7 +79,6 @@ fn words_of(r: TrimSegment) -> Words
 }
 
 // What the signed words of a record say.
-#[tactic(auto, unfolding(rules::specs::Rules::stampTimes))]
 fn times_of(r: TrimSegment) -> SixTimes
     ensures { result ≡ stampTimes (stampsOf r) }
 {

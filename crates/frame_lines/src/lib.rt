@@ -9,7 +9,6 @@ use boxes::read::code;
 use boxes::{Place, find_box_place};
 use choice::TOO_LONG;
 use frame_times::{FrameTimes, video_frame_times_of_moov};
-use printing::{number, signed, text};
 use reading::Ending;
 
 // How many bytes a file may have; a longer one is refused with TOO_LONG.
@@ -41,71 +40,60 @@ fn times_of_file(
 }
 
 // A number on a line of its own.
-fn print_line(x: i64) {
-    signed(x);
-    text(b"\n");
+fn print_line(rt: &impl Print, x: i64) {
+    let _ = println!(rt; "{x}");
 }
 
 // One start a line, for so many frames.
-fn print_starts(starts: &[i64], frames: usize) {
+fn print_starts(rt: &impl Print, starts: &[i64], frames: usize) {
     let mut i = 0;
     while i < starts.len() {
         if i == frames {
             return;
         }
-        print_line(starts[i]);
+        print_line(rt, starts[i]);
         i += 1;
     }
 }
 
 // The line of a refusal.
-fn print_refusal(n: u64) {
-    text(b"refused ");
-    number(n);
-    text(b"\n");
+fn print_refusal(rt: &impl Print, n: u64) {
+    let _ = println!(rt; "refused {n}");
 }
 
 // The line of numbers.
-fn print_numbers(frames: u64, timescale: u64, nominal: i64, end: i64) {
-    text(b"frames ");
-    number(frames);
-    text(b" timescale ");
-    number(timescale);
-    text(b" nominal ");
-    signed(nominal);
-    text(b" end ");
-    signed(end);
-    text(b"\n");
+fn print_numbers(rt: &impl Print, frames: u64, timescale: u64, nominal: i64, end: i64) {
+    let _ = println!(rt; "frames {frames} timescale {timescale} nominal {nominal} end {end}");
 }
 
 // All lines for a file, with room for 1,024 frames.
-fn print_file(file: &[u8]) {
+fn print_file(rt: &impl Print, file: &[u8]) {
     let mut starts = [0i64; 1024];
     let mut work_a = [0i64; 1024];
     let mut work_b = [0i64; 1024];
     match times_of_file(file, &mut starts, &mut work_a, &mut work_b) {
-        FrameTimes::Refused { number, index: _ } => print_refusal(number),
+        FrameTimes::Refused { number, index: _ } => print_refusal(rt, number),
         FrameTimes::Presented {
             frames,
             timescale,
             nominal,
             end,
         } => {
-            print_numbers(frames as u64, timescale, nominal, end);
-            print_starts(&starts, frames);
+            print_numbers(rt, frames as u64, timescale, nominal, end);
+            print_starts(rt, &starts, frames);
         }
     }
 }
 
 // The program. Of a file that can't be read to its end it says just that: what was read of it has no frame times.
-pub fn run() {
+pub fn run(rt: &(impl Input + Print)) {
     let mut file = [0u8; FILE_BYTES];
-    let input = reading::read_input(&mut file);
+    let input = reading::read_input(&mut rt.reader(), &mut file);
     let n = input.held;
     let end = input.end;
     match end {
-        Ending::Within => print_file(&file[..n]),
-        Ending::Past => print_refusal(TOO_LONG),
-        Ending::Failed => reading::say_failed(),
+        Ending::Within => print_file(rt, &file[..n]),
+        Ending::Past => print_refusal(rt, TOO_LONG),
+        Ending::Failed => reading::say_failed(rt),
     }
 }

@@ -1,7 +1,7 @@
 -- Made by tools/calls: the promise of each public call, quoted from what Rattle generates of its source, and the same in plain lists.
 use Rattle.std.specs.Prelude.{ℕ, Bool, List, [], ◌≡◌, refl, ℤ}
 use Rattle.std.specs.Borrow.{Bor}
-use Rattle.audit.specs.Promise.{Promise, Result, Anywhere, lent}
+use Rattle.audit.specs.Promise.{Promise, Result, Anywhere, lent, lent_mut}
 use Rattle.judge.specs.declared.Video.{Video}
 use Rattle.records.specs.declared.TrimSegment.{TrimSegment}
 use Rattle.ticks.specs.contracts.ticks_to_us as ticks-to-us·
@@ -129,7 +129,7 @@ rows-of-table = record { types = rows-of-table·.ended; Asked = rows-of-table·r
 
 -- rows_of_table(sources, u, t, log, text, ou, os) answers ans, and leaves ou', os'
 abbrev pub RowsOfTable : List ℕ → List ℕ → List ℤ → Bool → List ℕ → List ℕ → List ℤ → Result rows-of-table ([], ([], ([], ([], ([], ([], tt)))))) → List ℕ → List ℤ → Type 0
-RowsOfTable sources u t log text ou os ans ou' os' = rows-of-table.Learnt ([], ([], ([], ([], ([], ([], tt)))))) (lent sources, (lent u, (lent t, (log, (lent text, (lent ou, (lent os, tt))))))) ans (lent sources, (lent u, (lent t, (log, (lent text, (lent ou', (lent os', tt)))))))
+RowsOfTable sources u t log text ou os ans ou' os' = rows-of-table.Learnt ([], ([], ([], ([], ([], ([], tt)))))) (lent sources, (lent u, (lent t, (log, (lent text, (lent_mut ou, (lent_mut os, tt))))))) ans (lent sources, (lent u, (lent t, (log, (lent text, (lent_mut ou', (lent_mut os', tt)))))))
 
 pub rows-of-table·anywhere : Anywhere rows-of-table (λ κs a e. RowsOfTable a.0.now a.1.0.now a.1.1.0.now a.1.1.1.0 a.1.1.1.1.0.now a.1.1.1.1.1.0.now a.1.1.1.1.1.1.0.now e.result e.last.1.1.1.1.1.0 e.last.1.1.1.1.1.1.0)
 rows-of-table·anywhere κs a e = refl
@@ -140,7 +140,7 @@ segments-of-frames = record { types = segments-of-frames·.ended; Asked = segmen
 
 -- segments_of_frames(sources, u, t, log, text, frames, out) answers ans, and leaves out'
 abbrev pub SegmentsOfFrames : List ℕ → List ℕ → List ℤ → Bool → List ℕ → List ℕ → List ℕ → Result segments-of-frames ([], ([], ([], ([], ([], ([], tt)))))) → List ℕ → Type 0
-SegmentsOfFrames sources u t log text frames out ans out' = segments-of-frames.Learnt ([], ([], ([], ([], ([], ([], tt)))))) (lent sources, (lent u, (lent t, (log, (lent text, (lent frames, (lent out, tt))))))) ans (lent sources, (lent u, (lent t, (log, (lent text, (lent frames, (lent out', tt)))))))
+SegmentsOfFrames sources u t log text frames out ans out' = segments-of-frames.Learnt ([], ([], ([], ([], ([], ([], tt)))))) (lent sources, (lent u, (lent t, (log, (lent text, (lent frames, (lent_mut out, tt))))))) ans (lent sources, (lent u, (lent t, (log, (lent text, (lent frames, (lent_mut out', tt)))))))
 
 pub segments-of-frames·anywhere : Anywhere segments-of-frames (λ κs a e. SegmentsOfFrames a.0.now a.1.0.now a.1.1.0.now a.1.1.1.0 a.1.1.1.1.0.now a.1.1.1.1.1.0.now a.1.1.1.1.1.1.0.now e.result e.last.1.1.1.1.1.1.0)
 segments-of-frames·anywhere κs a e = refl
@@ -162,7 +162,7 @@ check-mcraw = record { types = check-mcraw·.ended; Asked = check-mcraw·reads.A
 
 -- check_mcraw(sources, u, t, log, text, timestamps, work-a, work-b) answers ans, and leaves work-a', work-b'
 abbrev pub CheckMcraw : List ℕ → List ℕ → List ℤ → Bool → List ℕ → List ℤ → List ℤ → List ℤ → Result check-mcraw ([], ([], ([], ([], ([], ([], ([], tt))))))) → List ℤ → List ℤ → Type 0
-CheckMcraw sources u t log text timestamps work-a work-b ans work-a' work-b' = check-mcraw.Learnt ([], ([], ([], ([], ([], ([], ([], tt))))))) (lent sources, (lent u, (lent t, (log, (lent text, (lent timestamps, (lent work-a, (lent work-b, tt)))))))) ans (lent sources, (lent u, (lent t, (log, (lent text, (lent timestamps, (lent work-a', (lent work-b', tt))))))))
+CheckMcraw sources u t log text timestamps work-a work-b ans work-a' work-b' = check-mcraw.Learnt ([], ([], ([], ([], ([], ([], ([], tt))))))) (lent sources, (lent u, (lent t, (log, (lent text, (lent timestamps, (lent_mut work-a, (lent_mut work-b, tt)))))))) ans (lent sources, (lent u, (lent t, (log, (lent text, (lent timestamps, (lent_mut work-a', (lent_mut work-b', tt))))))))
 
 pub check-mcraw·anywhere : Anywhere check-mcraw (λ κs a e. CheckMcraw a.0.now a.1.0.now a.1.1.0.now a.1.1.1.0 a.1.1.1.1.0.now a.1.1.1.1.1.0.now a.1.1.1.1.1.1.0.now a.1.1.1.1.1.1.1.0.now e.result e.last.1.1.1.1.1.1.0 e.last.1.1.1.1.1.1.1.0)
 check-mcraw·anywhere κs a e = refl
@@ -261,7 +261,7 @@ video-frame-times-of-moov = record { types = video-frame-times-of-moov·.ended; 
 
 -- video_frame_times_of_moov(moov, standard, starts, work-a, work-b) answers ans, and leaves starts', work-a', work-b'
 abbrev pub VideoFrameTimesOfMoov : List ℕ → Bool → List ℤ → List ℤ → List ℤ → Result video-frame-times-of-moov ([], ([], ([], ([], tt)))) → List ℤ → List ℤ → List ℤ → Type 0
-VideoFrameTimesOfMoov moov standard starts work-a work-b ans starts' work-a' work-b' = video-frame-times-of-moov.Learnt ([], ([], ([], ([], tt)))) (lent moov, (standard, (lent starts, (lent work-a, (lent work-b, tt))))) ans (lent moov, (standard, (lent starts', (lent work-a', (lent work-b', tt)))))
+VideoFrameTimesOfMoov moov standard starts work-a work-b ans starts' work-a' work-b' = video-frame-times-of-moov.Learnt ([], ([], ([], ([], tt)))) (lent moov, (standard, (lent_mut starts, (lent_mut work-a, (lent_mut work-b, tt))))) ans (lent moov, (standard, (lent_mut starts', (lent_mut work-a', (lent_mut work-b', tt)))))
 
 pub video-frame-times-of-moov·anywhere : Anywhere video-frame-times-of-moov (λ κs a e. VideoFrameTimesOfMoov a.0.now a.1.0 a.1.1.0.now a.1.1.1.0.now a.1.1.1.1.0.now e.result e.last.1.1.0 e.last.1.1.1.0 e.last.1.1.1.1.0)
 video-frame-times-of-moov·anywhere κs a e = refl
@@ -272,7 +272,7 @@ mcraw-times = record { types = mcraw-times·.ended; Asked = mcraw-times·reads.A
 
 -- mcraw_times(timestamps, starts, work) answers ans, and leaves starts', work'
 abbrev pub McrawTimes : List ℤ → List ℤ → List ℤ → Result mcraw-times ([], ([], ([], tt))) → List ℤ → List ℤ → Type 0
-McrawTimes timestamps starts work ans starts' work' = mcraw-times.Learnt ([], ([], ([], tt))) (lent timestamps, (lent starts, (lent work, tt))) ans (lent timestamps, (lent starts', (lent work', tt)))
+McrawTimes timestamps starts work ans starts' work' = mcraw-times.Learnt ([], ([], ([], tt))) (lent timestamps, (lent_mut starts, (lent_mut work, tt))) ans (lent timestamps, (lent_mut starts', (lent_mut work', tt)))
 
 pub mcraw-times·anywhere : Anywhere mcraw-times (λ κs a e. McrawTimes a.0.now a.1.0.now a.1.1.0.now e.result e.last.1.0 e.last.1.1.0)
 mcraw-times·anywhere κs a e = refl
@@ -283,7 +283,7 @@ cut = record { types = cut·.ended; Asked = cut·reads.Asked; Learnt = cut·read
 
 -- cut(u, s, a, b, ou, os) answers ans, and leaves ou', os'
 abbrev pub Cut : List ℕ → List ℤ → ℕ → ℕ → List ℕ → List ℤ → Result cut ([], ([], ([], ([], tt)))) → List ℕ → List ℤ → Type 0
-Cut u s a b ou os ans ou' os' = cut.Learnt ([], ([], ([], ([], tt)))) (lent u, (lent s, (a, (b, (lent ou, (lent os, tt)))))) ans (lent u, (lent s, (a, (b, (lent ou', (lent os', tt))))))
+Cut u s a b ou os ans ou' os' = cut.Learnt ([], ([], ([], ([], tt)))) (lent u, (lent s, (a, (b, (lent_mut ou, (lent_mut os, tt)))))) ans (lent u, (lent s, (a, (b, (lent_mut ou', (lent_mut os', tt))))))
 
 pub cut·anywhere : Anywhere cut (λ κs a e. Cut a.0.now a.1.0.now a.1.1.0 a.1.1.1.0 a.1.1.1.1.0.now a.1.1.1.1.1.0.now e.result e.last.1.1.1.1.0 e.last.1.1.1.1.1.0)
 cut·anywhere κs a e = refl
@@ -294,7 +294,7 @@ merge = record { types = merge·.ended; Asked = merge·reads.Asked; Learnt = mer
 
 -- merge(u, s, ou, os) answers ans, and leaves ou', os'
 abbrev pub Merge : List ℕ → List ℤ → List ℕ → List ℤ → Result merge ([], ([], ([], ([], tt)))) → List ℕ → List ℤ → Type 0
-Merge u s ou os ans ou' os' = merge.Learnt ([], ([], ([], ([], tt)))) (lent u, (lent s, (lent ou, (lent os, tt)))) ans (lent u, (lent s, (lent ou', (lent os', tt))))
+Merge u s ou os ans ou' os' = merge.Learnt ([], ([], ([], ([], tt)))) (lent u, (lent s, (lent_mut ou, (lent_mut os, tt)))) ans (lent u, (lent s, (lent_mut ou', (lent_mut os', tt))))
 
 pub merge·anywhere : Anywhere merge (λ κs a e. Merge a.0.now a.1.0.now a.1.1.0.now a.1.1.1.0.now e.result e.last.1.1.0 e.last.1.1.1.0)
 merge·anywhere κs a e = refl
@@ -305,7 +305,7 @@ join = record { types = join·.ended; Asked = join·reads.Asked; Learnt = join·
 
 -- join(u, s, v, t, ou, os) answers ans, and leaves ou', os'
 abbrev pub Join : List ℕ → List ℤ → List ℕ → List ℤ → List ℕ → List ℤ → Result join ([], ([], ([], ([], ([], ([], tt)))))) → List ℕ → List ℤ → Type 0
-Join u s v t ou os ans ou' os' = join.Learnt ([], ([], ([], ([], ([], ([], tt)))))) (lent u, (lent s, (lent v, (lent t, (lent ou, (lent os, tt)))))) ans (lent u, (lent s, (lent v, (lent t, (lent ou', (lent os', tt))))))
+Join u s v t ou os ans ou' os' = join.Learnt ([], ([], ([], ([], ([], ([], tt)))))) (lent u, (lent s, (lent v, (lent t, (lent_mut ou, (lent_mut os, tt)))))) ans (lent u, (lent s, (lent v, (lent t, (lent_mut ou', (lent_mut os', tt))))))
 
 pub join·anywhere : Anywhere join (λ κs a e. Join a.0.now a.1.0.now a.1.1.0.now a.1.1.1.0.now a.1.1.1.1.0.now a.1.1.1.1.1.0.now e.result e.last.1.1.1.1.0 e.last.1.1.1.1.1.0)
 join·anywhere κs a e = refl
@@ -327,7 +327,7 @@ cuts = record { types = cuts·.ended; Asked = cuts·reads.Asked; Learnt = cuts·
 
 -- cuts(u, s, ranges, ou, os, counts) answers ans, and leaves ou', os', counts'
 abbrev pub Cuts : List ℕ → List ℤ → List ℕ → List ℕ → List ℤ → List ℕ → Result cuts ([], ([], ([], ([], ([], ([], tt)))))) → List ℕ → List ℤ → List ℕ → Type 0
-Cuts u s ranges ou os counts ans ou' os' counts' = cuts.Learnt ([], ([], ([], ([], ([], ([], tt)))))) (lent u, (lent s, (lent ranges, (lent ou, (lent os, (lent counts, tt)))))) ans (lent u, (lent s, (lent ranges, (lent ou', (lent os', (lent counts', tt))))))
+Cuts u s ranges ou os counts ans ou' os' counts' = cuts.Learnt ([], ([], ([], ([], ([], ([], tt)))))) (lent u, (lent s, (lent ranges, (lent_mut ou, (lent_mut os, (lent_mut counts, tt)))))) ans (lent u, (lent s, (lent ranges, (lent_mut ou', (lent_mut os', (lent_mut counts', tt))))))
 
 pub cuts·anywhere : Anywhere cuts (λ κs a e. Cuts a.0.now a.1.0.now a.1.1.0.now a.1.1.1.0.now a.1.1.1.1.0.now a.1.1.1.1.1.0.now e.result e.last.1.1.1.0 e.last.1.1.1.1.0 e.last.1.1.1.1.1.0)
 cuts·anywhere κs a e = refl

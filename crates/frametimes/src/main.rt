@@ -2,6 +2,6 @@
 // stdin: tools/make-moov durations=10,10,10 offsets=10,30,0 edit=10,0
 #![tactic(auto)]
 
-fn main() {
-    frame_lines::run();
+fn main(rt: HostRuntime) {
+    frame_lines::run(&rt);
 }

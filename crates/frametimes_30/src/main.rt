@@ -2,6 +2,6 @@
 // stdin: tools/make-moov bytes=32769
 #![tactic(auto)]
 
-fn main() {
-    frame_lines::run();
+fn main(rt: HostRuntime) {
+    frame_lines::run(&rt);
 }

@@ -2,6 +2,6 @@
 // stdin: tools/make-moov mdat=100 no-moov
 #![tactic(auto)]
 
-fn main() {
-    frame_lines::run();
+fn main(rt: HostRuntime) {
+    frame_lines::run(&rt);
 }

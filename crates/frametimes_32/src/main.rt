@@ -2,6 +2,6 @@
 // stdin: tools/make-moov durations=10*1025 pad=1000
 #![tactic(auto)]
 
-fn main() {
-    frame_lines::run();
+fn main(rt: HostRuntime) {
+    frame_lines::run(&rt);
 }

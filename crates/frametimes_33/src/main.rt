@@ -2,6 +2,6 @@
 // stdin: tools/make-moov durations=10,10,10 version=1 empty=9223372036854775800 edit=0,0
 #![tactic(auto)]
 
-fn main() {
-    frame_lines::run();
+fn main(rt: HostRuntime) {
+    frame_lines::run(&rt);
 }

@@ -2,6 +2,6 @@
 // stdin: tools/make-moov movie=1000000000 scale=1000000000 durations=500000000*3 offsets=2400000000*3
 #![tactic(auto)]
 
-fn main() {
-    frame_lines::run();
+fn main(rt: HostRuntime) {
+    frame_lines::run(&rt);
 }

@@ -2,6 +2,6 @@
 // stdin: tools/make-moov large durations=10*4 movie=1000 edit=10,250
 #![tactic(auto)]
 
-fn main() {
-    frame_lines::run();
+fn main(rt: HostRuntime) {
+    frame_lines::run(&rt);
 }

@@ -7,6 +7,13 @@ use Rattle.frame_times.specs.Steps.{Movable}
 use Rattle.frame_times.proofs.ShowLaws.{place-more}
 use Rattle.frame_times.proofs.times.place.Goals as goal
 
+pub overflow_add-out : goal.overflow_add-out
+overflow_add-out c =
+    let s = c.args in
+    let x = get_or s.times.now c.loop-i.i (pos 0) in
+    let m : Movable s.o s.d x = all-at (Movable s.o s.d) s.times.now c.loop-i.i (pos 0) c.requires.all (omega arith) in
+    rw (reads c.ranges.o, reads c.ranges.d, back x (omega arith), back (x -ℤ s.o) m.0) (record { sfits = m.1 })
+
 pub loop-i-preserved : goal.loop-i-preserved
 loop-i-preserved c =
     let s = c.args in

@@ -11,19 +11,20 @@ use rules::Checked;
 const ROOM: usize = 64;
 
 // The line of a frame total.
-fn say_checked(answer: Checked, kept: bool) {
+fn say_checked(rt: &impl Print, answer: Checked, kept: bool) {
     match answer {
         Checked::Frames(n) => {
-            say::accepted();
-            say::value(n);
+            say::accepted(rt);
+            say::value(rt, n);
         }
-        Checked::Refused(number, index) => say::refused(number, index),
+        Checked::Refused(number, index) => say::refused(rt, number, index),
     }
-    say::end(kept);
+    say::end(rt, kept);
 }
 
 // A table against a video, where the line ends.
 fn validate(
+    rt: &impl Print,
     line: &[u8],
     c: Cursor,
     sources: &[u64],
@@ -35,15 +36,16 @@ fn validate(
     starts: &[i64],
 ) {
     if !read::ended(line, c) {
-        say::unreadable();
+        say::unreadable(rt);
         return;
     }
     let answer = judge::validate(sources, u, t, log, text, video, starts);
-    say_checked(answer, true);
+    say_checked(rt, answer, true);
 }
 
 // validate_constant TABLE FRAMES NUM DEN
 fn validate_constant(
+    rt: &impl Print,
     line: &[u8],
     c: Cursor,
     sources: &[u64],
@@ -60,11 +62,12 @@ fn validate_constant(
         num: num.number,
         den: den.number,
     };
-    validate(line, den, sources, u, t, log, text, video, &t[..0]);
+    validate(rt, line, den, sources, u, t, log, text, video, &t[..0]);
 }
 
 // validate_times TABLE SCALE STARTS END NOMINAL
 fn validate_times(
+    rt: &impl Print,
     line: &[u8],
     c: Cursor,
     sources: &[u64],
@@ -84,11 +87,23 @@ fn validate_times(
         nominal: nominal.signed,
     };
     let n = s.count;
-    validate(line, nominal, sources, u, t, log, text, video, &starts[..n]);
+    validate(
+        rt,
+        line,
+        nominal,
+        sources,
+        u,
+        t,
+        log,
+        text,
+        video,
+        &starts[..n],
+    );
 }
 
 // A table against a recording, over lent working slices.
 fn recording_over(
+    rt: &impl Print,
     sources: &[u64],
     u: &[u64],
     t: &[i64],
@@ -99,11 +114,12 @@ fn recording_over(
     work_b: &mut [i64],
 ) {
     let answer = judge::check_mcraw(sources, u, t, log, text, timestamps, work_a, work_b);
-    say_checked(answer, lent::cleared(work_a) & lent::cleared(work_b));
+    say_checked(rt, answer, lent::cleared(work_a) & lent::cleared(work_b));
 }
 
 // ROOM ROOM after a table and timestamps
 fn recording_room(
+    rt: &impl Print,
     line: &[u8],
     c: Cursor,
     sources: &[u64],
@@ -116,7 +132,7 @@ fn recording_room(
     let x = read::room(line, c, ROOM);
     let y = read::room(line, x, ROOM);
     if !read::ended(line, y) {
-        say::unreadable();
+        say::unreadable(rt);
         return;
     }
     let mut work_a = [0i64; 64];
@@ -124,6 +140,7 @@ fn recording_room(
     let m = lent::longs(&mut work_a, x.count);
     let k = lent::longs(&mut work_b, y.count);
     recording_over(
+        rt,
         sources,
         u,
         t,
@@ -137,6 +154,7 @@ fn recording_room(
 
 // check_mcraw TABLE TIMESTAMPS ROOM ROOM
 fn check_mcraw(
+    rt: &impl Print,
     line: &[u8],
     c: Cursor,
     sources: &[u64],
@@ -148,11 +166,12 @@ fn check_mcraw(
     let mut timestamps = [0i64; 64];
     let s = read::longs(line, c, &mut timestamps);
     let n = s.count;
-    recording_room(line, s, sources, u, t, log, text, &timestamps[..n]);
+    recording_room(rt, line, s, sources, u, t, log, text, &timestamps[..n]);
 }
 
 // The case of a table, with what follows the table in its line.
 fn answer_to(
+    rt: &impl Print,
     line: &[u8],
     c: Cursor,
     sources: &[u64],
@@ -162,20 +181,31 @@ fn answer_to(
     text: &[u8],
 ) {
     if read::is(line, b"validate_no_video") {
-        validate(line, c, sources, u, t, log, text, Video::Nothing, &t[..0]);
+        validate(
+            rt,
+            line,
+            c,
+            sources,
+            u,
+            t,
+            log,
+            text,
+            Video::Nothing,
+            &t[..0],
+        );
     } else if read::is(line, b"validate_constant") {
-        validate_constant(line, c, sources, u, t, log, text);
+        validate_constant(rt, line, c, sources, u, t, log, text);
     } else if read::is(line, b"validate_times") {
-        validate_times(line, c, sources, u, t, log, text);
+        validate_times(rt, line, c, sources, u, t, log, text);
     } else if read::is(line, b"check_mcraw") {
-        check_mcraw(line, c, sources, u, t, log, text);
+        check_mcraw(rt, line, c, sources, u, t, log, text);
     } else {
-        say::unreadable();
+        say::unreadable(rt);
     }
 }
 
 // One case: every call begins with its table.
-fn answer(line: &[u8]) {
+fn answer(rt: &impl Print, line: &[u8]) {
     let mut sources = [0u64; 650];
     let mut u = [0u64; 64];
     let mut t = [0i64; 64];
@@ -188,6 +218,7 @@ fn answer(line: &[u8]) {
     let b = l.text;
     let after = tables::after(l);
     answer_to(
+        rt,
         line,
         after,
         &sources[..n],
@@ -199,16 +230,15 @@ fn answer(line: &[u8]) {
 }
 
 // All cases of standard input.
-fn main() {
-    let mut text = io::large_buffer();
+fn main(rt: HostRuntime) {
+    let mut input = rt.reader();
+    let mut text = [0u8; lines::PIECE];
     let mut l = lines::none();
-    let mut turns: u64 = MAX_U64;
-    while 0 < turns {
-        l = lines::next(&mut text, l);
+    for _ in 0..MAX_U64 {
+        l = lines::next(&rt, &mut input, &mut text, l);
         if l.done {
             return;
         }
-        answer(lines::line(&text, l));
-        turns -= 1;
+        answer(&rt, lines::line(&text, l));
     }
 }

@@ -21,8 +21,17 @@ fn main() {
 
 fn build(archive: &Path) {
     let root = Path::new(env!("CARGO_MANIFEST_DIR")).join("../..");
-    for part in ["crates.txt", "crates", "tools/native-staticlib"] {
+    for part in ["crates.txt", "tools/native-staticlib"] {
         println!("cargo:rerun-if-changed={}", root.join(part).display());
+    }
+    // not out/, which every check writes
+    for folder in fs::read_dir(root.join("crates")).into_iter().flatten().flatten() {
+        for part in ["src", "specs", "proofs"] {
+            let path = folder.path().join(part);
+            if path.is_dir() {
+                println!("cargo:rerun-if-changed={}", path.display());
+            }
+        }
     }
     let said = Command::new(root.join("tools/native-staticlib")).arg("segment_table").arg(archive).current_dir(&root).status();
     match said {

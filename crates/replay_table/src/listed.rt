@@ -61,10 +61,8 @@ fn listed(u: &[u64], t: &[i64], n: usize) -> [TrimSegment; MOST]
     requires { (n * segment_words ≤ length u.now) × (n * segment_stamps ≤ length t.now) × (n ≤ 9) }
 {
     let mut list = [no_record(); MOST];
-    let mut k = 0;
-    while k < n {
+    for k in 0..n {
         list[k] = record_at(u, t, k);
-        k += 1;
     }
     list
 }
@@ -93,14 +91,7 @@ fn whole(u: &[u64], t: &[i64], n: usize) -> bool
     if t.len() != n * STAMPS {
         return false;
     }
-    let mut k = 0;
-    while k < n {
-        if 1 < u[k * WORDS + 4] {
-            return false;
-        }
-        k += 1;
-    }
-    true
+    u.iter().skip(4).step_by(WORDS).all(|flag| *flag <= 1)
 }
 
 // The call itself, of the first n records of a list.

@@ -1,4 +1,4 @@
--- A choice by a test, and chains of tests in order.
+-- Chains of tests in order.
 use Rattle.std.specs.Prelude.{ℕ, ◌+◌, Bool, true, false, ltb}
 
 -- what is given where a test holds, else what the tests after it give

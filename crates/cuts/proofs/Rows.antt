@@ -25,7 +25,7 @@ use Rattle.rows.proofs.Demanded.{demanded}
 use Rattle.rows.proofs.Flat.{words_append, shifts-append, length-words, length-shifts}
 use Rattle.maps.specs.declared.Mapped.TheVariants.{Rows, Refused}
 use Rattle.maps.specs.Steps.{Room}
-use Rattle.maps.proofs.Written.{Written, rows_all, words-length, shifts-length, placed-rows, placed-refused}
+use Rattle.maps.proofs.Written.{Written, rows_all, words-length, shifts-length, placed-rows}
 use Rattle.cuts.specs.declared.Range.{Range}
 use Rattle.cuts.specs.Answers.{range_at, ranges_of, cuts_of, concat, Placing}
 use Rattle.cuts.specs.Steps.{AllWritten}

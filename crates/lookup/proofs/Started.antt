@@ -6,7 +6,7 @@ use mathlib.Core.List.{List}
 use mathlib.Core.Path.{◌≡◌, refl, ap, subst}
 use lib.IntN.{ℤ, pos, nat_abs}
 use lib.ListN.{length, get_or}
-use Rattle.rows.proofs.Begun.{Halved, halved-start, halved-up, halved-down, halved-end}
+use Rattle.rows.proofs.Begun.{Halved, halved-start, halved-up, halved-down}
 use Rattle.rules.specs.Rules.{negative}
 use Rattle.lookup.specs.Steps.{start_us_at, StartsRise, LastStarted}
 

@@ -1,14 +1,14 @@
 -- Words of absent things are ignored: of every call, by the theorems of rules, table and judge on stripped tables. Assumes nothing.
 use mathlib.Core.Path.{◌≡◌, ◌∙◌}
 use lib.ListN.{length}
-use Rattle.rules.specs.Rules.{checkOf}
+use Rattle.rules.specs.Rules.{check_of}
 use Rattle.rules.specs.Absent.{stripped}
-use Rattle.rules.specs.Lookups.{segmentOfFrame, segmentOfTime, continuesAt}
+use Rattle.rules.specs.Lookups.{segment_of_frame, segment_of_time, continues_at}
 use Rattle.rules.proofs.Ignored.{check-stripped, frame-stripped, time-stripped, continues-stripped, alike}
 use Rattle.table_rows.proofs.Alike.{rows_alike}
 use Rattle.lookups.proofs.Alike.{indices-alike}
-use Rattle.judge.specs.Video.{shownBy}
-use Rattle.judge.specs.Judge.{validateOf, checkMcraw}
+use Rattle.judge.specs.Video.{shown_by}
+use Rattle.judge.specs.Judge.{validate_of, check_mcraw}
 use Rattle.judge.proofs.Ignored.{validate-stripped, mcraw-stripped}
 use Rattle.audit.specs.Words.{Lent, table, in_words}
 use Rattle.audit.specs.Claims.{SameAnswers, Ignored}
@@ -16,15 +16,15 @@ use Rattle.audit.proofs.Meant.{meant}
 
 same : (l m : Lent) → stripped (table l) ≡ stripped (table m) → SameAnswers l m
 same l m e = record {
-  check = λ r p. p ∙ alike checkOf check-stripped (table l) (table m) e;
-  segment-of-frame = λ f r p. p ∙ alike (λ t. segmentOfFrame t f) (frame-stripped f) (table l) (table m) e;
-  segment-of-time-us = λ t r p. p ∙ alike (λ a. segmentOfTime a t) (time-stripped t) (table l) (table m) e;
-  continues = λ k r p. p ∙ alike (λ t. continuesAt t k) (continues-stripped k) (table l) (table m) e;
+  check = λ r p. p ∙ alike check_of check-stripped (table l) (table m) e;
+  segment-of-frame = λ f r p. p ∙ alike (λ t. segment_of_frame t f) (frame-stripped f) (table l) (table m) e;
+  segment-of-time-us = λ t r p. p ∙ alike (λ a. segment_of_time a t) (time-stripped t) (table l) (table m) e;
+  continues = λ k r p. p ∙ alike (λ t. continues_at t k) (continues-stripped k) (table l) (table m) e;
   rows-of-table = λ ou ou' os os' r p. rows_alike (table l) (table m) e ou ou' os os' r p;
   segments-of-frames = λ fs out out' r p. indices-alike (table l) (table m) e fs out out' r p;
-  validate = λ video starts r p. p ∙ alike (λ t. validateOf t (shownBy video starts)) (validate-stripped (shownBy video starts)) (table l) (table m) e;
+  validate = λ video starts r p. p ∙ alike (λ t. validate_of t (shown_by video starts)) (validate-stripped (shown_by video starts)) (table l) (table m) e;
   check-mcraw = λ ts a b a' b' r p. record {
-    answer = p.answer ∙ alike (λ t. checkMcraw t ts (length a) (length b)) (mcraw-stripped ts (length a) (length b)) (table l) (table m) e;
+    answer = p.answer ∙ alike (λ t. check_mcraw t ts (length a) (length b)) (mcraw-stripped ts (length a) (length b)) (table l) (table m) e;
     first-cleared = p.first-cleared;
     second-cleared = p.second-cleared;
   };

@@ -2,22 +2,22 @@
 use mathlib.Core.Path.{sym, subst}
 use lib.ListN.{length}
 use Rattle.rules.specs.declared.Checked.{Checked}
-use Rattle.rules.specs.Records.{frameTotal}
+use Rattle.rules.specs.Records.{frame_total}
 use Rattle.rules.specs.Paper.{tests, Rightly}
 use Rattle.rules.proofs.Exact.{rightly}
 use Rattle.table.proofs.Lengths.{uneven}
-use Rattle.judge.specs.Paper.{validateTests, mcrawTests}
+use Rattle.judge.specs.Paper.{validate_tests, mcraw_tests}
 use Rattle.judge.proofs.Exact.{validated-rightly, recorded-rightly}
 use Rattle.audit.specs.Words.{table}
 use Rattle.audit.specs.Claims.{Refusals}
 
 pub right : Refusals
 right = record {
-  check = λ l r p. subst (λ (c : Checked). Rightly c (tests (table l)) (frameTotal (table l).segments)) (sym p) (rightly (table l));
+  check = λ l r p. subst (λ (c : Checked). Rightly c (tests (table l)) (frame_total (table l).segments)) (sym p) (rightly (table l));
   validate = λ l video starts r p.
-      subst (λ (c : Checked). Rightly c (validateTests (table l) video starts) (frameTotal (table l).segments)) (sym p) (validated-rightly (table l) video starts);
+      subst (λ (c : Checked). Rightly c (validate_tests (table l) video starts) (frame_total (table l).segments)) (sym p) (validated-rightly (table l) video starts);
   check-mcraw = λ l ts a b a' b' r p.
-      subst (λ (c : Checked). Rightly c (mcrawTests (table l) ts (length a) (length b)) (frameTotal (table l).segments)) (sym p.answer)
+      subst (λ (c : Checked). Rightly c (mcraw_tests (table l) ts (length a) (length b)) (frame_total (table l).segments)) (sym p.answer)
       (recorded-rightly (table l) ts (length a) (length b));
   uneven = λ l. uneven l.sources l.words l.stamps l.log l.text;
 }

@@ -2,7 +2,7 @@
 use Prim.Native.Nat.{ℕ, ◌+◌, ◌*◌, ◌≤◌, ◌<◌}
 use mathlib.Core.Path.{sym, subst}
 use lib.IntN.{ℤ}
-use Rattle.signed.specs.Signed.{eqZ}
+use Rattle.signed.specs.Signed.{eq_z}
 use Rattle.ticks.specs.Nearest.{nearest-near, nearest-only, rounded-negated}
 use Rattle.order.specs.Order.{MostFrequent}
 use Rattle.order.proofs.Sorted.{asc-sorted}
@@ -23,5 +23,5 @@ pub ordering : Ordering
 ordering = record {
   most = λ l v h. (λ e. subst (MostFrequent l) (sym e) (mode-is l h), only-mode l v);
   ascends = asc-sorted;
-  keeps = λ v l. count-sorted (λ (x : ℤ). eqZ x v) l;
+  keeps = λ v l. count-sorted (λ (x : ℤ). eq_z x v) l;
 }

@@ -13,32 +13,32 @@ use borrow.Author.Tests.{le-ltb}
 use Rattle.choice.specs.declared.Refusal.{Refusal}
 use Rattle.choice.specs.declared.Refusal.TheVariants.{Never, At}
 use Rattle.choice.specs.Choice.{when}
-use Rattle.choice.proofs.Runs.{getD-run}
+use Rattle.choice.proofs.Runs.{get_d-run}
 use Rattle.slices.specs.Slices.{after}
 use Rattle.rows.specs.declared.Row.{Row}
-use Rattle.rows.specs.Rows.{rowEnd, total, origin, WellFormed}
-use Rattle.rows.specs.Lent.{rowAt, rows, words_of, shiftsOf}
+use Rattle.rows.specs.Rows.{row_end, total, origin, WellFormed}
+use Rattle.rows.specs.Lent.{row_at, rows, words_of, shifts_of}
 use Rattle.rows.proofs.Demanded.{demanded}
 use Rattle.rows.proofs.Flat.{length-words, length-shifts, rows-flat}
 use Rattle.rules.specs.declared.Checked.TheVariants.{Frames}
 use Rattle.rules.specs.declared.Lookup.TheVariants.{Index}
-use Rattle.rules.specs.Records.{Table, noSegment, segment}
-use Rattle.rules.specs.Lookups.{ended, overBy, lookedUp, segmentOfFrame}
-use Rattle.rules.specs.Rules.{checkOf}
+use Rattle.rules.specs.Records.{Table, no_segment, segment}
+use Rattle.rules.specs.Lookups.{ended, over_by, looked_up, segment_of_frame}
+use Rattle.rules.specs.Rules.{check_of}
 use Rattle.rules.proofs.Answers.{then-rest}
 use Rattle.rules.proofs.Accepted.{accepted}
 use Rattle.rules.proofs.Holder.{Holds, holder}
 use Rattle.table_rows.specs.declared.Filled.{Filled}
 use Rattle.table_rows.specs.declared.Filled.TheVariants.{Rows}
-use Rattle.table_rows.specs.Rows.{row_of, rows_of, rowsRefusal, filled, Rowed}
+use Rattle.table_rows.specs.Rows.{row_of, rows_of, rows_refusal, filled, Rowed}
 use Rattle.table_rows.proofs.Mapped.{mapped}
 use Rattle.maps.specs.declared.Traced.{Traced}
 use Rattle.maps.specs.declared.Mapped.TheVariants as answers
-use Rattle.maps.specs.Answers.{tracedOf, originRefusal, Cut, Trace}
+use Rattle.maps.specs.Answers.{traced_of, origin_refusal, Cut, Trace}
 use Rattle.maps.specs.Laws.{LentMap}
 use Rattle.maps.proofs.Lawful.{lawful}
-use Rattle.audit.specs.Words.{table, mapWritten}
-use Rattle.audit.specs.Claims.{tracedIn, Origins}
+use Rattle.audit.specs.Words.{table, map_written}
+use Rattle.audit.specs.Claims.{traced_in, Origins}
 
 filled_of : (x : Refusal) (n k : ℕ) → Rows k ≡ filled x n → (x ≡ Never) × (k ≡ n)
 unfolding filled
@@ -46,22 +46,22 @@ filled_of Never n k e = (refl, cc)
 filled_of (At m i) n k e = let z : ◌≡◌ {A = ℕ} 0 1 = cc in absurd (omega arith)
 
 -- the rows of a table of N frames, with room for them
-room : (t : Table) (N : ℕ) (nu ns : ℕ) → Frames N ≡ checkOf t → 5 * length t.segments ≤ nu → length t.segments ≤ ns → rowsRefusal t nu ns ≡ Never
-unfolding rowsRefusal when
+room : (t : Table) (N : ℕ) (nu ns : ℕ) → Frames N ≡ check_of t → 5 * length t.segments ≤ nu → length t.segments ≤ ns → rows_refusal t nu ns ≡ Never
+unfolding rows_refusal when
 room t N nu ns e g h =
     let a : ltb nu (length t.segments * 5) ≡ false = le-ltb nu (length t.segments * 5) (omega arith) in
     let b : ltb ns (length t.segments) ≡ false = le-ltb _ _ h in
     then-rest t _ (sym e) ∙ rw (a, b)
 
 -- so many rows are answered
-rows-of : (t : Table) (N : ℕ) (ou ou' : List ℕ) (os os' : List ℤ) (r : Filled) → Frames N ≡ checkOf t → 5 * length t.segments ≤ length ou → length t.segments ≤ length os
+rows-of : (t : Table) (N : ℕ) (ou ou' : List ℕ) (os os' : List ℤ) (r : Filled) → Frames N ≡ check_of t → 5 * length t.segments ≤ length ou → length t.segments ≤ length os
     → Rowed t ou os r ou' os' → r ≡ Rows (length t.segments)
 unfolding filled
 rows-of t N ou ou' os os' r c g h p = p.answer ∙ ap (λ (x : Refusal). filled x (length t.segments)) (room t N (length ou) (length os) c g h)
 
 -- what was written is the rows of the table
-module _ (t : Table) (N k : ℕ) (ou ou' : List ℕ) (os os' : List ℤ) (c : Frames N ≡ checkOf t) (p : Rowed t ou os (Rows k) ou' os') where
-  none : rowsRefusal t (length ou) (length os) ≡ Never
+module _ (t : Table) (N k : ℕ) (ou ou' : List ℕ) (os os' : List ℤ) (c : Frames N ≡ check_of t) (p : Rowed t ou os (Rows k) ou' os') where
+  none : rows_refusal t (length ou) (length os) ≡ Never
   none = (filled_of _ (length t.segments) k p.answer).0
 
   rows-count : k ≡ length (rows_of t)
@@ -72,18 +72,18 @@ module _ (t : Table) (N k : ℕ) (ou ou' : List ℕ) (os os' : List ℤ) (c : Fr
       ap (take (5 * k)) (p.words ∙ ap (λ (y : Refusal). after y (words_of (rows_of t)) ou) none)
       ∙ take_at (words_of (rows_of t)) (drop (length (words_of (rows_of t))) ou) (5 * k) (length-words (rows_of t) ∙ ap (λ (n : ℕ). 5 * n) (sym rows-count))
 
-  shifts-are : take k os' ≡ shiftsOf (rows_of t)
+  shifts-are : take k os' ≡ shifts_of (rows_of t)
   shifts-are =
-      ap (take k) (p.shifts ∙ ap (λ (y : Refusal). after y (shiftsOf (rows_of t)) os) none)
-      ∙ take_at (shiftsOf (rows_of t)) (drop (length (shiftsOf (rows_of t))) os) k (length-shifts (rows_of t) ∙ sym rows-count)
+      ap (take k) (p.shifts ∙ ap (λ (y : Refusal). after y (shifts_of (rows_of t)) os) none)
+      ∙ take_at (shifts_of (rows_of t)) (drop (length (shifts_of (rows_of t))) os) k (length-shifts (rows_of t) ∙ sym rows-count)
 
-  is : mapWritten k ou' os' ≡ rows_of t
+  is : map_written k ou' os' ≡ rows_of t
   is = ap₂ rows words_are shifts-are ∙ rows-flat (rows_of t)
 
-  well : WellFormed (mapWritten k ou' os')
+  well : WellFormed (map_written k ou' os')
   well = rw is ((mapped t).well N (sym c))
 
-  frames : total (mapWritten k ou' os') ≡ N
+  frames : total (map_written k ou' os') ≡ N
   frames = ap total is ∙ (mapped t).frames N (sym c)
 
   lent : LentMap (take (5 * k) ou') (take k os')
@@ -95,49 +95,49 @@ module _ (t : Table) (N k : ℕ) (ou ou' : List ℕ) (os os' : List ℤ) (c : Fr
       record { some = omega (arith, a.some-segments); sizes = omega arith; well = well; few = omega (arith, a.few-segments) }
 
 -- the segment that a lookup of an accepted table answers
-index_is : (t : Table) (N f i : ℕ) → Frames N ≡ checkOf t → Index i ≡ segmentOfFrame t f → i ≡ ended (overBy f) t.segments
-unfolding segmentOfFrame lookedUp
-index_is t N f i c e = let q : Index i ≡ lookedUp (Frames N) (ended (overBy f) t.segments) = e ∙ ap (λ x. lookedUp x (ended (overBy f) t.segments)) (sym c) in cc
+index_is : (t : Table) (N f i : ℕ) → Frames N ≡ check_of t → Index i ≡ segment_of_frame t f → i ≡ ended (over_by f) t.segments
+unfolding segment_of_frame looked_up
+index_is t N f i c e = let q : Index i ≡ looked_up (Frames N) (ended (over_by f) t.segments) = e ∙ ap (λ x. looked_up x (ended (over_by f) t.segments)) (sym c) in cc
 
 -- an answer made of row j, where that is row i, and row i is x
-made : (u : List ℕ) (s : List ℤ) (f i j : ℕ) (r : Traced) (x : Row) → i ≡ j → rowAt u s i ≡ x → r ≡ tracedIn (rowAt u s j) f → r ≡ tracedIn x f
-made u s f i j r x e q g = g ∙ ap (λ (n : ℕ). tracedIn (rowAt u s n) f) (sym e) ∙ ap (λ (y : Row). tracedIn y f) q
+made : (u : List ℕ) (s : List ℤ) (f i j : ℕ) (r : Traced) (x : Row) → i ≡ j → row_at u s i ≡ x → r ≡ traced_in (row_at u s j) f → r ≡ traced_in x f
+made u s f i j r x e q g = g ∙ ap (λ (n : ℕ). traced_in (row_at u s n) f) (sym e) ∙ ap (λ (y : Row). traced_in y f) q
 
-module _ (t : Table) (N k f i : ℕ) (ou ou' : List ℕ) (os os' : List ℤ) (r : Traced) (c : Frames N ≡ checkOf t) (p : Rowed t ou os (Rows k) ou' os') (h : f < N)
-    (e : Index i ≡ segmentOfFrame t f) (o : Trace (take (5 * k) ou') (take k os') f r) where
+module _ (t : Table) (N k f i : ℕ) (ou ou' : List ℕ) (os os' : List ℤ) (r : Traced) (c : Frames N ≡ check_of t) (p : Rowed t ou os (Rows k) ou' os') (h : f < N)
+    (e : Index i ≡ segment_of_frame t f) (o : Trace (take (5 * k) ou') (take k os') f r) where
   here : Holds t f i
   here = subst (Holds t f) (sym (index_is t N f i c e)) (holder (accepted t N (sym c)) f h)
 
   inside : i < length (take k os')
   inside = omega (arith, here.exists, ap length (shifts-are t N k ou ou' os os' c p) ∙ length-shifts (rows_of t) ∙ (mapped t).each)
 
-  row_is : rowAt (take (5 * k) ou') (take k os') i ≡ row_of (segment t i)
+  row_is : row_at (take (5 * k) ou') (take k os') i ≡ row_of (segment t i)
   unfolding rows_of
   row_is =
-      sym (getD-run (rowAt (take (5 * k) ou') (take k os')) 0 (length (take k os')) i (row_of noSegment) inside ∙ ap (rowAt (take (5 * k) ou') (take k os')) (zero-add i))
-      ∙ ap (λ (x : List Row). get_or x i (row_of noSegment)) (is t N k ou ou' os os' c p)
-      ∙ get_or-map row_of t.segments i noSegment
+      sym (get_d-run (row_at (take (5 * k) ou') (take k os')) 0 (length (take k os')) i (row_of no_segment) inside ∙ ap (row_at (take (5 * k) ou') (take k os')) (zero-add i))
+      ∙ ap (λ (x : List Row). get_or x i (row_of no_segment)) (is t N k ou ou' os os' c p)
+      ∙ get_or-map row_of t.segments i no_segment
 
-  agreed : (i < length t.segments) × (r ≡ tracedIn (row_of (segment t i)) f)
+  agreed : (i < length t.segments) × (r ≡ traced_in (row_of (segment t i)) f)
   unfolding row_of
   agreed =
       let m = lent t N k ou ou' os os' c p in
       let w = lawful.origin-found _ _ f r m (omega (arith, frames t N k ou ou' os os' c p)) o in
-      let j = w.only i inside (subst (λ (x : Row). x.out ≤ f) (sym row_is) here.from) (subst (λ (x : Row). f < rowEnd x) (sym row_is) here.to) in
+      let j = w.only i inside (subst (λ (x : Row). x.out ≤ f) (sym row_is) here.from) (subst (λ (x : Row). f < row_end x) (sym row_is) here.to) in
       (here.exists, made (take (5 * k) ou') (take k os') f i w.index r (row_of (segment t i)) j row_is w.gives)
 
 -- the same of a clip that was cut twice
-module _ (t : Table) (N k m n a b c d f i : ℕ) (ou ou' pu pu' qu qu' : List ℕ) (os os' ps ps' qs qs' : List ℤ) (r : Traced) (ch : Frames N ≡ checkOf t)
+module _ (t : Table) (N k m n a b c d f i : ℕ) (ou ou' pu pu' qu qu' : List ℕ) (os os' ps ps' qs qs' : List ℤ) (r : Traced) (ch : Frames N ≡ check_of t)
     (p : Rowed t ou os (Rows k) ou' os') (x : Cut (take (5 * k) ou') (take k os') a b pu ps (answers.Rows m) pu' ps')
-    (y : Cut (take (5 * m) pu') (take m ps') c d qu qs (answers.Rows n) qu' qs') (h : f < d - c) (e : Index i ≡ segmentOfFrame t (a + (c + f)))
+    (y : Cut (take (5 * m) pu') (take m ps') c d qu qs (answers.Rows n) qu' qs') (h : f < d - c) (e : Index i ≡ segment_of_frame t (a + (c + f)))
     (o : Trace (take (5 * n) qu') (take n qs') f r) where
-  pub agreed-twice : (i < length t.segments) × (r ≡ tracedIn (row_of (segment t i)) (a + (c + f)))
+  pub agreed-twice : (i < length t.segments) × (r ≡ traced_in (row_of (segment t i)) (a + (c + f)))
   agreed-twice =
       let gx = lawful.cut-gives (take (5 * k) ou') (take k os') a b m pu pu' ps ps' x in
       let gy = lawful.cut-gives (take (5 * m) pu') (take m ps') c d n qu qu' qs qs' y in
       let between : total (rows (take (5 * m) pu') (take m ps')) ≡ b - a = ap total gx.3.is ∙ gx.4 in
-      let z = tracedOf (originRefusal (take (5 * m) pu') (take m ps') (c + f)) (origin (rows (take (5 * m) pu') (take m ps')) (c + f)) in
-      let w = tracedOf (originRefusal (take (5 * k) ou') (take k os') (a + (c + f))) (origin (rows (take (5 * k) ou') (take k os')) (a + (c + f))) in
+      let z = traced_of (origin_refusal (take (5 * m) pu') (take m ps') (c + f)) (origin (rows (take (5 * m) pu') (take m ps')) (c + f)) in
+      let w = traced_of (origin_refusal (take (5 * k) ou') (take k os') (a + (c + f))) (origin (rows (take (5 * k) ou') (take k os')) (a + (c + f))) in
       let in-first : c + f < b - a = omega (arith, gy.2) in
       let in_table : a + (c + f) < N = omega (arith, gx.2, frames t N k ou ou' os os' ch p) in
       let first : r ≡ z = lawful.cut-origins (take (5 * m) pu') (take m ps') c d n f qu qu' qs qs' r z y h o refl in
@@ -149,7 +149,7 @@ tiled = record {
   written_out = λ l N ou ou' os os' r c g h p. rows-of (table l) N ou ou' os os' r c g h p;
   tiles = λ l N k ou ou' os os' c p.
       let t = table l in
-      (record { lent = lent t N k ou ou' os os' c p; is = is t N k ou ou' os os' c p }, (demanded.tiles (mapWritten k ou' os') (well t N k ou ou' os os' c p)).0, frames t N k ou ou' os os' c p);
+      (record { lent = lent t N k ou ou' os os' c p; is = is t N k ou ou' os os' c p }, (demanded.tiles (map_written k ou' os') (well t N k ou ou' os os' c p)).0, frames t N k ou ou' os os' c p);
   one = λ l N k f ou ou' os os' r c p o.
       let t = frames (table l) N k ou ou' os os' c p in
       let m = lent (table l) N k ou ou' os os' c p in

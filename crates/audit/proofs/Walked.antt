@@ -6,7 +6,7 @@ use native.Mathlib.Omega.{arith}
 use lib.Dec.{ltb}
 use lib.ListN.{length}
 use Rattle.choice.proofs.Tests.{either}
-use Rattle.boxes.specs.Boxes.{mostBytes, clean, bad, box, header_at, afterHeader, boxesAt, reachedBy, childrenAt}
+use Rattle.boxes.specs.Boxes.{most_bytes, clean, bad, box, header_at, after_header, boxes_at, reached_by, children_at}
 use Rattle.boxes.specs.declared.Header.{Header}
 use Rattle.boxes.specs.declared.Header.TheVariants.{Whole, Short, Bad}
 use Rattle.boxes.specs.declared.Reached.{Reached}
@@ -17,18 +17,18 @@ use Rattle.audit.specs.Claims.{Walking}
 
 -- what an answer says of the boxes from its offset on
 abbrev Meets : List ℕ → ℕ → Reached → Type 0
-Meets b at (Box kind start len next) = (boxesAt b at ≡ box at kind start len (boxesAt b next)) × (at < next) × (next ≤ length b)
-Meets b at (Refused n i) = (n ≡ 31 → boxesAt b at ≡ clean) × (n ≡ 36 → boxesAt b at ≡ bad i)
+Meets b at (Box kind start len next) = (boxes_at b at ≡ box at kind start len (boxes_at b next)) × (at < next) × (next ≤ length b)
+Meets b at (Refused n i) = (n ≡ 31 → boxes_at b at ≡ clean) × (n ≡ 36 → boxes_at b at ≡ bad i)
 
-by-header : (b : List ℕ) (at : ℕ) (h : Header) → Lies at (length b) h → boxesAt b at ≡ afterHeader h at (boxesAt b) → Meets b at (reachedBy h at)
+by-header : (b : List ℕ) (at : ℕ) (h : Header) → Lies at (length b) h → boxes_at b at ≡ after_header h at (boxes_at b) → Meets b at (reached_by h at)
 by-header b at Short z e = (λ n. e, λ n. absurd (omega arith))
 by-header b at Bad z e = (λ n. absurd (omega arith), λ n. e)
 by-header b at (Whole kind start len next) z e = (e, omega arith, omega arith)
 
-met : (b : List ℕ) (at : ℕ) → Meets b at (childrenAt b at)
-unfolding childrenAt
+met : (b : List ℕ) (at : ℕ) → Meets b at (children_at b at)
+unfolding children_at
 met b at =
-    either (Meets b at) (ltb mostBytes (length b)) (λ e. (λ n. absurd (omega arith), λ n. absurd (omega arith)))
+    either (Meets b at) (ltb most_bytes (length b)) (λ e. (λ n. absurd (omega arith), λ n. absurd (omega arith)))
     (λ e. either (Meets b at) (ltb (length b) at) (λ e. (λ n. absurd (omega arith), λ n. absurd (omega arith)))
     (λ e. by-header b at (header_at b at) (header-lies b at) (at-header b at refl)))
 

@@ -3,7 +3,7 @@ use Rattle.std.specs.Prelude.{ℕ, ◌+◌, ◌*◌, ◌/◌, ◌%◌, Bool, tru
 use Rattle.ticks.specs.declared.Us.{Us}
 use Rattle.ticks.specs.declared.Us.TheVariants.{At}
 use Rattle.rows.specs.declared.Row.{Row}
-use Rattle.rows.specs.Lent.{words_of, shiftsOf}
+use Rattle.rows.specs.Lent.{words_of, shifts_of}
 use Rattle.rules.specs.declared.Checked.{Checked}
 use Rattle.rules.specs.declared.Checked.TheVariants.{Frames, Refused}
 use Rattle.rules.specs.declared.Lookup.{Lookup}
@@ -14,7 +14,7 @@ use Rattle.lookups.specs.declared.Indexed.{Indexed}
 use Rattle.lookups.specs.declared.Indexed.TheVariants.{Indices, NoIndices}
 use Rattle.judge.specs.declared.Video.{Video}
 use Rattle.judge.specs.declared.Video.TheVariants.{Constant}
-use Rattle.judge.specs.Judge.{lastSegment}
+use Rattle.judge.specs.Judge.{last_segment}
 use Rattle.maps.specs.declared.Mapped.{Mapped}
 use Rattle.maps.specs.declared.Mapped.TheVariants as mapped
 use Rattle.maps.specs.declared.Traced.{Traced}
@@ -28,7 +28,7 @@ use Rattle.mcraw.specs.declared.RecordingTimes.{RecordingTimes as Recording}
 use Rattle.mcraw.specs.declared.RecordingTimes.TheVariants.{Timed}
 use Rattle.differ.specs.Differ.{SameFrames}
 use Rattle.audit.specs.Calls.{TicksToUs, IsUtcSecond, Cut, Cuts, Join, Merge, Origin, VideoFrameTimesOfMoov, McrawTimes}
-use Rattle.audit.specs.Words.{Lent, table, Check, SegmentOfFrame, SegmentOfTimeUs, RowsOfTable, SegmentsOfFrames, Validate, CheckMcraw, mapWritten}
+use Rattle.audit.specs.Words.{Lent, table, Check, SegmentOfFrame, SegmentOfTimeUs, RowsOfTable, SegmentsOfFrames, Validate, CheckMcraw, map_written}
 
 pub data Example : Type 0 where
   -- so many ticks of a scale are so many microseconds
@@ -53,8 +53,8 @@ pub data Example : Type 0 where
   -- the frames a to b of a map are these rows
   cut_to : (m : List Row) (a b : ℕ) (are : List Row) → Example
   -- the cuts of ranges of a map, two words each, are these rows, so many of each; or are refused, with no room lent
-  cutsAre : (m : List Row) (ranges : List ℕ) (are : List Row) (counts : List ℕ) → Example
-  cutsRefused : (m : List Row) (ranges : List ℕ) (number index : ℕ) → Example
+  cuts_are : (m : List Row) (ranges : List ℕ) (are : List Row) (counts : List ℕ) → Example
+  cuts_refused : (m : List Row) (ranges : List ℕ) (number index : ℕ) → Example
   -- two maps joined, and a map merged
   joins : (m n : List Row) (are : List Row) → Example
   merges : (m : List Row) (are : List Row) → Example
@@ -65,8 +65,8 @@ pub data Example : Type 0 where
   -- the times of a recording's timestamps, and where each frame starts
   recording : (timestamps : List ℤ) (are : Recording) (starts : List ℤ) → Example
 
-abbrev pub lastDuration : Lent → ℤ
-lastDuration l = (lastSegment (table l).segments).stamps.duration
+abbrev pub last_duration : Lent → ℤ
+last_duration l = (last_segment (table l).segments).stamps.duration
 
 -- every call with these arguments answers so, and writes the rows or starts into room for just them
 abbrev pub Holds : Example → Type 0
@@ -79,30 +79,30 @@ Holds (exports l m frames num den us below) =
     ((r : Checked) → Validate l (Constant frames num den) [] r → r ≡ Frames frames)
     × ((r : Checked) → Validate m (Constant frames num den) [] r → r ≡ Frames frames)
     × SameFrames (table l) (table m)
-    × (nat_abs (lastDuration l -ℤ lastDuration m) ≡ us)
+    × (nat_abs (last_duration l -ℤ last_duration m) ≡ us)
     × (us * num + below ≡ 2 * den * 1000000 + num)
 Holds (frame l k is) = (r : Lookup) → SegmentOfFrame l k r → r ≡ is
 Holds (time l us is) = (r : Lookup) → SegmentOfTimeUs l us r → r ≡ is
 Holds (list l frames room is are) = (r : Indexed) (out : List ℕ) → SegmentsOfFrames l frames room r out → (r ≡ is) × (out ≡ are)
 Holds (map l are) =
     (r : Filled) (ou : List ℕ) (os : List ℤ) → RowsOfTable l (replicate (5 * length are) 0) (replicate (length are) (pos 0)) r ou os
-    → (r ≡ filled.Rows (length are)) × (mapWritten (length are) ou os ≡ are)
+    → (r ≡ filled.Rows (length are)) × (map_written (length are) ou os ≡ are)
 Holds (cut_to m a b are) =
-    (r : Mapped) (ou : List ℕ) (os : List ℤ) → Cut (words_of m) (shiftsOf m) a b (replicate (5 * length are) 0) (replicate (length are) (pos 0)) r ou os
-    → (r ≡ mapped.Rows (length are)) × (mapWritten (length are) ou os ≡ are)
-Holds (cutsAre m ranges are counts) =
+    (r : Mapped) (ou : List ℕ) (os : List ℤ) → Cut (words_of m) (shifts_of m) a b (replicate (5 * length are) 0) (replicate (length are) (pos 0)) r ou os
+    → (r ≡ mapped.Rows (length are)) × (map_written (length are) ou os ≡ are)
+Holds (cuts_are m ranges are counts) =
     (r : Mapped) (ou : List ℕ) (os : List ℤ) (counts' : List ℕ)
-    → Cuts (words_of m) (shiftsOf m) ranges (replicate (5 * length are) 0) (replicate (length are) (pos 0)) (replicate (length counts) 0) r ou os counts'
-    → (r ≡ mapped.Rows (length are)) × (mapWritten (length are) ou os ≡ are) × (counts' ≡ counts)
-Holds (cutsRefused m ranges number index) =
-    (r : Mapped) (ou : List ℕ) (os : List ℤ) (counts' : List ℕ) → Cuts (words_of m) (shiftsOf m) ranges [] [] [] r ou os counts' → r ≡ mapped.Refused number index
+    → Cuts (words_of m) (shifts_of m) ranges (replicate (5 * length are) 0) (replicate (length are) (pos 0)) (replicate (length counts) 0) r ou os counts'
+    → (r ≡ mapped.Rows (length are)) × (map_written (length are) ou os ≡ are) × (counts' ≡ counts)
+Holds (cuts_refused m ranges number index) =
+    (r : Mapped) (ou : List ℕ) (os : List ℤ) (counts' : List ℕ) → Cuts (words_of m) (shifts_of m) ranges [] [] [] r ou os counts' → r ≡ mapped.Refused number index
 Holds (joins m n are) =
-    (r : Mapped) (ou : List ℕ) (os : List ℤ) → Join (words_of m) (shiftsOf m) (words_of n) (shiftsOf n) (replicate (5 * length are) 0) (replicate (length are) (pos 0)) r ou os
-    → (r ≡ mapped.Rows (length are)) × (mapWritten (length are) ou os ≡ are)
+    (r : Mapped) (ou : List ℕ) (os : List ℤ) → Join (words_of m) (shifts_of m) (words_of n) (shifts_of n) (replicate (5 * length are) 0) (replicate (length are) (pos 0)) r ou os
+    → (r ≡ mapped.Rows (length are)) × (map_written (length are) ou os ≡ are)
 Holds (merges m are) =
-    (r : Mapped) (ou : List ℕ) (os : List ℤ) → Merge (words_of m) (shiftsOf m) (replicate (5 * length are) 0) (replicate (length are) (pos 0)) r ou os
-    → (r ≡ mapped.Rows (length are)) × (mapWritten (length are) ou os ≡ are)
-Holds (comes m k is) = (r : Traced) → Origin (words_of m) (shiftsOf m) k r → r ≡ is
+    (r : Mapped) (ou : List ℕ) (os : List ℤ) → Merge (words_of m) (shifts_of m) (replicate (5 * length are) 0) (replicate (length are) (pos 0)) r ou os
+    → (r ≡ mapped.Rows (length are)) × (map_written (length are) ou os ≡ are)
+Holds (comes m k is) = (r : Traced) → Origin (words_of m) (shifts_of m) k r → r ≡ is
 Holds (movie moov standard are starts) =
     (r : FrameTimes) (starts' a' b' : List ℤ)
     → VideoFrameTimesOfMoov moov standard (replicate (length starts) (pos 0)) (replicate (length starts) (pos 0)) (replicate (length starts) (pos 0)) r starts' a' b'
@@ -123,8 +123,8 @@ shifted s f n o z = record { source = s; first = f; count = n; out = o; flag = 1
 abbrev pub plain : ℕ → List ℕ
 plain frames = frames ∷ 25 ∷ 1 ∷ 0 ∷ 0 ∷ 0 ∷ 0 ∷ 0 ∷ 0 ∷ 0 ∷ []
 
-abbrev pub datedSource : ℕ → List ℕ
-datedSource frames = frames ∷ 25 ∷ 1 ∷ 1 ∷ 0 ∷ 20 ∷ 0 ∷ 0 ∷ 0 ∷ 0 ∷ []
+abbrev pub dated_source : ℕ → List ℕ
+dated_source frames = frames ∷ 25 ∷ 1 ∷ 1 ∷ 0 ∷ 20 ∷ 0 ∷ 0 ∷ 0 ∷ 0 ∷ []
 
 abbrev pub clocked : ℕ → List ℕ
 clocked frames = frames ∷ 25 ∷ 1 ∷ 0 ∷ 0 ∷ 0 ∷ 1 ∷ 1000000 ∷ 1 ∷ 0 ∷ []
@@ -137,37 +137,37 @@ abbrev pub T : List Row
 T = row 0 10 30 0 ∷ row 1 5 20 30 ∷ []
 
 -- T as a table of the source A and of B, with a text
-abbrev pub tableT : List ℕ → List ℕ → Lent
-tableT a text = record { sources = a ++ plain 50; words = words_of T; stamps = stamps 0 1200000 (pos 0) ++ stamps 1200000 800000 (pos 0); log = false; text = text }
+abbrev pub table_t : List ℕ → List ℕ → Lent
+table_t a text = record { sources = a ++ plain 50; words = words_of T; stamps = stamps 0 1200000 (pos 0) ++ stamps 1200000 800000 (pos 0); log = false; text = text }
 
 -- a segment of duration 0: of one source's frames 0 and 1 the first lasts 0..10 and the second 10..10; in the longer table frame 2 lasts 10..20 after them
 abbrev pub still : Lent
 still = record { sources = plain 100; words = words_of (row 0 0 1 0 ∷ row 0 1 1 1 ∷ []); stamps = stamps 0 10 (pos 0) ++ stamps 10 0 (pos 0); log = false; text = [] }
 
-abbrev pub stillBetween : Lent
-stillBetween = record { sources = plain 100; words = words_of (row 0 0 1 0 ∷ row 0 1 1 1 ∷ row 0 2 1 2 ∷ []); stamps = stamps 0 10 (pos 0) ++ stamps 10 0 (pos 0) ++ stamps 10 10 (pos 0); log = false; text = [] }
+abbrev pub still_between : Lent
+still_between = record { sources = plain 100; words = words_of (row 0 0 1 0 ∷ row 0 1 1 1 ∷ row 0 2 1 2 ∷ []); stamps = stamps 0 10 (pos 0) ++ stamps 10 0 (pos 0) ++ stamps 10 10 (pos 0); log = false; text = [] }
 
 -- 0000-02-29T00:00:00Z and 1900-02-29T00:00:00Z
-abbrev pub leapDay : List ℕ
-leapDay = 48 ∷ 48 ∷ 48 ∷ 48 ∷ 45 ∷ 48 ∷ 50 ∷ 45 ∷ 50 ∷ 57 ∷ 84 ∷ 48 ∷ 48 ∷ 58 ∷ 48 ∷ 48 ∷ 58 ∷ 48 ∷ 48 ∷ 90 ∷ []
+abbrev pub leap_day : List ℕ
+leap_day = 48 ∷ 48 ∷ 48 ∷ 48 ∷ 45 ∷ 48 ∷ 50 ∷ 45 ∷ 50 ∷ 57 ∷ 84 ∷ 48 ∷ 48 ∷ 58 ∷ 48 ∷ 48 ∷ 58 ∷ 48 ∷ 48 ∷ 90 ∷ []
 
-abbrev pub notLeapDay : List ℕ
-notLeapDay = 49 ∷ 57 ∷ 48 ∷ 48 ∷ 45 ∷ 48 ∷ 50 ∷ 45 ∷ 50 ∷ 57 ∷ 84 ∷ 48 ∷ 48 ∷ 58 ∷ 48 ∷ 48 ∷ 58 ∷ 48 ∷ 48 ∷ 90 ∷ []
+abbrev pub not_leap_day : List ℕ
+not_leap_day = 49 ∷ 57 ∷ 48 ∷ 48 ∷ 45 ∷ 48 ∷ 50 ∷ 45 ∷ 50 ∷ 57 ∷ 84 ∷ 48 ∷ 48 ∷ 58 ∷ 48 ∷ 48 ∷ 58 ∷ 48 ∷ 48 ∷ 90 ∷ []
 
 -- a source of so many frames at num/den, all of which are one segment, with these signed words
-abbrev pub wholeSource : (frames num den : ℕ) → List ℤ → Lent
-wholeSource frames num den signed = record { sources = frames ∷ num ∷ den ∷ 0 ∷ 0 ∷ 0 ∷ 0 ∷ 0 ∷ 0 ∷ 0 ∷ []; words = words_of (row 0 0 frames 0 ∷ []); stamps = signed; log = false; text = [] }
+abbrev pub whole_source : (frames num den : ℕ) → List ℤ → Lent
+whole_source frames num den signed = record { sources = frames ∷ num ∷ den ∷ 0 ∷ 0 ∷ 0 ∷ 0 ∷ 0 ∷ 0 ∷ 0 ∷ []; words = words_of (row 0 0 frames 0 ∷ []); stamps = signed; log = false; text = [] }
 
 -- 30 frames at 30000/1001, of which the one segment lasts so many microseconds; as a video
 abbrev pub lasting : ℕ → Lent
-lasting us = wholeSource 30 30000 1001 (stamps 0 us (pos 0))
+lasting us = whole_source 30 30000 1001 (stamps 0 us (pos 0))
 
 abbrev pub thirty : Video
 thirty = Constant 30 30000 1001
 
 -- the same frames; the source start and the capture times have ends at 2^63 - 1
 abbrev pub elsewhere : Lent
-elsewhere = wholeSource 30 30000 1001 (pos 9223372036853774807 ∷ pos 0 ∷ pos 1001000 ∷ pos 4611686018427387904 ∷ pos 4611686018427387904 ∷ pos 4611686018427387903 ∷ pos 0 ∷ [])
+elsewhere = whole_source 30 30000 1001 (pos 9223372036853774807 ∷ pos 0 ∷ pos 1001000 ∷ pos 4611686018427387904 ∷ pos 4611686018427387904 ∷ pos 4611686018427387903 ∷ pos 0 ∷ [])
 
 -- ---- moovs
 -- numbers as four bytes each, and a box
@@ -175,74 +175,74 @@ abbrev pub numbers : List ℕ → List ℕ
 numbers [] = []
 numbers (n ∷ l) = (n / 16777216 ∷ n / 65536 % 256 ∷ n / 256 % 256 ∷ n % 256 ∷ []) ++ numbers l
 
-abbrev pub boxOf : ℕ → List ℕ → List ℕ
-boxOf kind payload = numbers ((8 + length payload) ∷ kind ∷ []) ++ payload
+abbrev pub box_of : ℕ → List ℕ → List ℕ
+box_of kind payload = numbers ((8 + length payload) ∷ kind ∷ []) ++ payload
 
 -- a moov of one video track, with this for both timescales, of what its stbl has and of the box that may be absent, edts
-abbrev pub moovAt : ℕ → List ℕ → List ℕ → List ℕ
-moovAt scale tables edit =
-    boxOf mvhd (numbers (0 ∷ 0 ∷ 0 ∷ scale ∷ []))
-    ++ boxOf trak
-    (boxOf mdia
-    (boxOf mdhd (numbers (0 ∷ 0 ∷ 0 ∷ scale ∷ []))
-    ++ boxOf hdlr (numbers (0 ∷ 0 ∷ vide ∷ []))
-    ++ boxOf minf (boxOf stbl tables))
+abbrev pub moov_at : ℕ → List ℕ → List ℕ → List ℕ
+moov_at scale tables edit =
+    box_of mvhd (numbers (0 ∷ 0 ∷ 0 ∷ scale ∷ []))
+    ++ box_of trak
+    (box_of mdia
+    (box_of mdhd (numbers (0 ∷ 0 ∷ 0 ∷ scale ∷ []))
+    ++ box_of hdlr (numbers (0 ∷ 0 ∷ vide ∷ []))
+    ++ box_of minf (box_of stbl tables))
     ++ edit)
 
 -- the same with both timescales 100
-abbrev pub moovWith : List ℕ → List ℕ → List ℕ
-moovWith = moovAt 100
+abbrev pub moov_with : List ℕ → List ℕ → List ℕ
+moov_with = moov_at 100
 
 -- the same of the entries of its stts, and of a ctts, which may be absent too
-abbrev pub moovOf : List ℕ → List ℕ → List ℕ → List ℕ
-moovOf durations offsets edit = moovWith (boxOf stts (numbers (0 ∷ (length durations / 2) ∷ durations)) ++ offsets) edit
+abbrev pub moov_of : List ℕ → List ℕ → List ℕ → List ℕ
+moov_of durations offsets edit = moov_with (box_of stts (numbers (0 ∷ (length durations / 2) ∷ durations)) ++ offsets) edit
 
 -- M1 and M2: durations 10, 10, 10, offsets 10, 30, 0; M2 has one edit, time 10, duration 0, rate 1
 abbrev pub M : List ℕ → List ℕ
-M edit = moovOf (3 ∷ 10 ∷ []) (boxOf ctts (numbers (0 ∷ 3 ∷ 1 ∷ 10 ∷ 1 ∷ 30 ∷ 1 ∷ 0 ∷ []))) edit
+M edit = moov_of (3 ∷ 10 ∷ []) (box_of ctts (numbers (0 ∷ 3 ∷ 1 ∷ 10 ∷ 1 ∷ 30 ∷ 1 ∷ 0 ∷ []))) edit
 
 abbrev pub M2 : List ℕ
-M2 = M (boxOf edts (boxOf elst (numbers (0 ∷ 1 ∷ 0 ∷ 10 ∷ 0x10000 ∷ []))))
+M2 = M (box_of edts (box_of elst (numbers (0 ∷ 1 ∷ 0 ∷ 10 ∷ 0x10000 ∷ []))))
 
 -- document 02's time-lapse: three frames of 500,000,000 ticks at 1,000,000,000 a second, each with the offset 2,400,000,000, in a ctts of a version; and an edit at that time
 abbrev pub lapse : ℕ → List ℕ → List ℕ
 lapse version edit =
-    moovAt 1000000000
-    (boxOf stts (numbers (0 ∷ 1 ∷ 3 ∷ 500000000 ∷ [])) ++ boxOf ctts (numbers (version * 16777216 ∷ 1 ∷ 3 ∷ 2400000000 ∷ [])))
+    moov_at 1000000000
+    (box_of stts (numbers (0 ∷ 1 ∷ 3 ∷ 500000000 ∷ [])) ++ box_of ctts (numbers (version * 16777216 ∷ 1 ∷ 3 ∷ 2400000000 ∷ [])))
     edit
 
-abbrev pub lapseEdit : List ℕ
-lapseEdit = boxOf edts (boxOf elst (numbers (16777216 ∷ 1 ∷ 0 ∷ 0 ∷ 0 ∷ 2400000000 ∷ 0x10000 ∷ [])))
+abbrev pub lapse_edit : List ℕ
+lapse_edit = box_of edts (box_of elst (numbers (16777216 ∷ 1 ∷ 0 ∷ 0 ∷ 0 ∷ 2400000000 ∷ 0x10000 ∷ [])))
 
 -- ---- the auditor's clip: three originals at 25/1 of 90,000, 60,000 and 45,000 frames, the second with a clock; 108,500 frames are put out
-abbrev pub clipShift : ℤ
-clipShift = neg_ℤ (pos 1800)
+abbrev pub clip_shift : ℤ
+clip_shift = neg_ℤ (pos 1800)
 
-abbrev pub clipRows : List Row
-clipRows = row 0 1500 40000 0 ∷ shifted 1 12000 38500 40000 clipShift ∷ row 2 0 30000 78500 ∷ []
+abbrev pub clip_rows : List Row
+clip_rows = row 0 1500 40000 0 ∷ shifted 1 12000 38500 40000 clip_shift ∷ row 2 0 30000 78500 ∷ []
 
-abbrev pub clipTable : Lent
-clipTable = record {
+abbrev pub clip_table : Lent
+clip_table = record {
   sources = plain 90000 ++ clocked 60000 ++ plain 45000;
-  words = words_of clipRows;
-  stamps = stamps 0 1600000000 (pos 0) ++ stamps 1600000000 1540000000 clipShift ++ stamps 3140000000 1200000000 (pos 0);
+  words = words_of clip_rows;
+  stamps = stamps 0 1600000000 (pos 0) ++ stamps 1600000000 1540000000 clip_shift ++ stamps 3140000000 1200000000 (pos 0);
   log = false;
   text = [];
 }
 
 -- its frames 5,000..105,000, and of those 10,000..90,000
-abbrev pub clipCut : List Row
-clipCut = row 0 6500 35000 0 ∷ shifted 1 12000 38500 35000 clipShift ∷ row 2 0 26500 73500 ∷ []
+abbrev pub clip_cut : List Row
+clip_cut = row 0 6500 35000 0 ∷ shifted 1 12000 38500 35000 clip_shift ∷ row 2 0 26500 73500 ∷ []
 
-abbrev pub clipTwice : List Row
-clipTwice = row 0 16500 25000 0 ∷ shifted 1 12000 38500 25000 clipShift ∷ row 2 0 16500 63500 ∷ []
+abbrev pub clip_twice : List Row
+clip_twice = row 0 16500 25000 0 ∷ shifted 1 12000 38500 25000 clip_shift ∷ row 2 0 16500 63500 ∷ []
 
 -- its frames up to 50,000, and those after them
-abbrev pub clipHead : List Row
-clipHead = row 0 1500 40000 0 ∷ shifted 1 12000 10000 40000 clipShift ∷ []
+abbrev pub clip_head : List Row
+clip_head = row 0 1500 40000 0 ∷ shifted 1 12000 10000 40000 clip_shift ∷ []
 
-abbrev pub clipTail : List Row
-clipTail = shifted 1 22000 28500 0 clipShift ∷ row 2 0 30000 28500 ∷ []
+abbrev pub clip_tail : List Row
+clip_tail = shifted 1 22000 28500 0 clip_shift ∷ row 2 0 30000 28500 ∷ []
 
 abbrev pub examples : List Example
 examples =
@@ -257,48 +257,48 @@ examples =
     ∷ against (lasting 967632) thirty (Refused 25 0)
     ∷ against (lasting 1034368) thirty (Refused 25 0)
     -- a day that there was, and one that there wasn't: the UTC rule, and the creation time of T's source A
-    ∷ second leapDay true
-    ∷ second notLeapDay false
-    ∷ checked (tableT (datedSource 100) leapDay) (Frames 50)
-    ∷ checked (tableT (datedSource 100) notLeapDay) (Refused 5 0)
+    ∷ second leap_day true
+    ∷ second not_leap_day false
+    ∷ checked (table_t (dated_source 100) leap_day) (Frames 50)
+    ∷ checked (table_t (dated_source 100) not_leap_day) (Refused 5 0)
     -- T: frames 29, 30 and 50, times -5 and 1,200,000
-    ∷ checked (tableT (plain 100) []) (Frames 50)
-    ∷ frame (tableT (plain 100) []) 29 (Index 0)
-    ∷ frame (tableT (plain 100) []) 30 (Index 1)
-    ∷ frame (tableT (plain 100) []) 50 (Index 1)
-    ∷ time (tableT (plain 100) []) (neg_ℤ (pos 5)) (Index 0)
-    ∷ time (tableT (plain 100) []) (pos 1200000) (Index 1)
+    ∷ checked (table_t (plain 100) []) (Frames 50)
+    ∷ frame (table_t (plain 100) []) 29 (Index 0)
+    ∷ frame (table_t (plain 100) []) 30 (Index 1)
+    ∷ frame (table_t (plain 100) []) 50 (Index 1)
+    ∷ time (table_t (plain 100) []) (neg_ℤ (pos 5)) (Index 0)
+    ∷ time (table_t (plain 100) []) (pos 1200000) (Index 1)
     -- a segment of duration 0 holds no time: time 10 is past it, but where it is the last it is the answer
     ∷ time still (pos 10) (Index 1)
-    ∷ time stillBetween (pos 10) (Index 2)
+    ∷ time still_between (pos 10) (Index 2)
     -- T cut 25..40, that cut 3..8, and T cut 28..33
-    ∷ map (tableT (plain 100) []) T
+    ∷ map (table_t (plain 100) []) T
     ∷ cut_to T 25 40 (row 0 35 5 0 ∷ row 1 5 10 5 ∷ [])
     ∷ cut_to (row 0 35 5 0 ∷ row 1 5 10 5 ∷ []) 3 8 (row 0 38 2 0 ∷ row 1 5 3 2 ∷ [])
     ∷ cut_to T 28 33 (row 0 38 2 0 ∷ row 1 5 3 2 ∷ [])
     -- M1, M2, and durations 5, 7, 7, 5: nominal 5
     ∷ movie (M []) false (Presented 3 100 (pos 10) (pos 50)) (pos 10 ∷ pos 20 ∷ pos 40 ∷ [])
     ∷ movie M2 false (Presented 3 100 (pos 10) (pos 40)) (pos 0 ∷ pos 10 ∷ pos 30 ∷ [])
-    ∷ movie (moovOf (1 ∷ 5 ∷ 2 ∷ 7 ∷ 1 ∷ 5 ∷ []) [] []) false (Presented 4 100 (pos 5) (pos 24)) (pos 0 ∷ pos 5 ∷ pos 12 ∷ pos 19 ∷ [])
+    ∷ movie (moov_of (1 ∷ 5 ∷ 2 ∷ 7 ∷ 1 ∷ 5 ∷ []) [] []) false (Presented 4 100 (pos 5) (pos 24)) (pos 0 ∷ pos 5 ∷ pos 12 ∷ pos 19 ∷ [])
     -- nominal isn't the median: of durations 5, 5, 7, 8, 9 it is 5
-    ∷ movie (moovOf (2 ∷ 5 ∷ 1 ∷ 7 ∷ 1 ∷ 8 ∷ 1 ∷ 9 ∷ []) [] []) false (Presented 5 100 (pos 5) (pos 34)) (pos 0 ∷ pos 5 ∷ pos 10 ∷ pos 17 ∷ pos 25 ∷ [])
+    ∷ movie (moov_of (2 ∷ 5 ∷ 1 ∷ 7 ∷ 1 ∷ 8 ∷ 1 ∷ 9 ∷ []) [] []) false (Presented 5 100 (pos 5) (pos 34)) (pos 0 ∷ pos 5 ∷ pos 10 ∷ pos 17 ∷ pos 25 ∷ [])
     -- a recording's timestamps 1000, 1010, 1025: nominal 10, end 35
     ∷ recording (pos 1000 ∷ pos 1010 ∷ pos 1025 ∷ []) (Timed 3 1000000000 (pos 10) (pos 35)) (pos 0 ∷ pos 10 ∷ pos 25 ∷ [])
     -- the auditor's clip: accepted, its rows, cut twice and cut at once, and frame 41,200 of it: frame 28,200 of original 1, with the shift -1,800
-    ∷ checked clipTable (Frames 108500)
-    ∷ against clipTable (Constant 108500 25 1) (Frames 108500)
-    ∷ map clipTable clipRows
-    ∷ cut_to clipRows 5000 105000 clipCut
-    ∷ cut_to clipCut 10000 90000 clipTwice
-    ∷ cut_to clipRows 15000 95000 clipTwice
-    ∷ comes clipTwice 41200 (From 1 28200 1 clipShift)
-    ∷ comes clipRows 56200 (From 1 28200 1 clipShift)
-    ∷ frame clipTable 56200 (Index 1)
+    ∷ checked clip_table (Frames 108500)
+    ∷ against clip_table (Constant 108500 25 1) (Frames 108500)
+    ∷ map clip_table clip_rows
+    ∷ cut_to clip_rows 5000 105000 clip_cut
+    ∷ cut_to clip_cut 10000 90000 clip_twice
+    ∷ cut_to clip_rows 15000 95000 clip_twice
+    ∷ comes clip_twice 41200 (From 1 28200 1 clip_shift)
+    ∷ comes clip_rows 56200 (From 1 28200 1 clip_shift)
+    ∷ frame clip_table 56200 (Index 1)
     -- its frames up to 50,000 and those after them, joined: four rows, which merged are the clip again
-    ∷ cut_to clipRows 0 50000 clipHead
-    ∷ cut_to clipRows 50000 108500 clipTail
-    ∷ joins clipHead clipTail (row 0 1500 40000 0 ∷ shifted 1 12000 10000 40000 clipShift ∷ shifted 1 22000 28500 50000 clipShift ∷ row 2 0 30000 78500 ∷ [])
-    ∷ merges (row 0 1500 40000 0 ∷ shifted 1 12000 10000 40000 clipShift ∷ shifted 1 22000 28500 50000 clipShift ∷ row 2 0 30000 78500 ∷ []) clipRows
+    ∷ cut_to clip_rows 0 50000 clip_head
+    ∷ cut_to clip_rows 50000 108500 clip_tail
+    ∷ joins clip_head clip_tail (row 0 1500 40000 0 ∷ shifted 1 12000 10000 40000 clip_shift ∷ shifted 1 22000 28500 50000 clip_shift ∷ row 2 0 30000 78500 ∷ [])
+    ∷ merges (row 0 1500 40000 0 ∷ shifted 1 12000 10000 40000 clip_shift ∷ shifted 1 22000 28500 50000 clip_shift ∷ row 2 0 30000 78500 ∷ []) clip_rows
     -- a cut merges nothing, and neighbours whose shifts differ stay apart: an absent shift isn't a shift of 0
     ∷ cut_to (row 0 0 10 0 ∷ row 0 10 10 10 ∷ []) 0 20 (row 0 0 10 0 ∷ row 0 10 10 10 ∷ [])
     ∷ merges (row 0 0 10 0 ∷ row 0 10 10 10 ∷ []) (row 0 0 20 0 ∷ [])
@@ -306,34 +306,34 @@ examples =
     ∷ merges (shifted 0 0 10 0 (pos 5) ∷ shifted 0 10 10 10 (pos 6) ∷ []) (shifted 0 0 10 0 (pos 5) ∷ shifted 0 10 10 10 (pos 6) ∷ [])
     -- document 02, n: at 30000/1001 the bound is reached up to the rounding, since one microsecond more would be 30,000 more; at 128/5 it is reached
     ∷ exports (lasting 967633) (lasting 1034367) 30 30000 1001 66734 10000
-    ∷ exports (wholeSource 2 128 5 (stamps 0 39062 (pos 0))) (wholeSource 2 128 5 (stamps 0 117188 (pos 0))) 2 128 5 78126 0
+    ∷ exports (whole_source 2 128 5 (stamps 0 39062 (pos 0))) (whole_source 2 128 5 (stamps 0 117188 (pos 0))) 2 128 5 78126 0
     -- source and capture times aren't bound by it
     ∷ exports (lasting 1001000) elsewhere 30 30000 1001 0 2002030000
     -- of one timestamp the fps decides, so that it is asked to be the same: at 25/1 a frame lasts 40,000, at 1/1 a million
-    ∷ filmed (wholeSource 1 25 1 (stamps 0 40000 (pos 0))) (pos 7) (Frames 1)
-    ∷ filmed (wholeSource 1 1 1 (stamps 0 1000000 (pos 0))) (pos 7) (Frames 1)
+    ∷ filmed (whole_source 1 25 1 (stamps 0 40000 (pos 0))) (pos 7) (Frames 1)
+    ∷ filmed (whole_source 1 1 1 (stamps 0 1000000 (pos 0))) (pos 7) (Frames 1)
     -- document 02, a: T's frames in any order, and what lies past them; room that is too short; a table that is refused, of a list without frames
-    ∷ list (tableT (plain 100) []) (49 ∷ 0 ∷ 30 ∷ 29 ∷ 18446744073709551615 ∷ []) (9 ∷ 9 ∷ 9 ∷ 9 ∷ 9 ∷ 9 ∷ []) (Indices 5) (1 ∷ 0 ∷ 1 ∷ 0 ∷ 1 ∷ 9 ∷ [])
-    ∷ list (tableT (plain 100) []) (29 ∷ 30 ∷ []) (9 ∷ []) (NoIndices 32 0) (9 ∷ [])
-    ∷ list (tableT (plain 0) []) [] [] (NoIndices 4 0) []
+    ∷ list (table_t (plain 100) []) (49 ∷ 0 ∷ 30 ∷ 29 ∷ 18446744073709551615 ∷ []) (9 ∷ 9 ∷ 9 ∷ 9 ∷ 9 ∷ 9 ∷ []) (Indices 5) (1 ∷ 0 ∷ 1 ∷ 0 ∷ 1 ∷ 9 ∷ [])
+    ∷ list (table_t (plain 100) []) (29 ∷ 30 ∷ []) (9 ∷ []) (NoIndices 32 0) (9 ∷ [])
+    ∷ list (table_t (plain 0) []) [] [] (NoIndices 4 0) []
     -- document 02, g: of M1 the mvhd and 6 bytes, so that its boxes end there without a track; 10 bytes more, where the trak's header at 24 is bad; a bad header in the
     -- place of the stts; and one in that of the edts, which may be absent
     ∷ movie (take 30 (M [])) false (NoFrames 31 0) []
     ∷ movie (take 40 (M [])) false (NoFrames 36 24) []
-    ∷ movie (moovWith (numbers (7 ∷ stts ∷ [])) []) false (NoFrames 36 100) []
+    ∷ movie (moov_with (numbers (7 ∷ stts ∷ [])) []) false (NoFrames 36 100) []
     ∷ movie (M (numbers (7 ∷ edts ∷ []))) false (Presented 3 100 (pos 10) (pos 50)) (pos 10 ∷ pos 20 ∷ pos 40 ∷ [])
     -- document 02, d: the time-lapse by the standard, without an edit and with one; by the Rust its times are below 0, and no frame is kept; the versions 1, 2 and 255 are signed
     ∷ movie (lapse 0 []) true (Presented 3 1000000000 (pos 500000000) (pos 3900000000)) (pos 2400000000 ∷ pos 2900000000 ∷ pos 3400000000 ∷ [])
-    ∷ movie (lapse 0 lapseEdit) true (Presented 3 1000000000 (pos 500000000) (pos 1500000000)) (pos 0 ∷ pos 500000000 ∷ pos 1000000000 ∷ [])
+    ∷ movie (lapse 0 lapse_edit) true (Presented 3 1000000000 (pos 500000000) (pos 1500000000)) (pos 0 ∷ pos 500000000 ∷ pos 1000000000 ∷ [])
     ∷ movie (lapse 0 []) false (NoFrames 31 0) (pos 0 ∷ pos 0 ∷ pos 0 ∷ [])
     ∷ movie (lapse 1 []) true (NoFrames 31 0) (pos 0 ∷ pos 0 ∷ pos 0 ∷ [])
     ∷ movie (lapse 2 []) true (NoFrames 31 0) (pos 0 ∷ pos 0 ∷ pos 0 ∷ [])
     ∷ movie (lapse 255 []) true (NoFrames 31 0) (pos 0 ∷ pos 0 ∷ pos 0 ∷ [])
     -- T cut 25..40 and 28..33 in one call, and 28..30 and 25..40, each counted from its own a; no range at all; and of three the second past T's end, before the lack of room
-    ∷ cutsAre T (25 ∷ 40 ∷ 28 ∷ 33 ∷ []) (row 0 35 5 0 ∷ row 1 5 10 5 ∷ row 0 38 2 0 ∷ row 1 5 3 2 ∷ []) (2 ∷ 2 ∷ [])
-    ∷ cutsAre T (28 ∷ 30 ∷ 25 ∷ 40 ∷ []) (row 0 38 2 0 ∷ row 0 35 5 0 ∷ row 1 5 10 5 ∷ []) (1 ∷ 2 ∷ [])
-    ∷ cutsAre T [] [] []
-    ∷ cutsRefused T (0 ∷ 50 ∷ 20 ∷ 51 ∷ 7 ∷ 7 ∷ []) 50 1
-    ∷ cutsRefused T (0 ∷ 50 ∷ 20 ∷ []) 50 1
-    ∷ cutsRefused T (0 ∷ 50 ∷ []) 52 0
+    ∷ cuts_are T (25 ∷ 40 ∷ 28 ∷ 33 ∷ []) (row 0 35 5 0 ∷ row 1 5 10 5 ∷ row 0 38 2 0 ∷ row 1 5 3 2 ∷ []) (2 ∷ 2 ∷ [])
+    ∷ cuts_are T (28 ∷ 30 ∷ 25 ∷ 40 ∷ []) (row 0 38 2 0 ∷ row 0 35 5 0 ∷ row 1 5 10 5 ∷ []) (1 ∷ 2 ∷ [])
+    ∷ cuts_are T [] [] []
+    ∷ cuts_refused T (0 ∷ 50 ∷ 20 ∷ 51 ∷ 7 ∷ 7 ∷ []) 50 1
+    ∷ cuts_refused T (0 ∷ 50 ∷ 20 ∷ []) 50 1
+    ∷ cuts_refused T (0 ∷ 50 ∷ []) 52 0
     ∷ []

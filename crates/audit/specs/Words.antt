@@ -11,7 +11,7 @@ use Rattle.table.specs.Layout.{table_of}
 use Rattle.lookups.specs.declared.Indexed.{Indexed}
 use Rattle.judge.specs.declared.Video.{Video}
 use Rattle.records.specs.declared.TrimSegment.{TrimSegment}
-use Rattle.records.specs.Records.{allUnsigned, allSigned}
+use Rattle.records.specs.Records.{all_unsigned, all_signed}
 use Rattle.audit.specs.Calls as calls
 
 -- a table as it is lent: the words of its sources, the unsigned and the signed words of its segments, whether it names a log, and the text of its creation times
@@ -59,11 +59,11 @@ CheckMcraw l timestamps a b r a' b' = on calls.CheckMcraw l timestamps a b r a' 
 
 -- the table whose segments are a list of records, lent as words: of each record, in order, its five unsigned and its seven signed ones
 abbrev pub in_words : List ℕ → List ℕ → List TrimSegment → Bool → Lent
-in_words sources text rs log = record { sources = sources; words = allUnsigned rs; stamps = allSigned rs; log = log; text = text }
+in_words sources text rs log = record { sources = sources; words = all_unsigned rs; stamps = all_signed rs; log = log; text = text }
 
 -- the map of k rows that a call wrote over ou and os
-abbrev pub mapWritten : ℕ → List ℕ → List ℤ → List Row
-mapWritten k ou os = rows (take (5 * k) ou) (take k os)
+abbrev pub map_written : ℕ → List ℕ → List ℤ → List Row
+map_written k ou os = rows (take (5 * k) ou) (take k os)
 
 -- the library's call answers something, of which this is told
 pub record Tells {A : Type 0} (Answers : A → Type 0) (Is : A → Type 0) : Type 0 where

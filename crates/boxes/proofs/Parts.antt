@@ -6,7 +6,7 @@ use native.Mathlib.Nat.{add-sub_cancel_left}
 use native.Mathlib.Omega.{arith}
 use lib.ListN.{length, take, drop, length-take, length-drop}
 use lib.Seq.{take_all}
-use Rattle.boxes.specs.Places.{placeOr, movedPlace, inPart}
+use Rattle.boxes.specs.Places.{place_or, moved_place, in_part}
 use Rattle.boxes.specs.declared.Walk.{Walk}
 use Rattle.boxes.specs.declared.Walk.TheVariants.{Found, End, Bad}
 use Rattle.boxes.specs.declared.Place.{Place}
@@ -25,13 +25,13 @@ Missed w = (start len : ℕ) → w ≡ Found start len → ⊥
 
 -- a search in the part that a walk for it found: the walk's two ends, from the equations that the code has
 module _ (s : List ℕ) (number : ℕ) (search : List ℕ → Place) {w v : Walk} (e : w ≡ v) where
-  pub missed : Missed w → Refused number 0 ≡ inPart s (placeOr number v) search
-  missed t = subst (λ (v : Walk). Refused number 0 ≡ inPart s (placeOr number v) search) e (by w t)
+  pub missed : Missed w → Refused number 0 ≡ in_part s (place_or number v) search
+  missed t = subst (λ (v : Walk). Refused number 0 ≡ in_part s (place_or number v) search) e (by w t)
     where
-      by : (w : Walk) → Missed w → Refused number 0 ≡ inPart s (placeOr number w) search
+      by : (w : Walk) → Missed w → Refused number 0 ≡ in_part s (place_or number w) search
       by (Found a n) t = absurd (t a n refl)
       by End t = refl
       by (Bad at) t = refl
 
-  pub hit : {a n : ℕ} {q r : Place} → w ≡ Found a n → q ≡ search (take (a + n - a) (drop a s)) → r ≡ movedPlace a q → r ≡ inPart s (placeOr number v) search
+  pub hit : {a n : ℕ} {q r : Place} → w ≡ Found a n → q ≡ search (take (a + n - a) (drop a s)) → r ≡ moved_place a q → r ≡ in_part s (place_or number v) search
   hit {a} {n} f q r = rw (r, q, ← e, f, add-sub_cancel_left)

@@ -9,8 +9,8 @@ use lib.Seq.{get_or-drop}
 use lib.Dec.{ltb, eqb}
 use borrow.Author.Tests.{lt-ltb, le-ltb, ltb-false, ne_eqb}
 use Rattle.choice.proofs.Tests.{either}
-use Rattle.boxes.specs.Bytes.{be32At, be64At}
-use Rattle.boxes.specs.Boxes.{fittingIn, size_of, headerBy, header_at}
+use Rattle.boxes.specs.Bytes.{be32_at, be64_at}
+use Rattle.boxes.specs.Boxes.{fitting_in, size_of, header_by, header_at}
 use Rattle.boxes.specs.declared.Sized.{Sized}
 use Rattle.boxes.specs.declared.Sized.TheVariants.{Box, Refused}
 use Rattle.boxes.specs.declared.Header.{Header}
@@ -22,8 +22,8 @@ abbrev pub Fitting : ℕ → Sized → Type 0
 Fitting remaining (Box size header) = (8 ≤ header) × (header ≤ size) × (size ≤ remaining)
 Fitting remaining (Refused n i) = Unit {0}
 
-fitting-in : (remaining header size : ℕ) → 8 ≤ header → Fitting remaining (fittingIn remaining header size)
-unfolding fittingIn
+fitting-in : (remaining header size : ℕ) → 8 ≤ header → Fitting remaining (fitting_in remaining header size)
+unfolding fitting_in
 fitting-in remaining header size h =
     either (Fitting remaining) (ltb size header) (λ a. tt)
     (λ a. either (Fitting remaining) (ltb remaining size) (λ b. tt)
@@ -34,19 +34,19 @@ unfolding size_of
 size-fitting s remaining =
     let P = Fitting remaining in
     either P (ltb (length s) 4) (λ a. tt)
-    (λ a. either P (eqb (be32At s 0) 0) (λ b. fitting-in remaining 8 remaining (omega arith))
-    (λ a. either P (eqb (be32At s 0) 1)
-    (λ b. either P (ltb (length s) 16) (λ d. tt) (λ d. fitting-in remaining 16 (be64At s 8) (omega arith)))
-    (λ b. fitting-in remaining 8 (be32At s 0) (omega arith))))
+    (λ a. either P (eqb (be32_at s 0) 0) (λ b. fitting-in remaining 8 remaining (omega arith))
+    (λ a. either P (eqb (be32_at s 0) 1)
+    (λ b. either P (ltb (length s) 16) (λ d. tt) (λ d. fitting-in remaining 16 (be64_at s 8) (omega arith)))
+    (λ b. fitting-in remaining 8 (be32_at s 0) (omega arith))))
 
 -- the same from the equation that the code has of a size
 pub fits : (s : List ℕ) (remaining : ℕ) {z : Sized} → z ≡ size_of s remaining → Fitting remaining z
 fits s remaining e = subst (Fitting remaining) (sym e) (size-fitting s remaining)
 
 -- a size of 32 bits
-small : (s : List ℕ) (remaining : ℕ) → 4 ≤ length s → {n : ℕ} {r : Sized} → 2 ≤ be32At s 0 → n ≡ be32At s 0 → r ≡ fittingIn remaining 8 n → r ≡ size_of s remaining
+small : (s : List ℕ) (remaining : ℕ) → 4 ≤ length s → {n : ℕ} {r : Sized} → 2 ≤ be32_at s 0 → n ≡ be32_at s 0 → r ≡ fitting_in remaining 8 n → r ≡ size_of s remaining
 unfolding size_of
-small s remaining h z n r = simp (le-ltb _ _ h, ne_eqb (be32At s 0) 0 (omega arith), ne_eqb (be32At s 0) 1 (omega arith), r, n)
+small s remaining h z n r = simp (le-ltb _ _ h, ne_eqb (be32_at s 0) 0 (omega arith), ne_eqb (be32_at s 0) 1 (omega arith), r, n)
 
 module _ (s : List ℕ) (at : ℕ) where
   pub short : length s - at < 8 → Short ≡ header_at s at
@@ -54,15 +54,15 @@ module _ (s : List ℕ) (at : ℕ) where
   short h = rw (lt-ltb _ _ h)
 
   -- the code has the bytes from `at` on as `&s[at..]`
-  pub by_size : {k : ℕ} {z : Sized} → 8 ≤ length s - at → k ≡ be32At s (at + 4) → z ≡ size_of (take (length s - at) (drop at s)) (length s - at) → headerBy at k z ≡ header_at s at
+  pub by_size : {k : ℕ} {z : Sized} → 8 ≤ length s - at → k ≡ be32_at s (at + 4) → z ≡ size_of (take (length s - at) (drop at s)) (length s - at) → header_by at k z ≡ header_at s at
   unfolding header_at
   by_size h k z = rw (le-ltb _ _ h, k, z, from at s)
 
   -- a size of 32 bits that fits
-  pub plain : {n k : ℕ} → 8 ≤ length s - at → n ≡ be32At s at → 8 ≤ n → n ≤ length s - at → k ≡ be32At s (at + 4) → Whole k (at + 8) (n - 8) (at + n) ≡ header_at s at
-  unfolding header_at fittingIn
+  pub plain : {n k : ℕ} → 8 ≤ length s - at → n ≡ be32_at s at → 8 ≤ n → n ≤ length s - at → k ≡ be32_at s (at + 4) → Whole k (at + 8) (n - 8) (at + n) ≡ header_at s at
+  unfolding header_at fitting_in
   plain {n} h e b l k =
-      let there : be32At (drop at s) 0 ≡ n = rw (get_or-drop at s 0 0, get_or-drop at s 1 0, get_or-drop at s 2 0, get_or-drop at s 3 0, add-zero) (sym e) in
+      let there : be32_at (drop at s) 0 ≡ n = rw (get_or-drop at s 0 0, get_or-drop at s 1 0, get_or-drop at s 2 0, get_or-drop at s 3 0, add-zero) (sym e) in
       let size : Box n 8 ≡ size_of (drop at s) (length s - at) =
       small (drop at s) (length s - at) (rw length-drop (omega arith)) (rw there (omega arith)) (sym there) (rw (le-ltb n 8 b, le-ltb (length s - at) n l)) in
       rw (le-ltb _ _ h, sym size, k)
@@ -74,7 +74,7 @@ Lies at l Short = Unit {0}
 Lies at l Bad = at + 8 ≤ l
 Lies at l (Whole kind start len next) = (at + 8 ≤ start) × (start + len ≡ next) × (next ≤ l)
 
-by-lies : (l at kind : ℕ) (z : Sized) → at + 8 ≤ l → Fitting (l - at) z → Lies at l (headerBy at kind z)
+by-lies : (l at kind : ℕ) (z : Sized) → at + 8 ≤ l → Fitting (l - at) z → Lies at l (header_by at kind z)
 by-lies l at kind (Box size header) h f = (omega arith, omega arith, omega arith)
 by-lies l at kind (Refused n i) h f = h
 
@@ -83,7 +83,7 @@ unfolding header_at
 header-lies s at =
     either (Lies at (length s)) (ltb (length s - at) 8) (λ a. tt)
     (λ a. let h = ltb-false (length s - at) 8 a in
-    by-lies (length s) at (be32At s (at + 4)) (size_of (drop at s) (length s - at)) (omega arith) (size-fitting (drop at s) (length s - at)))
+    by-lies (length s) at (be32_at s (at + 4)) (size_of (drop at s) (length s - at)) (omega arith) (size-fitting (drop at s) (length s - at)))
 
 -- the same from the equation that a walk has of the header
 pub lies : (s : List ℕ) (at : ℕ) {h : Header} → h ≡ header_at s at → Lies at (length s) h

@@ -5,7 +5,7 @@ use mathlib.Core.List.{List}
 use Prim.Native.Nat.{ℕ, zero, suc, ◌+◌, ◌-◌, ◌≤◌}
 use native.Mathlib.Omega.{arith}
 use lib.ListN.{length}
-use Rattle.boxes.specs.Boxes.{Boxes, box, header_at, afterHeader, boxesFrom, boxesAt, firstSuch}
+use Rattle.boxes.specs.Boxes.{Boxes, box, header_at, after_header, boxes_from, boxes_at, first_such}
 use Rattle.boxes.specs.declared.Header.{Header}
 use Rattle.boxes.specs.declared.Header.TheVariants.{Whole, Short, Bad}
 use Rattle.boxes.specs.declared.Walk.TheVariants.{Found}
@@ -13,29 +13,29 @@ use Rattle.boxes.specs.Steps.{stop_at}
 use Rattle.boxes.proofs.Sizes.{Lies, header-lies, short}
 
 -- any count that is enough gives the same boxes
-after_same : (at l : ℕ) (f g : ℕ → Boxes) (h : Header) → Lies at l h → ((k : ℕ) → at + 8 ≤ k → f k ≡ g k) → afterHeader h at f ≡ afterHeader h at g
+after_same : (at l : ℕ) (f g : ℕ → Boxes) (h : Header) → Lies at l h → ((k : ℕ) → at + 8 ≤ k → f k ≡ g k) → after_header h at f ≡ after_header h at g
 after_same at l f g Short z e = refl
 after_same at l f g Bad z e = refl
 after_same at l f g (Whole kind start len next) z e = ap (box at kind start len) (e next (omega arith))
 
-enough : (m n : ℕ) (s : List ℕ) (at : ℕ) → length s ≤ m + at → length s ≤ n + at → boxesFrom m s at ≡ boxesFrom n s at
-unfolding boxesFrom
+enough : (m n : ℕ) (s : List ℕ) (at : ℕ) → length s ≤ m + at → length s ≤ n + at → boxes_from m s at ≡ boxes_from n s at
+unfolding boxes_from
 enough zero zero s at p q = refl
 enough zero (suc n) s at p q = rw (← short s at (omega arith))
 enough (suc m) zero s at p q = rw (← short s at (omega arith))
 enough (suc m) (suc n) s at p q =
-    after_same at (length s) (boxesFrom m s) (boxesFrom n s) (header_at s at) (header-lies s at)
+    after_same at (length s) (boxes_from m s) (boxes_from n s) (header_at s at) (header-lies s at)
     (λ k a. enough m n s k (omega arith) (omega arith))
 
 -- the boxes from `at` on, with no count
-unrolled : (s : List ℕ) (at : ℕ) → boxesAt s at ≡ afterHeader (header_at s at) at (boxesAt s)
-unfolding boxesAt boxesFrom
+unrolled : (s : List ℕ) (at : ℕ) → boxes_at s at ≡ after_header (header_at s at) at (boxes_at s)
+unfolding boxes_at boxes_from
 unrolled s at =
     enough (length s - at) (suc (length s)) s at (omega arith) (omega arith)
-    ∙ after_same at (length s) (boxesFrom (length s) s) (boxesAt s) (header_at s at) (header-lies s at)
+    ∙ after_same at (length s) (boxes_from (length s) s) (boxes_at s) (header_at s at) (header-lies s at)
     (λ k a. enough (length s) (length s - k) s k (omega arith) (omega arith))
 
-pub at-header : (s : List ℕ) (at : ℕ) {h : Header} → h ≡ header_at s at → boxesAt s at ≡ afterHeader h at (boxesAt s)
+pub at-header : (s : List ℕ) (at : ℕ) {h : Header} → h ≡ header_at s at → boxes_at s at ≡ after_header h at (boxes_at s)
 at-header s at e = rw (unrolled s at, ← e)
 
 -- a header that is not whole, as an `else` knows it
@@ -44,20 +44,20 @@ Stops h = (kind start len next : ℕ) → h ≡ Whole kind start len next → �
 
 -- the first box that passes a test from `at` on, by the header at `at`
 module _ (test : ℕ → ℕ → ℕ → Bool) (s : List ℕ) (at : ℕ) where
-  stop : (h : Header) → Stops h → firstSuch test (afterHeader h at (boxesAt s)) ≡ stop_at h at
-  unfolding firstSuch
+  stop : (h : Header) → Stops h → first_such test (after_header h at (boxes_at s)) ≡ stop_at h at
+  unfolding first_such
   stop Short t = refl
   stop Bad t = refl
   stop (Whole kind start len next) t = absurd (t kind start len next refl)
 
-  pub first_stops : {h : Header} → h ≡ header_at s at → Stops h → firstSuch test (boxesAt s at) ≡ stop_at h at
+  pub first_stops : {h : Header} → h ≡ header_at s at → Stops h → first_such test (boxes_at s at) ≡ stop_at h at
   first_stops {h} e t = rw (at-header s at e) (stop h t)
 
   module _ {k a n next : ℕ} (e : Whole k a n next ≡ header_at s at) where
-    pub first_found : test k a n ≡ true → firstSuch test (boxesAt s at) ≡ Found a n
-    unfolding firstSuch
+    pub first_found : test k a n ≡ true → first_such test (boxes_at s at) ≡ Found a n
+    unfolding first_such
     first_found t = rw (at-header s at e, t)
 
-    pub first-passed : test k a n ≡ false → firstSuch test (boxesAt s at) ≡ firstSuch test (boxesAt s next)
-    unfolding firstSuch
+    pub first-passed : test k a n ≡ false → first_such test (boxes_at s at) ≡ first_such test (boxes_at s next)
+    unfolding first_such
     first-passed t = rw (at-header s at e, t)

@@ -1,6 +1,6 @@
 -- The boxes of some bytes, by ISO/IEC 14496-12, 4.2, and how they end.
 use Rattle.std.specs.Prelude.{ℕ, zero, suc, ◌+◌, ◌-◌, ◌/◌, ◌%◌, List, Bool, true, false, ◌&&◌, length, drop, ltb, leb, eqb, if◌then◌else◌}
-use Rattle.boxes.specs.Bytes.{be32At, be64At}
+use Rattle.boxes.specs.Bytes.{be32_at, be64_at}
 use Rattle.boxes.specs.declared.Sized.{Sized}
 use Rattle.boxes.specs.declared.Sized.TheVariants.{Box, Refused}
 use Rattle.boxes.specs.declared.Header.{Header}
@@ -11,12 +11,12 @@ use Rattle.boxes.specs.declared.Walk.{Walk}
 use Rattle.boxes.specs.declared.Walk.TheVariants.{Found, End, Bad as BadAt}
 
 -- the most bytes that a call takes
-abbrev pub mostBytes : ℕ
-mostBytes = 16777216
+abbrev pub most_bytes : ℕ
+most_bytes = 16777216
 
 -- a size is at least its header's and at most what remains (4.2: a box is within what it is in)
-unfoldable pub fittingIn : ℕ → ℕ → ℕ → Sized
-fittingIn remaining header size =
+unfoldable pub fitting_in : ℕ → ℕ → ℕ → Sized
+fitting_in remaining header size =
     if ltb size header then Refused 31 0
     else if ltb remaining size then Refused 31 0
     else Box size header
@@ -26,37 +26,37 @@ fittingIn remaining header size =
 unfoldable pub size_of : List ℕ → ℕ → Sized
 size_of bytes remaining =
     if ltb (length bytes) 4 then Refused 31 0
-    else if eqb (be32At bytes 0) 0 then fittingIn remaining 8 remaining
-    else if eqb (be32At bytes 0) 1 then if ltb (length bytes) 16 then Refused 31 0 else fittingIn remaining 16 (be64At bytes 8)
-    else fittingIn remaining 8 (be32At bytes 0)
+    else if eqb (be32_at bytes 0) 0 then fitting_in remaining 8 remaining
+    else if eqb (be32_at bytes 0) 1 then if ltb (length bytes) 16 then Refused 31 0 else fitting_in remaining 16 (be64_at bytes 8)
+    else fitting_in remaining 8 (be32_at bytes 0)
 
 -- the same for a caller's bytes: 30 over the limit, then 31
-unfoldable pub boxSize : List ℕ → ℕ → Sized
-boxSize bytes remaining = if ltb mostBytes (length bytes) then Refused 30 0 else size_of bytes remaining
+unfoldable pub box_size : List ℕ → ℕ → Sized
+box_size bytes remaining = if ltb most_bytes (length bytes) then Refused 30 0 else size_of bytes remaining
 
 -- where the payload and the next box are, for a box of a type at `at`
-abbrev pub headerBy : ℕ → ℕ → Sized → Header
-headerBy at kind (Box size header) = Whole kind (at + header) (size - header) (at + size)
-headerBy at kind (Refused n i) = Bad
+abbrev pub header_by : ℕ → ℕ → Sized → Header
+header_by at kind (Box size header) = Whole kind (at + header) (size - header) (at + size)
+header_by at kind (Refused n i) = Bad
 
 -- the header at `at`, where all that remains is at hand
 unfoldable pub header_at : List ℕ → ℕ → Header
 header_at s at =
     if ltb (length s - at) 8 then Short
-    else headerBy at (be32At s (at + 4)) (size_of (drop at s) (length s - at))
+    else header_by at (be32_at s (at + 4)) (size_of (drop at s) (length s - at))
 
 -- the box of a header at `at`; 31 where fewer than 8 bytes are left, 36 at a bad header, with its offset
-abbrev pub reachedBy : Header → ℕ → Reached
-reachedBy Short at = reached.Refused 31 0
-reachedBy Bad at = reached.Refused 36 at
-reachedBy (Whole kind start len next) at = reached.Box kind start len next
+abbrev pub reached_by : Header → ℕ → Reached
+reached_by Short at = reached.Refused 31 0
+reached_by Bad at = reached.Refused 36 at
+reached_by (Whole kind start len next) at = reached.Box kind start len next
 
 -- `children`, the box at an offset: 30, 42, 31 or 36
-unfoldable pub childrenAt : List ℕ → ℕ → Reached
-childrenAt payload at =
-    if ltb mostBytes (length payload) then reached.Refused 30 0
+unfoldable pub children_at : List ℕ → ℕ → Reached
+children_at payload at =
+    if ltb most_bytes (length payload) then reached.Refused 30 0
     else if ltb (length payload) at then reached.Refused 42 0
-    else reachedBy (header_at payload at) at
+    else reached_by (header_at payload at) at
 
 -- The boxes of some bytes, in order, and how they end: fewer than 8 bytes are left, or at `at` stands a bad header.
 pub data Boxes : Type 0 where
@@ -65,35 +65,35 @@ pub data Boxes : Type 0 where
   box : (at kind start len : ℕ) → Boxes → Boxes
 
 -- the boxes from `at` on, by the header there and the boxes after it
-abbrev pub afterHeader : Header → ℕ → (ℕ → Boxes) → Boxes
-afterHeader Short at next = clean
-afterHeader Bad at next = bad at
-afterHeader (Whole kind start len after) at next = box at kind start len (next after)
+abbrev pub after_header : Header → ℕ → (ℕ → Boxes) → Boxes
+after_header Short at next = clean
+after_header Bad at next = bad at
+after_header (Whole kind start len after) at next = box at kind start len (next after)
 
 -- the boxes from `at` on, so many at most
-unfoldable pub boxesFrom : ℕ → List ℕ → ℕ → Boxes
-boxesFrom zero s at = clean
-boxesFrom (suc most) s at = afterHeader (header_at s at) at (boxesFrom most s)
+unfoldable pub boxes_from : ℕ → List ℕ → ℕ → Boxes
+boxes_from zero s at = clean
+boxes_from (suc most) s at = after_header (header_at s at) at (boxes_from most s)
 
 -- the boxes from `at` on: a box has 8 bytes at least, so there are no more of them than bytes
-unfoldable pub boxesAt : List ℕ → ℕ → Boxes
-boxesAt s at = boxesFrom (length s - at) s at
+unfoldable pub boxes_at : List ℕ → ℕ → Boxes
+boxes_at s at = boxes_from (length s - at) s at
 
-abbrev pub boxesOf : List ℕ → Boxes
-boxesOf s = boxesAt s 0
+abbrev pub boxes_of : List ℕ → Boxes
+boxes_of s = boxes_at s 0
 
 -- a byte of text, and a type whose four bytes are text
-abbrev pub textByte : ℕ → Bool
-textByte b = leb 0x20 b && leb b 0x7e
+abbrev pub text_byte : ℕ → Bool
+text_byte b = leb 0x20 b && leb b 0x7e
 
-unfoldable pub isText : ℕ → Bool
-isText kind = textByte (kind / 16777216) && (textByte (kind / 65536 % 256) && (textByte (kind / 256 % 256) && textByte (kind % 256)))
+unfoldable pub is_text : ℕ → Bool
+is_text kind = text_byte (kind / 16777216) && (text_byte (kind / 65536 % 256) && (text_byte (kind / 256 % 256) && text_byte (kind % 256)))
 
 -- the boxes up to the first whose type isn't text, which ends them as a bad header does
 unfoldable pub textual : Boxes → Boxes
 textual clean = clean
 textual (bad at) = bad at
-textual (box at kind start len rest) = if isText kind then box at kind start len (textual rest) else bad at
+textual (box at kind start len rest) = if is_text kind then box at kind start len (textual rest) else bad at
 
 -- the boxes that a search goes through, with text types or without
 abbrev pub searched : Bool → Boxes → Boxes
@@ -101,11 +101,11 @@ searched true b = textual b
 searched false b = b
 
 -- the first box that passes a test on its type, its payload's start and its payload's length, or how the boxes end
-unfoldable pub firstSuch : (ℕ → ℕ → ℕ → Bool) → Boxes → Walk
-firstSuch test clean = End
-firstSuch test (bad at) = BadAt at
-firstSuch test (box at kind start len rest) = if test kind start len then Found start len else firstSuch test rest
+unfoldable pub first_such : (ℕ → ℕ → ℕ → Bool) → Boxes → Walk
+first_such test clean = End
+first_such test (bad at) = BadAt at
+first_such test (box at kind start len rest) = if test kind start len then Found start len else first_such test rest
 
 -- the first box of a type
 abbrev pub first_of : ℕ → Boxes → Walk
-first_of kind = firstSuch (λ k start len. eqb k kind)
+first_of kind = first_such (λ k start len. eqb k kind)

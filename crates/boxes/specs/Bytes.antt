@@ -2,12 +2,12 @@
 use Rattle.std.specs.Prelude.{ℕ, ◌+◌, ◌*◌, List, get_or}
 
 -- the four bytes at `at`, the first the most significant
-abbrev pub be32At : List ℕ → ℕ → ℕ
-be32At s at = ((get_or s at 0 * 256 + get_or s (at + 1) 0) * 256 + get_or s (at + 2) 0) * 256 + get_or s (at + 3) 0
+abbrev pub be32_at : List ℕ → ℕ → ℕ
+be32_at s at = ((get_or s at 0 * 256 + get_or s (at + 1) 0) * 256 + get_or s (at + 2) 0) * 256 + get_or s (at + 3) 0
 
 -- the eight bytes at `at`
-abbrev pub be64At : List ℕ → ℕ → ℕ
-be64At s at = be32At s at * 4294967296 + be32At s (at + 4)
+abbrev pub be64_at : List ℕ → ℕ → ℕ
+be64_at s at = be32_at s at * 4294967296 + be32_at s (at + 4)
 
 -- `moov`, `udta`, `MTRM`, `trak`, `mdia`, `hdlr` and `vide`, their four letters as a number
 abbrev pub moov : ℕ

@@ -14,10 +14,10 @@ stop_at Short at = End
 stop_at (Whole kind start len after) at = End
 
 -- how far a walk came: the start of what it found, or the bad header's offset
-abbrev pub offsetIn : Walk → ℕ
-offsetIn (Found start len) = start
-offsetIn End = 0
-offsetIn (BadAt at) = at
+abbrev pub offset_in : Walk → ℕ
+offset_in (Found start len) = start
+offset_in End = 0
+offset_in (BadAt at) = at
 
 -- the part at a place lies within so many bytes
 abbrev pub Within : ℕ → Place → Type 0

@@ -10,8 +10,8 @@ mod table;
 pub mod track;
 
 ghost use Rattle.std.specs.Prelude.{◌≡◌};
-ghost use Rattle.boxes.specs.Boxes.{boxSize, childrenAt};
-ghost use Rattle.boxes.specs.Places.{PartAt, childPlace, findBoxPlace, tableTextPlace};
+ghost use Rattle.boxes.specs.Boxes.{box_size, children_at};
+ghost use Rattle.boxes.specs.Places.{PartAt, child_place, find_box_place, table_text_place};
 
 use part::{moved, moved_walk, part, place_of};
 use read::code;
@@ -76,9 +76,9 @@ pub enum Reached {
 }
 
 // The size of the box at the start of data and of its header, where remaining bytes are left of what it is in: the Rust's box_size. 30, 31.
-#[tactic(auto, using(choice::proofs::Tests::tests), unfolding(crate::specs::Boxes::boxSize))]
+#[tactic(auto, using(choice::proofs::Tests::tests), unfolding(crate::specs::Boxes::box_size))]
 pub fn box_size(data: &[u8], remaining: u64) -> Sized
-    ensures { result ≡ boxSize «data».now remaining }
+    ensures { result ≡ box_size «data».now remaining }
 {
     if data.len() > MOST_BYTES {
         return Sized::Refused(30, 0);
@@ -88,9 +88,9 @@ pub fn box_size(data: &[u8], remaining: u64) -> Sized
 
 // The box at an offset: a turn of the Rust's children. From 0 on, and then from each answer's next, all boxes are met, in order,
 // until 31, where fewer than 8 bytes are left, or 36, where a bad header stands: both are the Rust's None. 30, 42, 31 or 36.
-#[tactic(auto, using(choice::proofs::Tests::tests), unfolding(crate::specs::Boxes::childrenAt))]
+#[tactic(auto, using(choice::proofs::Tests::tests), unfolding(crate::specs::Boxes::children_at))]
 pub fn children(payload: &[u8], at: usize) -> Reached
-    ensures { result ≡ childrenAt payload.now at }
+    ensures { result ≡ children_at payload.now at }
 {
     if payload.len() > MOST_BYTES {
         return Reached::Refused(30, 0);
@@ -117,9 +117,9 @@ pub fn children(payload: &[u8], at: usize) -> Reached
 
 // Where the payload of the first child of a type lies: the Rust's child. 30, 31 where the boxes end without it, 36 where a bad header ends
 // them before, with its offset.
-#[tactic(auto, using(choice::proofs::Tests::tests), unfolding(crate::specs::Places::childPlace))]
+#[tactic(auto, using(choice::proofs::Tests::tests), unfolding(crate::specs::Places::child_place))]
 pub fn child_place(payload: &[u8], kind: u32) -> Place
-    ensures { result ≡ childPlace payload.now kind }
+    ensures { result ≡ child_place payload.now kind }
 {
     if payload.len() > MOST_BYTES {
         return Place::Refused(30, 0);
@@ -129,16 +129,16 @@ pub fn child_place(payload: &[u8], kind: u32) -> Place
 
 // That payload, as that part of the caller's bytes; empty on a refusal.
 pub fn child(payload: &[u8], kind: u32) -> &[u8]
-    ensures { PartAt payload.entry (childPlace payload.now kind) result }
+    ensures { PartAt payload.entry (child_place payload.now kind) result }
 {
     part(payload, child_place(payload, kind))
 }
 
 // Where the payload of the first box of a type among those from start to end lies, in the whole of bytes: the Rust's find_box. 30, 42, 31
 // or 36; the bad header's offset is in the whole too.
-#[tactic(auto, using(choice::proofs::Tests::tests), unfolding(crate::specs::Places::findBoxPlace))]
+#[tactic(auto, using(choice::proofs::Tests::tests), unfolding(crate::specs::Places::find_box_place))]
 pub fn find_box_place(bytes: &[u8], start: usize, end: usize, kind: u32, text_types: bool) -> Place
-    ensures { result ≡ findBoxPlace bytes.now start end kind text_types }
+    ensures { result ≡ find_box_place bytes.now start end kind text_types }
 {
     if bytes.len() > MOST_BYTES {
         return Place::Refused(30, 0);
@@ -155,14 +155,14 @@ pub fn find_box_place(bytes: &[u8], start: usize, end: usize, kind: u32, text_ty
 
 // That payload, as that part of the caller's bytes; empty on a refusal.
 pub fn find_box(bytes: &[u8], start: usize, end: usize, kind: u32, text_types: bool) -> &[u8]
-    ensures { PartAt bytes.entry (findBoxPlace bytes.now start end kind text_types) result }
+    ensures { PartAt bytes.entry (find_box_place bytes.now start end kind text_types) result }
 {
     part(bytes, find_box_place(bytes, start, end, kind, text_types))
 }
 
 // Where a file's segment table has its text, the payload of the only moov/udta/MTRM: the search of the Rust's read_isobmff. 30, 40, 41.
 pub fn table_text_place(file: &[u8]) -> Place
-    ensures { result ≡ tableTextPlace file.now }
+    ensures { result ≡ table_text_place file.now }
 {
     if file.len() > MOST_BYTES {
         return Place::Refused(30, 0);
@@ -175,7 +175,7 @@ pub fn table_text_place(file: &[u8]) -> Place
 
 // That text, as that part of the caller's bytes; empty on a refusal.
 pub fn table_text(file: &[u8]) -> &[u8]
-    ensures { PartAt file.entry (tableTextPlace file.now) result }
+    ensures { PartAt file.entry (table_text_place file.now) result }
 {
     part(file, table_text_place(file))
 }

@@ -1,14 +1,14 @@
 // Places in the caller's bytes, and the parts there.
 ghost use Rattle.std.specs.Prelude.{◌≡◌, ◌+◌, ◌<◌, ◌^◌, length};
-ghost use Rattle.boxes.specs.Places.{placeOr, place_of, start_of, PartAt, childIn, movedPlace, movedWalk};
-ghost use Rattle.boxes.specs.Steps.{offsetIn, Within};
+ghost use Rattle.boxes.specs.Places.{place_or, place_of, start_of, PartAt, child_in, moved_place, moved_walk};
+ghost use Rattle.boxes.specs.Steps.{offset_in, Within};
 
 use crate::search::find_child;
 use crate::{Place, Walk};
 
 // The place of what a walk found, or a number.
 pub(crate) fn place_or(number: u64, w: Walk) -> Place
-    ensures { result ≡ placeOr number w }
+    ensures { result ≡ place_or number w }
 {
     match w {
         Walk::Found { start, len } => Place::At { start, len },
@@ -30,8 +30,8 @@ pub(crate) fn place_of(w: Walk) -> Place
 
 // How a walk in a part ended, with offsets in the whole; the part starts at `by`.
 pub(crate) fn moved_walk(by: usize, w: Walk) -> Walk
-    requires { by + offsetIn w < 2 ^ 64 }
-    ensures { result ≡ movedWalk by w }
+    requires { by + offset_in w < 2 ^ 64 }
+    ensures { result ≡ moved_walk by w }
 {
     match w {
         Walk::Found { start, len } => Walk::Found {
@@ -46,7 +46,7 @@ pub(crate) fn moved_walk(by: usize, w: Walk) -> Walk
 // A place in a part, as a place in the whole; the part starts at `by`.
 pub(crate) fn moved(by: usize, p: Place) -> Place
     requires { by + start_of p < 2 ^ 64 }
-    ensures { result ≡ movedPlace by p }
+    ensures { result ≡ moved_place by p }
 {
     match p {
         Place::At { start, len } => Place::At {
@@ -70,15 +70,15 @@ pub(crate) fn part(s: &[u8], p: Place) -> &[u8]
 
 // The part that a walk found; empty where it found none.
 pub fn payload(s: &[u8], w: Walk) -> &[u8]
-    requires { Within (length s.now) (placeOr 31 w) }
-    ensures { PartAt s.entry (placeOr 31 w) result }
+    requires { Within (length s.now) (place_or 31 w) }
+    ensures { PartAt s.entry (place_or 31 w) result }
 {
     part(s, place_or(31, w))
 }
 
 // The payload of the first child of a type, however many bytes there are; empty where there is none.
 pub fn inner_child(s: &[u8], kind: u32) -> &[u8]
-    ensures { PartAt s.entry (childIn kind s.now) result }
+    ensures { PartAt s.entry (child_in kind s.now) result }
 {
     payload(s, find_child(s, kind))
 }

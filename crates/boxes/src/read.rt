@@ -1,6 +1,6 @@
 // Big-endian numbers in lent bytes.
 ghost use Rattle.std.specs.Prelude.{◌≡◌, ◌+◌, ◌*◌, ◌≤◌, length};
-ghost use Rattle.boxes.specs.Bytes.{be32At, be64At};
+ghost use Rattle.boxes.specs.Bytes.{be32_at, be64_at};
 
 // The number of four bytes, the first the most significant.
 fn joined(a: u8, b: u8, c: u8, d: u8) -> u32
@@ -12,7 +12,7 @@ fn joined(a: u8, b: u8, c: u8, d: u8) -> u32
 // The four bytes at an offset: the Rust's be_u32, where they are there.
 pub fn be32(s: &[u8], at: usize) -> u32
     requires { at + 4 ≤ length s.now }
-    ensures { result ≡ be32At s.now at }
+    ensures { result ≡ be32_at s.now at }
 {
     joined(s[at], s[at + 1], s[at + 2], s[at + 3])
 }
@@ -20,14 +20,14 @@ pub fn be32(s: &[u8], at: usize) -> u32
 // The eight bytes at an offset: the Rust's be_u64, where they are there.
 pub fn be64(s: &[u8], at: usize) -> u64
     requires { at + 8 ≤ length s.now }
-    ensures { result ≡ be64At s.now at }
+    ensures { result ≡ be64_at s.now at }
 {
     (be32(s, at) as u64) * 4294967296 + (be32(s, at + 4) as u64)
 }
 
 // A type's number, as `code(b"moov")`.
 pub fn code(kind: &[u8; 4]) -> u32
-    ensures { result ≡ be32At kind.now 0 }
+    ensures { result ≡ be32_at kind.now 0 }
 {
     be32(kind, 0)
 }

@@ -1,6 +1,6 @@
 // The walk over the boxes of some bytes.
 ghost use Rattle.std.specs.Prelude.{◌≡◌};
-ghost use Rattle.boxes.specs.Boxes.{boxesOf, searched, first_of, textByte, isText};
+ghost use Rattle.boxes.specs.Boxes.{boxes_of, searched, first_of, text_byte, is_text};
 ghost use Rattle.boxes.specs.Steps.{stop_at};
 
 use crate::size::header_at;
@@ -24,15 +24,15 @@ pub(crate) fn stopped(h: Header, at: usize) -> Walk
 
 // Whether a byte is text, 20 to 7E hex.
 fn text_byte(b: u32) -> bool
-    ensures { result ≡ textByte b }
+    ensures { result ≡ text_byte b }
 {
     (0x20 <= b) & (b <= 0x7e)
 }
 
 // Whether the four bytes of a type are text.
-#[tactic(auto, unfolding(crate::specs::Boxes::isText))]
+#[tactic(auto, unfolding(crate::specs::Boxes::is_text))]
 fn is_text(kind: u32) -> bool
-    ensures { result ≡ isText kind }
+    ensures { result ≡ is_text kind }
 {
     text_byte(kind / 16777216)
         & (text_byte(kind / 65536 % 256) & (text_byte(kind / 256 % 256) & text_byte(kind % 256)))
@@ -40,7 +40,7 @@ fn is_text(kind: u32) -> bool
 
 // The first box of a type; with text types a type that isn't text ends the walk as a bad header does.
 pub(crate) fn find(s: &[u8], kind: u32, text_types: bool) -> Walk
-    ensures { result ≡ first_of kind (searched text_types (boxesOf s.now)) }
+    ensures { result ≡ first_of kind (searched text_types (boxes_of s.now)) }
 {
     let mut at = 0;
     loop {
@@ -66,7 +66,7 @@ pub(crate) fn find(s: &[u8], kind: u32, text_types: bool) -> Walk
 
 // The first child of a type.
 pub fn find_child(s: &[u8], kind: u32) -> Walk
-    ensures { result ≡ first_of kind (boxesOf s.now) }
+    ensures { result ≡ first_of kind (boxes_of s.now) }
 {
     find(s, kind, false)
 }

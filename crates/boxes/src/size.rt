@@ -1,14 +1,14 @@
 // A box's size, and the header at an offset.
 ghost use Rattle.std.specs.Prelude.{◌≡◌, ◌≤◌, length};
-ghost use Rattle.boxes.specs.Boxes.{fittingIn, size_of, header_at};
+ghost use Rattle.boxes.specs.Boxes.{fitting_in, size_of, header_at};
 
 use crate::read::{be32, be64};
 use crate::{Header, Sized};
 
 // A size and its header's, where the size is at least the header and at most what remains.
-#[tactic(auto, using(choice::proofs::Tests::tests), unfolding(crate::specs::Boxes::fittingIn))]
+#[tactic(auto, using(choice::proofs::Tests::tests), unfolding(crate::specs::Boxes::fitting_in))]
 fn fitting(remaining: u64, header: u64, size: u64) -> Sized
-    ensures { result ≡ fittingIn remaining header size }
+    ensures { result ≡ fitting_in remaining header size }
 {
     if size < header {
         return Sized::Refused(31, 0);

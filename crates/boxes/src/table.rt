@@ -1,7 +1,7 @@
 // The search for the MTRM box of a moov.
 ghost use Rattle.std.specs.Prelude.{◌≡◌};
-ghost use Rattle.boxes.specs.Boxes.{boxesOf};
-ghost use Rattle.boxes.specs.Places.{all_of, onlyOf, tableIn};
+ghost use Rattle.boxes.specs.Boxes.{boxes_of};
+ghost use Rattle.boxes.specs.Places.{all_of, only_of, table_in};
 
 use crate::part::moved;
 use crate::read::code;
@@ -11,7 +11,7 @@ use crate::{Header, Place, Walk};
 
 // The only child of a type: 40 where there is none, 41 where there are more. The walk ends at the second.
 fn only_child(s: &[u8], kind: u32) -> Place
-    ensures { result ≡ onlyOf (all_of kind (boxesOf s.now)) }
+    ensures { result ≡ only_of (all_of kind (boxes_of s.now)) }
 {
     let mut at = 0;
     let mut found = Place::Refused(40, 0);
@@ -38,7 +38,7 @@ fn only_child(s: &[u8], kind: u32) -> Place
 
 // Where the only MTRM box of a moov's first udta has its payload, in the moov.
 pub(crate) fn table_of(moov: &[u8]) -> Place
-    ensures { result ≡ tableIn moov.now }
+    ensures { result ≡ table_in moov.now }
 {
     let Walk::Found { start, len } = find_child(moov, code(b"udta")) else {
         return Place::Refused(40, 0);

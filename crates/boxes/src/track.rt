@@ -1,6 +1,6 @@
 // The first video track of a moov.
 ghost use Rattle.std.specs.Prelude.{◌≡◌, ◌+◌, ◌≤◌, length};
-ghost use Rattle.boxes.specs.Tracks.{isVideo, isVideoTrack, videoTrack};
+ghost use Rattle.boxes.specs.Tracks.{is_video, is_video_track, video_track};
 
 use crate::part::{inner_child, payload};
 use crate::read::{be32, code};
@@ -9,9 +9,9 @@ use crate::size::header_at;
 use crate::{Header, Walk};
 
 // Whether a track is a video track: its first mdia's first hdlr has `vide` at 8.
-#[tactic(auto, using(choice::proofs::Tests::tests), unfolding(crate::specs::Tracks::isVideo))]
+#[tactic(auto, using(choice::proofs::Tests::tests), unfolding(crate::specs::Tracks::is_video))]
 fn is_video(trak: &[u8]) -> bool
-    ensures { result ≡ isVideo trak.now }
+    ensures { result ≡ is_video trak.now }
 {
     let hdlr = inner_child(inner_child(trak, code(b"mdia")), code(b"hdlr"));
     if hdlr.len() < 12 {
@@ -21,10 +21,10 @@ fn is_video(trak: &[u8]) -> bool
 }
 
 // Whether a box of a moov is a video track.
-#[tactic(auto, using(choice::proofs::Tests::tests), unfolding(crate::specs::Tracks::isVideoTrack))]
+#[tactic(auto, using(choice::proofs::Tests::tests), unfolding(crate::specs::Tracks::is_video_track))]
 fn is_video_track(s: &[u8], kind: u32, start: usize, len: usize) -> bool
     requires { start + len ≤ length s.now }
-    ensures { result ≡ isVideoTrack s.now kind start len }
+    ensures { result ≡ is_video_track s.now kind start len }
 {
     if kind != code(b"trak") {
         return false;
@@ -34,7 +34,7 @@ fn is_video_track(s: &[u8], kind: u32, start: usize, len: usize) -> bool
 
 // The first video track of a moov, as video_frame_times_of_moov looks for it.
 pub fn find_video_track(moov: &[u8]) -> Walk
-    ensures { result ≡ videoTrack moov.now }
+    ensures { result ≡ video_track moov.now }
 {
     let mut at = 0;
     loop {

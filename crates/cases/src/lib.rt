@@ -2,6 +2,7 @@
 // compare/README.md has the form of cases and answers.
 #![tactic(auto)]
 
+pub mod element;
 pub mod lent;
 pub mod lines;
 pub mod read;

@@ -37,25 +37,12 @@ fn line_end(text: &[u8], from: usize, held: usize) -> usize
     requires { (from ≤ held) × (held ≤ length text.now) }
     ensures { result ≤ held }
 {
-    let mut i = from;
-    while i < held {
+    for i in from..held {
         if text[i] == 10 {
             return i;
         }
-        i += 1;
     }
-    i
-}
-
-// The bytes from a place on are moved to the front.
-fn to_front(text: &mut [u8], from: usize, held: usize)
-    requires { (from ≤ held) × (held ≤ length text.old) }
-{
-    let mut i = from;
-    while i < held {
-        text[i - from] = text[i];
-        i += 1;
-    }
+    held
 }
 
 // The bytes from a place on stay, and more are read after them: how many are held then. Where a read fails that is said, and none are: what was cut off is no case.
@@ -69,7 +56,7 @@ fn refilled<R: Read>(
     requires { (from ≤ held) × (held ≤ length text.old) }
     ensures { result ≤ length text.new }
 {
-    to_front(text, from, held);
+    text.copy_within(from..held, 0);
     let kept = held - from;
     let more = reading::fill(input, &mut text[kept..]);
     if more.failed {
@@ -81,30 +68,18 @@ fn refilled<R: Read>(
 
 // The line after the one at hand. One that is longer than the piece comes in parts.
 pub fn next<R: Read>(rt: &impl Print, input: &mut R, text: &mut [u8], l: Lines) -> Lines {
-    let from = l.next;
-    let held = l.held;
-    if text.len() < held {
+    if (text.len() < l.held) | (l.held < l.next) {
         return none();
     }
-    if held < from {
-        return none();
+    let end = line_end(text, l.next, l.held);
+    if end < l.held {
+        return at(l.next, end, l.held);
     }
-    let end = line_end(text, from, held);
-    if end < held {
-        return at(from, end, held);
-    }
-    let more = refilled(rt, input, text, from, held);
+    let more = refilled(rt, input, text, l.next, l.held);
     at(0, line_end(text, 0, more), more)
 }
 
 // The line at hand, without its line feed.
 pub fn line(text: &[u8], l: Lines) -> &[u8] {
-    let from = l.from;
-    let to = l.to;
-    if to <= text.len() {
-        if from <= to {
-            return &text[from..to];
-        }
-    }
-    &text[..0]
+    text.get(l.from..l.to).unwrap_or(&[])
 }

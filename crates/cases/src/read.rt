@@ -2,6 +2,7 @@
 ghost use Rattle.std.specs.Prelude.{◌≤◌, ◌≡◌, length};
 ghost use Rattle.cases.specs.Counts.{Counts};
 
+use crate::element::Element;
 use steps::{Integer, Number};
 
 // The largest code of a box type.
@@ -21,10 +22,7 @@ pub struct Cursor {
 fn rest_of(line: &[u8], at: usize) -> &[u8]
     ensures { length result.now ≤ length line.now }
 {
-    if at <= line.len() {
-        return &line[at..];
-    }
-    &line[..0]
+    line.get(at..).unwrap_or(&[])
 }
 
 // The word that comes next, empty where there is none.
@@ -66,36 +64,28 @@ fn read(at: usize, good: bool, number: u64) -> Cursor
 
 // Whether there was nothing more to read and all had its form.
 pub fn ended(line: &[u8], c: Cursor) -> bool {
-    let at = c.at;
-    if word(line, at).len() == 0 {
-        return c.good;
-    }
-    false
+    (word(line, c.at).len() == 0) & c.good
 }
 
 // A number.
 pub fn number(line: &[u8], c: Cursor) -> Cursor {
-    let at = c.at;
-    match steps::number_of(word(line, at)) {
-        Number::Is(n) => read(after(line, at), c.good, n),
-        Number::Large => read(after(line, at), false, 0),
-        Number::Not => read(after(line, at), false, 0),
+    match steps::number_of(word(line, c.at)) {
+        Number::Is(n) => read(after(line, c.at), c.good, n),
+        Number::Large | Number::Not => read(after(line, c.at), false, 0),
     }
 }
 
 // A signed number.
 pub fn signed(line: &[u8], c: Cursor) -> Cursor {
-    let at = c.at;
-    match steps::integer_of(word(line, at)) {
+    match steps::integer_of(word(line, c.at)) {
         Integer::Is(z) => Cursor {
-            at: after(line, at),
+            at: after(line, c.at),
             good: c.good,
             number: 0,
             signed: z,
             count: 0,
         },
-        Integer::Large => read(after(line, at), false, 0),
-        Integer::Not => read(after(line, at), false, 0),
+        Integer::Large | Integer::Not => read(after(line, c.at), false, 0),
     }
 }
 
@@ -143,33 +133,15 @@ fn counted(c: Cursor, count: usize) -> Cursor
     }
 }
 
-// A list of numbers.
-pub fn words(line: &[u8], c: Cursor, out: &mut [u64]) -> Cursor
+// A list.
+pub fn list<T: Element>(line: &[u8], c: Cursor, out: &mut [T]) -> Cursor
     ensures { Counts result.count out.new }
 {
     let mut r = room(line, c, out.len());
     let n = r.count;
-    let mut i = 0;
-    while i < n {
-        r = number(line, r);
-        out[i] = r.number;
-        i += 1;
-    }
-    counted(r, n)
-}
-
-// A list of signed numbers.
-pub fn longs(line: &[u8], c: Cursor, out: &mut [i64]) -> Cursor
-    ensures { Counts result.count out.new }
-{
-    let mut r = room(line, c, out.len());
-    let n = r.count;
-    let mut i = 0;
-    while i < n {
-        r = signed(line, r);
-        let z = r.signed;
-        out[i] = z;
-        i += 1;
+    for x in &mut out[..n] {
+        r = T::read(line, r);
+        *x = T::last(r);
     }
     counted(r, n)
 }
@@ -178,19 +150,11 @@ pub fn longs(line: &[u8], c: Cursor, out: &mut [i64]) -> Cursor
 fn hex_digit(b: u8) -> u8
     ensures { result ≤ 16 }
 {
-    if b < 48 {
-        return 16;
+    match b {
+        b'0'..=b'9' => b - b'0',
+        b'a'..=b'f' => b - b'a' + 10,
+        _ => 16,
     }
-    if b <= 57 {
-        return b - 48;
-    }
-    if b < 97 {
-        return 16;
-    }
-    if b <= 102 {
-        return b - 87;
-    }
-    16
 }
 
 // A byte of two hex digits.
@@ -202,24 +166,16 @@ fn joined(high: u8, low: u8) -> u8
 
 // The bytes of a word of two hex digits each, as many as there is room for; whether it was such a word.
 fn hex(w: &[u8], out: &mut [u8]) -> bool {
-    if w.len() % 2 != 0 {
+    if (w.len() % 2 != 0) | (w.len() / 2 != out.len()) {
         return false;
     }
-    if w.len() / 2 != out.len() {
-        return false;
-    }
-    let mut i = 0;
-    while i < out.len() {
-        let high = hex_digit(w[2 * i]);
-        let low = hex_digit(w[2 * i + 1]);
-        if 15 < high {
+    for (x, pair) in out.iter_mut().zip(w.chunks_exact(2)) {
+        let high = hex_digit(pair[0]);
+        let low = hex_digit(pair[1]);
+        if (15 < high) | (15 < low) {
             return false;
         }
-        if 15 < low {
-            return false;
-        }
-        out[i] = joined(high, low);
-        i += 1;
+        *x = joined(high, low);
     }
     true
 }
@@ -233,7 +189,6 @@ pub fn bytes(line: &[u8], c: Cursor, out: &mut [u8]) -> Cursor
     if n == 0 {
         return r;
     }
-    let at = r.at;
-    let good = hex(word(line, at), &mut out[..n]);
-    counted(read(after(line, at), r.good & good, 0), n)
+    let good = hex(word(line, r.at), &mut out[..n]);
+    counted(read(after(line, r.at), r.good & good, 0), n)
 }

@@ -1,5 +1,8 @@
 // An answer's line, to standard output. A value is one write, with the space before it.
+use crate::element::Element;
+use crate::lent::kept;
 use printing::{number, text};
+use std::fmt::Display;
 
 // The most rows of a map, and the words of a row.
 const MOST_ROWS: usize = 1024;
@@ -20,7 +23,7 @@ pub fn flag(rt: &impl Print, yes: bool) {
 // An answer's beginning: the number and the index of a refusal.
 pub fn refused(rt: &impl Print, refusal: u64, index: usize) {
     number(rt, refusal);
-    value(rt, index as u64);
+    value(rt, index);
 }
 
 // The same where accepted, before the values.
@@ -29,36 +32,14 @@ pub fn accepted(rt: &impl Print) {
 }
 
 // A value.
-pub fn value(rt: &impl Print, n: u64) {
-    let _ = print!(rt; " {n}");
+pub fn value<T: Display + Drop>(rt: &impl Print, x: T) {
+    let _ = print!(rt; " {x}");
 }
 
-// A signed value.
-pub fn long(rt: &impl Print, z: i64) {
-    let _ = print!(rt; " {z}");
-}
-
-// The first n of a list of numbers.
-pub fn words(rt: &impl Print, u: &[u64], n: usize) {
-    let mut i = 0;
-    while i < u.len() {
-        if i == n {
-            return;
-        }
-        value(rt, u[i]);
-        i += 1;
-    }
-}
-
-// The first n of a list of signed numbers.
-pub fn longs(rt: &impl Print, s: &[i64], n: usize) {
-    let mut i = 0;
-    while i < s.len() {
-        if i == n {
-            return;
-        }
-        long(rt, s[i]);
-        i += 1;
+// The first n elements of a list.
+pub fn list<T: Element>(rt: &impl Print, list: &[T], n: usize) {
+    for &x in list.iter().take(n) {
+        value(rt, x);
     }
 }
 
@@ -69,14 +50,14 @@ fn row_words(n: usize) -> usize {
 
 // The first n rows of lent slices; whether all after them is as it was lent.
 pub fn rows(rt: &impl Print, u: &[u64], s: &[i64], n: usize) -> bool {
-    words(rt, u, row_words(n));
-    longs(rt, s, n);
+    list(rt, u, row_words(n));
+    list(rt, s, n);
     unwritten(u, s, n)
 }
 
 // Whether all after the first n rows is as it was lent.
 pub fn unwritten(u: &[u64], s: &[i64], n: usize) -> bool {
-    crate::lent::kept_words(u, row_words(n)) & crate::lent::kept_longs(s, n)
+    kept(u, row_words(n)) & kept(s, n)
 }
 
 // The end of the line, with what is wrong where a call wrote more than its answer.

@@ -1,7 +1,7 @@
 // A table, the arguments that most calls begin with.
 ghost use Rattle.cases.specs.Counts.{Counts};
 
-use crate::read::{Cursor, bytes, flag, longs, words};
+use crate::read::{Cursor, bytes, flag, list};
 
 // How much of each lent slice a table takes, its log flag, and where reading stands after it.
 #[derive(Clone, Copy)]
@@ -26,9 +26,9 @@ pub fn read(
 ) -> Table
     ensures { Counts result.sources sources.new × Counts result.segments u.new × Counts result.times t.new × Counts result.text text.new }
 {
-    let a = words(line, c, sources);
-    let b = words(line, a, u);
-    let s = longs(line, b, t);
+    let a = list(line, c, sources);
+    let b = list(line, a, u);
+    let s = list(line, b, t);
     let log = flag(line, s);
     let e = bytes(line, log, text);
     Table {

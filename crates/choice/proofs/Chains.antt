@@ -7,13 +7,13 @@ use borrow.Author.Tests.{ltb-false, le-ltb}
 use Rattle.choice.specs.declared.Refusal.{Refusal}
 use Rattle.choice.specs.declared.Refusal.TheVariants.{Never, At}
 use Rattle.choice.specs.Choice.{when, past}
-use Rattle.choice.specs.Records.{orRefused}
+use Rattle.choice.specs.Records.{or_refused}
 use Rattle.choice.specs.Steps.{or_else}
 
-pub orElse-kept : (n rest : ℕ) → (n ≡ 0 → ⊥) → n ≡ or_else n rest
+pub or_else-kept : (n rest : ℕ) → (n ≡ 0 → ⊥) → n ≡ or_else n rest
 unfolding or_else
-orElse-kept zero rest h = absurd (h refl)
-orElse-kept (suc n) rest h = refl
+or_else-kept zero rest h = absurd (h refl)
+or_else-kept (suc n) rest h = refl
 
 -- no test of a chain held
 pub when-zero : (b : Bool) (n rest : ℕ) → (n ≡ 0 → ⊥) → when b n rest ≡ 0 → (b ≡ false) × (rest ≡ 0)
@@ -35,7 +35,7 @@ unfolding when
 when-never true n i rest e = let z : ◌≡◌ {A = ℕ} 0 1 = cc in absurd (omega arith)
 when-never false n i rest e = (refl, e)
 
-pub or-never : (x y : Refusal) → orRefused x y ≡ Never → (x ≡ Never) × (y ≡ Never)
-unfolding orRefused
+pub or-never : (x y : Refusal) → or_refused x y ≡ Never → (x ≡ Never) × (y ≡ Never)
+unfolding or_refused
 or-never Never y e = (refl, e)
 or-never (At n i) y e = let z : ◌≡◌ {A = ℕ} 0 1 = cc in absurd (omega arith)

@@ -12,7 +12,7 @@ use borrow.Author.Tests.{eq-eqb, ne_eqb, eqb-true}
 use Rattle.choice.specs.declared.Refusal.{Refusal}
 use Rattle.choice.specs.declared.Refusal.TheVariants.{Never, At}
 use Rattle.choice.specs.Choice.{when}
-use Rattle.choice.specs.Records.{run, any, firstRefused}
+use Rattle.choice.specs.Records.{run, any, first_refused}
 use Rattle.choice.proofs.Tests.{decide}
 
 pub map-run : {A B : Type 0} (f : ℕ → A) (g : A → B) (i n : ℕ) → map g (run f i n) ≡ run (λ j. g (f j)) i n
@@ -21,8 +21,8 @@ map-run f g i zero = refl
 map-run f g i (suc n) = ap (λ l. g (f i) ∷ l) (map-run f g (suc i) n)
 
 -- no record is refused exactly where the rule gives 0 for each
-pub none-refused : {A : Type 0} (f : A → ℕ) (i : ℕ) (l : List A) (d : A) → firstRefused f i l ≡ Never → (k : ℕ) → k < length l → f (get_or l k d) ≡ 0
-unfolding firstRefused when
+pub none-refused : {A : Type 0} (f : A → ℕ) (i : ℕ) (l : List A) (d : A) → first_refused f i l ≡ Never → (k : ℕ) → k < length l → f (get_or l k d) ≡ 0
+unfolding first_refused when
 none-refused f i [] d e k h = absurd (not-suc-le-zero h)
 none-refused {A} f i (x ∷ l) d e k h =
     decide (eqb (f x) 0)
@@ -33,16 +33,16 @@ none-refused {A} f i (x ∷ l) d e k h =
     at zero h p q = p
     at (suc k) h p q = q k (le_of_suc-le-suc h)
 
-pub refuses-none : {A : Type 0} (f : A → ℕ) (i : ℕ) (l : List A) (d : A) → ((k : ℕ) → k < length l → f (get_or l k d) ≡ 0) → firstRefused f i l ≡ Never
-unfolding firstRefused when
+pub refuses-none : {A : Type 0} (f : A → ℕ) (i : ℕ) (l : List A) (d : A) → ((k : ℕ) → k < length l → f (get_or l k d) ≡ 0) → first_refused f i l ≡ Never
+unfolding first_refused when
 refuses-none f i [] d h = refl
 refuses-none f i (x ∷ l) d h =
     rw (eq-eqb (f x) 0 (h 0 (omega arith))) (refuses-none f (suc i) l d (λ k b. h (suc k) (omega arith)))
 
 -- the record that is refused, where none before it is
 pub first-refused : {A : Type 0} (f : A → ℕ) (i : ℕ) (l : List A) (d : A) (k : ℕ) → k < length l → ((j : ℕ) → j < k → f (get_or l j d) ≡ 0) → (f (get_or l k d) ≡ 0 → ⊥)
-    → firstRefused f i l ≡ At (f (get_or l k d)) (i + k)
-unfolding firstRefused when
+    → first_refused f i l ≡ At (f (get_or l k d)) (i + k)
+unfolding first_refused when
 first-refused f i [] d k h p q = absurd (not-suc-le-zero h)
 first-refused f i (x ∷ l) d zero h p q = rw (ne_eqb (f x) 0 q) (ap (At (f x)) (sym (add-zero i)))
 first-refused f i (x ∷ l) d (suc k) h p q =
@@ -67,11 +67,11 @@ module _ {A : Type 0} (f : ℕ → A) where
   length_run i zero = refl
   length_run i (suc n) = ap suc (length_run (suc i) n)
 
-  pub getD-run : (i n k : ℕ) (d : A) → k < n → get_or (run f i n) k d ≡ f (i + k)
+  pub get_d-run : (i n k : ℕ) (d : A) → k < n → get_or (run f i n) k d ≡ f (i + k)
   unfolding run
-  getD-run i zero k d h = absurd (not-suc-le-zero h)
-  getD-run i (suc n) zero d h = ap f (sym (add-zero i))
-  getD-run i (suc n) (suc k) d h = getD-run (suc i) n k d (le_of_suc-le-suc h) ∙ ap f (omega arith)
+  get_d-run i zero k d h = absurd (not-suc-le-zero h)
+  get_d-run i (suc n) zero d h = ap f (sym (add-zero i))
+  get_d-run i (suc n) (suc k) d h = get_d-run (suc i) n k d (le_of_suc-le-suc h) ∙ ap f (omega arith)
 
   -- a loop's invariant is `any p (run f k (m - k)) ≡ x`, with x the whole answer
   module _ (p : A → Bool) (k m : ℕ) {x : Bool} where
@@ -87,20 +87,20 @@ module _ {A : Type 0} (f : ℕ → A) where
     unfolding any
     any-end h i = sym (ap (any p) (run-nil k m h)) ∙ i
 
-  -- the same at `firstRefused g k (run f k (m - k)) ≡ x`
+  -- the same at `first_refused g k (run f k (m - k)) ≡ x`
   module _ (g : A → ℕ) (k m : ℕ) where
-    first-cons : k < m → firstRefused g k (run f k (m - k)) ≡ when (eqb (g (f k)) 0) (firstRefused g (k + 1) (run f (k + 1) (m - (k + 1)))) (At (g (f k)) k)
-    unfolding firstRefused
-    first-cons h = ap (firstRefused g k) (run-cons k m h) ∙ rw add-one
+    first-cons : k < m → first_refused g k (run f k (m - k)) ≡ when (eqb (g (f k)) 0) (first_refused g (k + 1) (run f (k + 1) (m - (k + 1)))) (At (g (f k)) k)
+    unfolding first_refused
+    first-cons h = ap (first_refused g k) (run-cons k m h) ∙ rw add-one
 
-    pub first-turn : {x : Refusal} → k < m → g (f k) ≡ 0 → firstRefused g k (run f k (m - k)) ≡ x → firstRefused g (k + 1) (run f (k + 1) (m - (k + 1))) ≡ x
+    pub first-turn : {x : Refusal} → k < m → g (f k) ≡ 0 → first_refused g k (run f k (m - k)) ≡ x → first_refused g (k + 1) (run f (k + 1) (m - (k + 1))) ≡ x
     unfolding when
     first-turn h e i = sym (first-cons h ∙ rw (eq-eqb (g (f k)) 0 e)) ∙ i
 
-    pub first-hit : {n : ℕ} {x : Refusal} → k < m → n ≡ g (f k) → (n ≡ 0 → ⊥) → firstRefused g k (run f k (m - k)) ≡ x → At n k ≡ x
+    pub first-hit : {n : ℕ} {x : Refusal} → k < m → n ≡ g (f k) → (n ≡ 0 → ⊥) → first_refused g k (run f k (m - k)) ≡ x → At n k ≡ x
     unfolding when
     first-hit {n} h e z i = rw e (sym (first-cons h ∙ rw (ne_eqb (g (f k)) 0 (rw e at z))) ∙ i)
 
-    pub first-end : {x : Refusal} → m ≤ k → firstRefused g k (run f k (m - k)) ≡ x → Never ≡ x
-    unfolding firstRefused
-    first-end h i = sym (ap (firstRefused g k) (run-nil k m h)) ∙ i
+    pub first-end : {x : Refusal} → m ≤ k → first_refused g k (run f k (m - k)) ≡ x → Never ≡ x
+    unfolding first_refused
+    first-end h i = sym (ap (first_refused g k) (run-nil k m h)) ∙ i

@@ -1,4 +1,4 @@
--- A choice by a test, and chains of tests in order.
+-- Chains of tests in order.
 use Rattle.std.specs.Prelude.{ℕ, ◌+◌, Bool, true, false, ltb}
 
 -- what is given where a test holds, else what the tests after it give
@@ -7,8 +7,8 @@ when true n rest = n
 when false n rest = rest
 
 -- the largest u64, 2^64 - 1
-abbrev pub maxU64 : ℕ
-maxU64 = 0xffff_ffff_ffff_ffff
+abbrev pub max_u64 : ℕ
+max_u64 = 0xffff_ffff_ffff_ffff
 
 -- a and b together pass m
 unfoldable pub past : ℕ → ℕ → ℕ → Bool

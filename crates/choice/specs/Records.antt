@@ -15,11 +15,11 @@ any p [] = false
 any p (a ∷ l) = p a || any p l
 
 -- the first record that a rule refuses, from the i-th on; a rule answers 0 where it doesn't refuse
-unfoldable pub firstRefused : {A : Type 0} → (A → ℕ) → ℕ → List A → Refusal
-firstRefused f i [] = Never
-firstRefused f i (a ∷ l) = when (eqb (f a) 0) (firstRefused f (suc i) l) (At (f a) i)
+unfoldable pub first_refused : {A : Type 0} → (A → ℕ) → ℕ → List A → Refusal
+first_refused f i [] = Never
+first_refused f i (a ∷ l) = when (eqb (f a) 0) (first_refused f (suc i) l) (At (f a) i)
 
 -- what the tests before refused, else what those after them do
-unfoldable pub orRefused : Refusal → Refusal → Refusal
-orRefused Never rest = rest
-orRefused (At n i) rest = At n i
+unfoldable pub or_refused : Refusal → Refusal → Refusal
+or_refused Never rest = rest
+or_refused (At n i) rest = At n i

@@ -1,4 +1,4 @@
-// The words that the definitions of every crate share: a chain of tests in order, a choice, the first record refused.
+// The words that the definitions of every crate share: a chain of tests in order, the first record refused.
 #![tactic(auto)]
 
 ghost use Rattle.std.specs.Prelude.{◌≡◌};

@@ -12,16 +12,16 @@ use Rattle.choice.specs.declared.Refusal.TheVariants.{Never}
 use Rattle.slices.specs.Slices.{laid, after}
 use Rattle.rows.specs.declared.Row.{Row}
 use Rattle.rows.specs.Rows.{cut}
-use Rattle.rows.specs.Lent.{rows, words_of, shiftsOf}
+use Rattle.rows.specs.Lent.{rows, words_of, shifts_of}
 use Rattle.rows.proofs.Flat.{words_append, shifts-append, length-words, length-shifts}
 use Rattle.maps.specs.declared.Mapped.{Mapped}
 use Rattle.maps.specs.declared.Mapped.TheVariants.{Rows, Refused}
-use Rattle.maps.specs.Answers.{mappedOf, Cut}
+use Rattle.maps.specs.Answers.{mapped_of, Cut}
 use Rattle.maps.specs.Laws.{LentMap}
 use Rattle.maps.proofs.Lawful as maps
 use Rattle.maps.proofs.ReadBack.{none, count, words_are, shifts-are, as_lent, as-lent-refused}
-use Rattle.cuts.specs.Answers.{rangeAt, rangesOf, cuts_of, concat, cutsRefusal, Cuts}
-use Rattle.cuts.specs.Laws.{sum, rowsBefore, Accepted, CountsAsLent, CutsLaws}
+use Rattle.cuts.specs.Answers.{range_at, ranges_of, cuts_of, concat, cuts_refusal, Cuts}
+use Rattle.cuts.specs.Laws.{sum, rows_before, Accepted, CountsAsLent, CutsLaws}
 use Rattle.cuts.proofs.Refused.{Cuttable, cuts-never, cuts-accepted, length-cuts}
 use Rattle.cuts.proofs.Rows.{cut_at, count_at}
 use Rattle.cuts.proofs.Single.{one}
@@ -58,9 +58,9 @@ lent c = record { some = c.ready.sound.some; sizes = c.ready.sound.sizes; well =
 
 module _ (u : List ℕ) (s : List ℤ) (ranges ou : List ℕ) (os : List ℤ) (counts : List ℕ) {n : ℕ} {ou' : List ℕ} {os' : List ℤ} {counts' : List ℕ} (p : Cuts u s ranges ou os counts (Rows n) ou' os' counts') where
   abbrev all : List (List Row)
-  all = cuts_of (rows u s) (rangesOf ranges)
+  all = cuts_of (rows u s) (ranges_of ranges)
 
-  free : cutsRefusal u s ranges (length ou) (length os) (length counts) ≡ Never
+  free : cuts_refusal u s ranges (length ou) (length os) (length counts) ≡ Never
   free = none p.placed
 
   can : Cuttable u s ranges (length ou) (length os) (length counts)
@@ -69,8 +69,8 @@ module _ (u : List ℕ) (s : List ℤ) (ranges ou : List ℕ) (os : List ℤ) (c
   the-words : ou' ≡ laid (words_of (concat all)) ou
   the-words = p.placed.words ∙ ap (λ (x : Refusal). after x (words_of (concat all)) ou) free
 
-  the-shifts : os' ≡ laid (shiftsOf (concat all)) os
-  the-shifts = p.placed.shifts ∙ ap (λ (x : Refusal). after x (shiftsOf (concat all)) os) free
+  the-shifts : os' ≡ laid (shifts_of (concat all)) os
+  the-shifts = p.placed.shifts ∙ ap (λ (x : Refusal). after x (shifts_of (concat all)) os) free
 
   the-counts : counts' ≡ laid (map length all) counts
   the-counts = p.counted ∙ ap (λ (x : Refusal). after x (map length all) counts) free
@@ -78,64 +78,64 @@ module _ (u : List ℕ) (s : List ℤ) (ranges ou : List ℕ) (os : List ℤ) (c
   many : length (map length all) ≡ length ranges / 2
   many = length-map all length ∙ length-cuts (rows u s) ranges
 
-  rows_before : (k : ℕ) → k ≤ length ranges / 2 → rowsBefore k counts' ≡ length (concat (take k all))
-  rows_before k h =
-      ap (rowsBefore k) the-counts ∙ ap sum (take-append-le k (map length all) (drop (length (map length all)) counts) (omega (arith, many))) ∙ sym (length_before all k)
+  rows_before-are : (k : ℕ) → k ≤ length ranges / 2 → rows_before k counts' ≡ length (concat (take k all))
+  rows_before-are k h =
+      ap (rows_before k) the-counts ∙ ap sum (take-append-le k (map length all) (drop (length (map length all)) counts) (omega (arith, many))) ∙ sym (length_before all k)
 
-  sum-all : n ≡ rowsBefore (length ranges / 2) counts'
+  sum-all : n ≡ rows_before (length ranges / 2) counts'
   sum-all =
       let e = length-cuts (rows u s) ranges in
-      count p.placed ∙ ap (λ (l : List (List Row)). length (concat l)) (sym (take_all (length ranges / 2) all (omega arith))) ∙ sym (rows_before (length ranges / 2) (omega arith))
+      count p.placed ∙ ap (λ (l : List (List Row)). length (concat l)) (sym (take_all (length ranges / 2) all (omega arith))) ∙ sym (rows_before-are (length ranges / 2) (omega arith))
 
   counts_past : drop (length ranges / 2) counts' ≡ drop (length ranges / 2) counts
   counts_past = ap (drop (length ranges / 2)) the-counts ∙ drop_at (map length all) (drop (length (map length all)) counts) (length ranges / 2) many ∙ ap (λ (k : ℕ). drop k counts) many
 
   module _ (k : ℕ) (h : k < length ranges / 2) where
     abbrev this : List Row
-    this = cut (rangeAt ranges k).from (rangeAt ranges k).to (rows u s)
+    this = cut (range_at ranges k).from (range_at ranges k).to (rows u s)
 
     count-is : get_or counts' k 0 ≡ length this
     count-is =
         ap (λ (l : List ℕ). get_or l k 0) the-counts ∙ get_or-append (map length all) (drop (length (map length all)) counts) 0 k (omega (arith, many))
-        ∙ count_at (rows u s) (rangeAt ranges) (length ranges / 2) k h
+        ∙ count_at (rows u s) (range_at ranges) (length ranges / 2) k h
 
     among : concat all ≡ concat (take k all) ++ (this ++ concat (drop (suc k) all))
-    among = parted all k (omega (arith, length-cuts (rows u s) ranges)) ∙ ap (λ (l : List Row). concat (take k all) ++ (l ++ concat (drop (suc k) all))) (cut_at (rows u s) (rangeAt ranges) (length ranges / 2) k h)
+    among = parted all k (omega (arith, length-cuts (rows u s) ranges)) ∙ ap (λ (l : List Row). concat (take k all) ++ (l ++ concat (drop (suc k) all))) (cut_at (rows u s) (range_at ranges) (length ranges / 2) k h)
 
-    words-of : take (5 * length this) (drop (5 * rowsBefore k counts') ou') ≡ words_of this
+    words-of : take (5 * length this) (drop (5 * rows_before k counts') ou') ≡ words_of this
     words-of =
         let x = concat (take k all) in
         let z = concat (drop (suc k) all) in
         let e : words_of (concat all) ≡ words_of x ++ (words_of this ++ words_of z) =
         ap words_of among ∙ words_append x (this ++ z) ∙ ap (λ (l : List ℕ). words_of x ++ l) (words_append this z) in
         let o = drop (length (words_of (concat all))) ou in
-        ap (λ (l : List ℕ). take (5 * length this) (drop (5 * rowsBefore k counts') l)) (the-words ∙ ap (λ (l : List ℕ). l ++ o) e)
-        ∙ found (words_of x) (words_of this) (words_of z) o (5 * rowsBefore k counts') (5 * length this) (omega (arith, length-words x, rows_before k (omega arith))) (length-words this)
+        ap (λ (l : List ℕ). take (5 * length this) (drop (5 * rows_before k counts') l)) (the-words ∙ ap (λ (l : List ℕ). l ++ o) e)
+        ∙ found (words_of x) (words_of this) (words_of z) o (5 * rows_before k counts') (5 * length this) (omega (arith, length-words x, rows_before-are k (omega arith))) (length-words this)
 
-    shifts_of : take (length this) (drop (rowsBefore k counts') os') ≡ shiftsOf this
-    shifts_of =
+    shifts_here : take (length this) (drop (rows_before k counts') os') ≡ shifts_of this
+    shifts_here =
         let x = concat (take k all) in
         let z = concat (drop (suc k) all) in
-        let e : shiftsOf (concat all) ≡ shiftsOf x ++ (shiftsOf this ++ shiftsOf z) =
-        ap shiftsOf among ∙ shifts-append x (this ++ z) ∙ ap (λ (l : List ℤ). shiftsOf x ++ l) (shifts-append this z) in
-        let o = drop (length (shiftsOf (concat all))) os in
-        ap (λ (l : List ℤ). take (length this) (drop (rowsBefore k counts') l)) (the-shifts ∙ ap (λ (l : List ℤ). l ++ o) e)
-        ∙ found (shiftsOf x) (shiftsOf this) (shiftsOf z) o (rowsBefore k counts') (length this) (omega (arith, length-shifts x, rows_before k (omega arith))) (length-shifts this)
+        let e : shifts_of (concat all) ≡ shifts_of x ++ (shifts_of this ++ shifts_of z) =
+        ap shifts_of among ∙ shifts-append x (this ++ z) ∙ ap (λ (l : List ℤ). shifts_of x ++ l) (shifts-append this z) in
+        let o = drop (length (shifts_of (concat all))) os in
+        ap (λ (l : List ℤ). take (length this) (drop (rows_before k counts') l)) (the-shifts ∙ ap (λ (l : List ℤ). l ++ o) e)
+        ∙ found (shifts_of x) (shifts_of this) (shifts_of z) o (rows_before k counts') (length this) (omega (arith, length-shifts x, rows_before-are k (omega arith))) (length-shifts this)
 
-    alone : {i : ℕ} {pu pu' : List ℕ} {ps ps' : List ℤ} → Cut u s (rangeAt ranges k).from (rangeAt ranges k).to pu ps (Rows i) pu' ps'
-        → (i ≡ get_or counts' k 0) × (take (5 * i) pu' ≡ take (5 * i) (drop (5 * rowsBefore k counts') ou')) × (take i ps' ≡ take i (drop (rowsBefore k counts') os'))
+    alone : {i : ℕ} {pu pu' : List ℕ} {ps ps' : List ℤ} → Cut u s (range_at ranges k).from (range_at ranges k).to pu ps (Rows i) pu' ps'
+        → (i ≡ get_or counts' k 0) × (take (5 * i) pu' ≡ take (5 * i) (drop (5 * rows_before k counts') ou')) × (take i ps' ≡ take i (drop (rows_before k counts') os'))
     alone {i} q =
         let e = count q in (
           e ∙ sym count-is,
-          words_are q ∙ sym words-of ∙ ap (λ (j : ℕ). take (5 * j) (drop (5 * rowsBefore k counts') ou')) (sym e),
-          shifts-are q ∙ sym shifts_of ∙ ap (λ (j : ℕ). take j (drop (rowsBefore k counts') os')) (sym e),
+          words_are q ∙ sym words-of ∙ ap (λ (j : ℕ). take (5 * j) (drop (5 * rows_before k counts') ou')) (sym e),
+          shifts-are q ∙ sym shifts_here ∙ ap (λ (j : ℕ). take j (drop (rows_before k counts') os')) (sym e),
         )
 
     answers : {pu pu' : List ℕ} {ps ps' : List ℤ} {r : Mapped} → 5 * get_or counts' k 0 ≤ length pu → get_or counts' k 0 ≤ length ps
-        → Cut u s (rangeAt ranges k).from (rangeAt ranges k).to pu ps r pu' ps' → r ≡ Rows (get_or counts' k 0)
+        → Cut u s (range_at ranges k).from (range_at ranges k).to pu ps r pu' ps' → r ≡ Rows (get_or counts' k 0)
     answers {pu} {pu'} {ps} {ps'} {r} x y q =
         let i = can.ready.inside k h in
-        (maps.lawful).cut-accepts u s (rangeAt ranges k).from (rangeAt ranges k).to pu pu' ps ps' r (lent can) i.some i.within (omega (arith, count-is)) (omega (arith, count-is)) q
+        (maps.lawful).cut-accepts u s (range_at ranges k).from (range_at ranges k).to pu pu' ps ps' r (lent can) i.some i.within (omega (arith, count-is)) (omega (arith, count-is)) q
         ∙ ap Rows (sym count-is)
 
   what : Accepted u s ranges ou os counts
@@ -150,10 +150,10 @@ module _ (u : List ℕ) (s : List ℤ) (ranges ou : List ℕ) (os : List ℤ) (c
 
 -- ---- any call
 accept : {u : List ℕ} {s : List ℤ} {ranges ou : List ℕ} {os : List ℤ} {counts : List ℕ} {r : Mapped} {ou' : List ℕ} {os' : List ℤ} {counts' : List ℕ}
-    → Accepted u s ranges ou os counts → Cuts u s ranges ou os counts r ou' os' counts' → r ≡ Rows (length (concat (cuts_of (rows u s) (rangesOf ranges))))
+    → Accepted u s ranges ou os counts → Cuts u s ranges ou os counts r ou' os' counts' → r ≡ Rows (length (concat (cuts_of (rows u s) (ranges_of ranges))))
 accept {u} {s} {ranges} {ou} {os} {counts} a p =
     p.placed.answer
-    ∙ ap (λ (x : Refusal). mappedOf x (concat (cuts_of (rows u s) (rangesOf ranges))))
+    ∙ ap (λ (x : Refusal). mapped_of x (concat (cuts_of (rows u s) (ranges_of ranges))))
     (cuts-accepted u s ranges (length ou) (length os) (length counts)
     (record {
       ready = record {
@@ -171,7 +171,7 @@ counts-kept : (u : List ℕ) (s : List ℤ) (ranges ou : List ℕ) (os : List �
     → Cuts u s ranges ou os counts r ou' os' counts' → CountsAsLent r (length ranges / 2) counts counts'
 counts-kept u s ranges ou os counts (Rows n) ou' os' counts' p = counts_past u s ranges ou os counts p
 counts-kept u s ranges ou os counts (Refused n i) ou' os' counts' p =
-    as-lent-refused (cutsRefusal u s ranges (length ou) (length os) (length counts)) (concat (cuts_of (rows u s) (rangesOf ranges))) n i (map length (cuts_of (rows u s) (rangesOf ranges))) counts counts' p.placed.answer p.counted
+    as-lent-refused (cuts_refusal u s ranges (length ou) (length os) (length counts)) (concat (cuts_of (rows u s) (ranges_of ranges))) n i (map length (cuts_of (rows u s) (ranges_of ranges))) counts counts' p.placed.answer p.counted
 
 pub lawful : CutsLaws Cuts Cut
 lawful = record {

@@ -13,21 +13,21 @@ use Rattle.choice.specs.Records.{run}
 use Rattle.choice.specs.declared.Refusal.{Refusal}
 use Rattle.choice.specs.declared.Refusal.TheVariants.{Never, At}
 use Rattle.choice.proofs.Tests.{same-leb}
-use Rattle.choice.proofs.Runs.{run-cons, run-nil, length_run, getD-run}
+use Rattle.choice.proofs.Runs.{run-cons, run-nil, length_run, get_d-run}
 use Rattle.slices.specs.Slices.{laid}
 use Rattle.slices.proofs.Lists.{map_at}
 use Rattle.slices.proofs.Laid.{laid-laid}
 use Rattle.slices.proofs.Parts.{from}
 use Rattle.rows.specs.declared.Row.{Row}
 use Rattle.rows.specs.Rows.{cut}
-use Rattle.rows.specs.Lent.{rowAt, rows, words_of, shiftsOf}
+use Rattle.rows.specs.Lent.{row_at, rows, words_of, shifts_of}
 use Rattle.rows.proofs.Demanded.{demanded}
 use Rattle.rows.proofs.Flat.{words_append, shifts-append, length-words, length-shifts}
 use Rattle.maps.specs.declared.Mapped.TheVariants.{Rows, Refused}
 use Rattle.maps.specs.Steps.{Room}
-use Rattle.maps.proofs.Written.{Written, rows_all, words-length, shifts-length, placed-rows, placed-refused}
+use Rattle.maps.proofs.Written.{Written, rows_all, words-length, shifts-length, placed-rows}
 use Rattle.cuts.specs.declared.Range.{Range}
-use Rattle.cuts.specs.Answers.{rangeAt, rangesOf, cuts_of, concat, Placing}
+use Rattle.cuts.specs.Answers.{range_at, ranges_of, cuts_of, concat, Placing}
 use Rattle.cuts.specs.Steps.{AllWritten}
 
 -- the rows of the cuts from range k on, of n ranges
@@ -57,9 +57,6 @@ module _ (m : List Row) (f : ℕ → Range) (k n : ℕ) where
   pub count-end : {b : Bool} (left : ℕ) → n ≤ k → leb (length (rest m f k n)) left ≡ b → true ≡ b
   count-end left h i = sym (le-leb (length (rest m f k n)) left (omega (arith, ap length (rest-none h)))) ∙ i
 
-pub rest_all : (m : List Row) (f : ℕ → Range) (n : ℕ) → rest m f 0 n ≡ concat (cuts_of m (run f 0 n))
-rest_all m f n = let e : n - 0 ≡ n = omega arith in ap (λ (x : ℕ). concat (cuts_of m (run f 0 x))) e
-
 -- no cut has more rows than the map
 cuts-few : (m : List Row) (l : List Range) → length (concat (cuts_of m l)) ≤ length l * length m
 unfolding concat cuts_of
@@ -68,12 +65,12 @@ cuts-few m (r ∷ l) =
     let e = length-append (cut r.from r.to m) (concat (cuts_of m l)) in
     omega (arith, cuts-few m l, demanded.cut-rows m r.from r.to)
 
-pub plainly : (u : List ℕ) (s : List ℤ) (l : List ℕ) (room : ℕ) → 0 < length s → length l / 2 ≤ room / length s → true ≡ leb (length (concat (cuts_of (rows u s) (rangesOf l)))) room
+pub plainly : (u : List ℕ) (s : List ℤ) (l : List ℕ) (room : ℕ) → 0 < length s → length l / 2 ≤ room / length s → true ≡ leb (length (concat (cuts_of (rows u s) (ranges_of l)))) room
 plainly u s l room some h =
-    let n = length_run (rangeAt l) 0 (length l / 2) in
-    let m = length_run (rowAt u s) 0 (length s) in
-    let e : length (rangesOf l) * length (rows u s) ≡ length l / 2 * length s = λ i. n i * m i in
-    sym (le-leb (length (concat (cuts_of (rows u s) (rangesOf l)))) room (omega (arith, cuts-few (rows u s) (rangesOf l), e, (le-div_iff_mul-le {k = length s} {x = length l / 2} {y = room} some).0 h)))
+    let n = length_run (range_at l) 0 (length l / 2) in
+    let m = length_run (row_at u s) 0 (length s) in
+    let e : length (ranges_of l) * length (rows u s) ≡ length l / 2 * length s = λ i. n i * m i in
+    sym (le-leb (length (concat (cuts_of (rows u s) (ranges_of l)))) room (omega (arith, cuts-few (rows u s) (ranges_of l), e, (le-div_iff_mul-le {k = length s} {x = length l / 2} {y = room} some).0 h)))
 
 -- ---- writing
 -- how long a part from n on is
@@ -92,7 +89,7 @@ module _ {C rest₀ : List Row} (x rest : List Row) {ou₀ : List ℕ} {os₀ : 
   part_room z = let r = room_next in record { words = omega (arith, r, part-long ou (5 * w)); shifts = omega (arith, r, part-long os w) }
 
   pub part-written : {k : ℕ} (ou' : List ℕ) (os' : List ℤ) → length x ≡ k
-      → ou' ≡ laid (words_of x) (take (length ou - 5 * w) (drop (5 * w) ou)) → os' ≡ laid (shiftsOf x) (take (length os - w) (drop w os))
+      → ou' ≡ laid (words_of x) (take (length ou - 5 * w) (drop (5 * w) ou)) → os' ≡ laid (shifts_of x) (take (length os - w) (drop w os))
       → Written C rest ou₀ os₀ (take (5 * w) ou ++ (ou' ++ drop (length ou - 5 * w) (drop (5 * w) ou))) (take w os ++ (os' ++ drop (length os - w) (drop w os))) (w + k)
   part-written {k} ou' os' z p q =
       let n = rows_next in
@@ -101,13 +98,13 @@ module _ {C rest₀ : List Row} (x rest : List Row) {ou₀ : List ℕ} {os₀ : 
       let xu = length-words x in
       let xs = length-shifts x in
       let ku : 5 * w ≡ length (words_of d.done) = omega (arith, d.count) in
-      let ks : w ≡ length (shiftsOf d.done) = omega (arith, d.count) in
+      let ks : w ≡ length (shifts_of d.done) = omega (arith, d.count) in
       record {
         done = d.done ++ x;
         so_far = append_assoc d.done x rest ∙ ap (λ (l : List Row). d.done ++ l) (sym e) ∙ d.so_far;
         count = length-append d.done x ∙ omega (arith, d.count);
         words = laid-laid (words_of d.done) (words_of x) ou₀ ou ou' (5 * w) d.words ku (omega (arith, room.words)) p ∙ ap (λ (l : List ℕ). laid l ou₀) (sym (words_append d.done x));
-        shifts = laid-laid (shiftsOf d.done) (shiftsOf x) os₀ os os' w d.shifts ks (omega (arith, room.shifts)) q ∙ ap (λ (l : List ℤ). laid l os₀) (sym (shifts-append d.done x));
+        shifts = laid-laid (shifts_of d.done) (shifts_of x) os₀ os os' w d.shifts ks (omega (arith, room.shifts)) q ∙ ap (λ (l : List ℤ). laid l os₀) (sym (shifts-append d.done x));
       }
 
 -- a cut, and its count
@@ -116,7 +113,7 @@ unfolding cuts_of
 cut_at m f n k h =
     let a = length_run f 0 n in
     let z : 0 + k ≡ k = omega arith in
-    map_at (λ (r : Range). cut r.from r.to m) (run f 0 n) k [] (f k) (omega arith) ∙ ap (λ (r : Range). cut r.from r.to m) (getD-run f 0 n k (f k) h ∙ ap f z)
+    map_at (λ (r : Range). cut r.from r.to m) (run f 0 n) k [] (f k) (omega arith) ∙ ap (λ (r : Range). cut r.from r.to m) (get_d-run f 0 n k (f k) h ∙ ap f z)
 
 pub count_at : (m : List Row) (f : ℕ → Range) (n k : ℕ) → k < n → get_or (map length (cuts_of m (run f 0 n))) k 0 ≡ length (cut (f k).from (f k).to m)
 unfolding cuts_of
@@ -128,6 +125,3 @@ count_at m f n k h =
 module _ {x : Refusal} {l : List (List Row)} {ou : List ℕ} {os : List ℤ} {counts : List ℕ} where
   pub placing-rows : {n : ℕ} {ou' : List ℕ} {os' : List ℤ} {counts' : List ℕ} → x ≡ Never → AllWritten l ou os counts n ou' os' counts' → Placing x l ou os counts (Rows n) ou' os' counts'
   placing-rows e w = record { placed = placed-rows e w.many w.words w.shifts; counted = rw e w.counted }
-
-  pub placing-refused : {n i : ℕ} → x ≡ At n i → Placing x l ou os counts (Refused n i) ou os counts
-  placing-refused e = record { placed = placed-refused e; counted = rw e }

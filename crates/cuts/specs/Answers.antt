@@ -1,7 +1,7 @@
 -- Many cuts of one map: the ranges as they are lent, the rows of their cuts, and what `cuts` answers and leaves in the lent room.
 use Rattle.std.specs.Prelude.{ℕ, ◌+◌, ◌*◌, ◌/◌, ◌%◌, ◌≤◌, ◌<◌, Bool, not, ◌&&◌, List, [], ◌∷◌, ◌++◌, map, ◌≡◌, ℤ, ltb, leb, eqb, length, get_or}
 use Rattle.choice.specs.Choice.{when}
-use Rattle.choice.specs.Records.{run, firstRefused, orRefused}
+use Rattle.choice.specs.Records.{run, first_refused, or_refused}
 use Rattle.choice.specs.declared.Refusal.{Refusal}
 use Rattle.choice.specs.declared.Refusal.TheVariants.{Never, At}
 use Rattle.slices.specs.Slices.{after}
@@ -9,7 +9,7 @@ use Rattle.rows.specs.declared.Row.{Row}
 use Rattle.rows.specs.Rows.{total, cut}
 use Rattle.rows.specs.Lent.{rows}
 use Rattle.maps.specs.declared.Mapped.{Mapped}
-use Rattle.maps.specs.Answers.{mostRows, badRange, rowsOver, mapRefusal, Placed}
+use Rattle.maps.specs.Answers.{most_rows, bad_range, rows_over, map_refusal, Placed}
 use Rattle.cuts.specs.declared.Range.{Range}
 
 -- a range that has frames, all of them in a map of t frames
@@ -18,11 +18,11 @@ pub record Inside (t : ℕ) (r : Range) : Type 0 where
   pub within : r.to ≤ t
 
 -- range k of the lent words, two a range, and all of them
-abbrev pub rangeAt : List ℕ → ℕ → Range
-rangeAt l k = record { from = get_or l (2 * k) 0; to = get_or l (2 * k + 1) 0 }
+abbrev pub range_at : List ℕ → ℕ → Range
+range_at l k = record { from = get_or l (2 * k) 0; to = get_or l (2 * k + 1) 0 }
 
-abbrev pub rangesOf : List ℕ → List Range
-rangesOf l = run (rangeAt l) 0 (length l / 2)
+abbrev pub ranges_of : List ℕ → List Range
+ranges_of l = run (range_at l) 0 (length l / 2)
 
 -- of a map, the cut of each range
 unfoldable pub cuts_of : List Row → List Range → List (List Row)
@@ -34,24 +34,24 @@ concat [] = []
 concat (x ∷ l) = x ++ concat l
 
 -- 50 of a range of a map of t frames, by the tests of `cut`; 0 where it isn't refused
-unfoldable pub rangeRefusal : ℕ → Range → ℕ
-rangeRefusal t r = when (leb r.to r.from) badRange (when (ltb t r.to) badRange 0)
+unfoldable pub range_refusal : ℕ → Range → ℕ
+range_refusal t r = when (leb r.to r.from) bad_range (when (ltb t r.to) bad_range 0)
 
 -- 50 of the lent words: the last range has no end, or the first range that is refused
-unfoldable pub rangesRefusal : ℕ → List ℕ → Refusal
-rangesRefusal t l = when (eqb (length l % 2) 1) (At badRange (length l / 2)) (firstRefused (rangeRefusal t) 0 (rangesOf l))
+unfoldable pub ranges_refusal : ℕ → List ℕ → Refusal
+ranges_refusal t l = when (eqb (length l % 2) 1) (At bad_range (length l / 2)) (first_refused (range_refusal t) 0 (ranges_of l))
 
 -- the rows of cuts, which may be over 1,024 in all, go into nu words and ns shifts, and their counts into nc words
-abbrev pub cutsFit : List (List Row) → ℕ → ℕ → ℕ → Bool
-cutsFit l nu ns nc = leb (5 * length (concat l)) nu && leb (length (concat l)) ns && leb (length l) nc
+abbrev pub cuts_fit : List (List Row) → ℕ → ℕ → ℕ → Bool
+cuts_fit l nu ns nc = leb (5 * length (concat l)) nu && leb (length (concat l)) ns && leb (length l) nc
 
 -- the refusals, where nu words and ns shifts are lent for the rows and nc words for the counts
-unfoldable pub cutsRefusal : List ℕ → List ℤ → List ℕ → ℕ → ℕ → ℕ → Refusal
-cutsRefusal u s ranges nu ns nc =
-    orRefused (mapRefusal u s)
-    (when (ltb mostRows (length s)) (At rowsOver 0)
-    (orRefused (rangesRefusal (total (rows u s)) ranges)
-    (when (not (cutsFit (cuts_of (rows u s) (rangesOf ranges)) nu ns nc)) (At rowsOver 0) Never)))
+unfoldable pub cuts_refusal : List ℕ → List ℤ → List ℕ → ℕ → ℕ → ℕ → Refusal
+cuts_refusal u s ranges nu ns nc =
+    or_refused (map_refusal u s)
+    (when (ltb most_rows (length s)) (At rows_over 0)
+    (or_refused (ranges_refusal (total (rows u s)) ranges)
+    (when (not (cuts_fit (cuts_of (rows u s) (ranges_of ranges)) nu ns nc)) (At rows_over 0) Never)))
 
 -- cuts l were asked for, or refused: their rows in order and, of each, how many
 pub record Placing (refusal : Refusal) (l : List (List Row)) (ou : List ℕ) (os : List ℤ) (counts : List ℕ) (r : Mapped) (ou' : List ℕ) (os' : List ℤ) (counts' : List ℕ) : Type 0 where
@@ -60,4 +60,4 @@ pub record Placing (refusal : Refusal) (l : List (List Row)) (ou : List ℕ) (os
 
 -- cuts(u, s, ranges, ou, os, counts) answers r and leaves ou', os' and counts'
 abbrev pub Cuts : List ℕ → List ℤ → List ℕ → List ℕ → List ℤ → List ℕ → Mapped → List ℕ → List ℤ → List ℕ → Type 0
-Cuts u s ranges ou os counts = Placing (cutsRefusal u s ranges (length ou) (length os) (length counts)) (cuts_of (rows u s) (rangesOf ranges)) ou os counts
+Cuts u s ranges ou os counts = Placing (cuts_refusal u s ranges (length ou) (length os) (length counts)) (cuts_of (rows u s) (ranges_of ranges)) ou os counts

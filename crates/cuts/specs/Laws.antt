@@ -5,25 +5,25 @@ use Rattle.rows.specs.Rows.{total}
 use Rattle.rows.specs.Lent.{rows}
 use Rattle.maps.specs.declared.Mapped.{Mapped}
 use Rattle.maps.specs.declared.Mapped.TheVariants.{Rows, Refused}
-use Rattle.maps.specs.Answers.{badRange, rowsOver}
+use Rattle.maps.specs.Answers.{bad_range, rows_over}
 use Rattle.maps.specs.Laws.{LentMap, AsLent, Writes}
-use Rattle.cuts.specs.Answers.{Inside, rangeAt, rangesOf, cuts_of, concat}
+use Rattle.cuts.specs.Answers.{Inside, range_at, ranges_of, cuts_of, concat}
 
 abbrev pub sum : List ℕ → ℕ
 sum [] = 0
 sum (n ∷ l) = n + sum l
 
 -- the rows that are written before those of cut k
-abbrev pub rowsBefore : ℕ → List ℕ → ℕ
-rowsBefore k counts = sum (take k counts)
+abbrev pub rows_before : ℕ → List ℕ → ℕ
+rows_before k counts = sum (take k counts)
 
 -- what `cuts` accepts: a map that no call refuses, ranges of two words each that lie in it, and room for the rows of all cuts and for their counts
 pub record Accepted (u : List ℕ) (s : List ℤ) (ranges ou : List ℕ) (os : List ℤ) (counts : List ℕ) : Type 0 where
   pub map : LentMap u s
   pub pairs : length ranges % 2 ≡ 0
-  pub inside : (k : ℕ) → k < length ranges / 2 → Inside (total (rows u s)) (rangeAt ranges k)
-  pub words : 5 * length (concat (cuts_of (rows u s) (rangesOf ranges))) ≤ length ou
-  pub shifts : length (concat (cuts_of (rows u s) (rangesOf ranges))) ≤ length os
+  pub inside : (k : ℕ) → k < length ranges / 2 → Inside (total (rows u s)) (range_at ranges k)
+  pub words : 5 * length (concat (cuts_of (rows u s) (ranges_of ranges))) ≤ length ou
+  pub shifts : length (concat (cuts_of (rows u s) (ranges_of ranges))) ≤ length os
   pub counted : length ranges / 2 ≤ length counts
 
 -- what was left of the counts: all on a refusal, else what lies past those of c cuts
@@ -36,16 +36,16 @@ pub record CutsLaws (Cuts : List ℕ → List ℤ → List ℕ → List ℕ → 
   -- all cuts after those of the cuts before it.
   pub each : (u ranges ou ou' counts counts' pu pu' : List ℕ) (s os os' ps ps' : List ℤ) (n k i : ℕ)
       → Cuts u s ranges ou os counts (Rows n) ou' os' counts' → k < length ranges / 2
-      → Cut u s (rangeAt ranges k).from (rangeAt ranges k).to pu ps (Rows i) pu' ps'
+      → Cut u s (range_at ranges k).from (range_at ranges k).to pu ps (Rows i) pu' ps'
       → (i ≡ get_or counts' k 0)
-      × (take (5 * i) pu' ≡ take (5 * i) (drop (5 * rowsBefore k counts') ou')) × (take i ps' ≡ take i (drop (rowsBefore k counts') os'))
+      × (take (5 * i) pu' ≡ take (5 * i) (drop (5 * rows_before k counts') ou')) × (take i ps' ≡ take i (drop (rows_before k counts') os'))
   -- It does so wherever there is room for them; and the rows in all are those of all cuts.
   pub each-answers : (u ranges ou ou' counts counts' pu pu' : List ℕ) (s os os' ps ps' : List ℤ) (n k : ℕ) (r : Mapped)
       → Cuts u s ranges ou os counts (Rows n) ou' os' counts' → k < length ranges / 2
       → 5 * get_or counts' k 0 ≤ length pu → get_or counts' k 0 ≤ length ps
-      → Cut u s (rangeAt ranges k).from (rangeAt ranges k).to pu ps r pu' ps' → r ≡ Rows (get_or counts' k 0)
+      → Cut u s (range_at ranges k).from (range_at ranges k).to pu ps r pu' ps' → r ≡ Rows (get_or counts' k 0)
   pub in_all : (u ranges ou ou' counts counts' : List ℕ) (s os os' : List ℤ) (n : ℕ)
-      → Cuts u s ranges ou os counts (Rows n) ou' os' counts' → n ≡ rowsBefore (length ranges / 2) counts'
+      → Cuts u s ranges ou os counts (Rows n) ou' os' counts' → n ≡ rows_before (length ranges / 2) counts'
   -- 2. One range is one `cut`, refusals too, where there is room for its count.
   pub one : (u ou ou' ou'' counts counts' : List ℕ) (s os os' os'' : List ℤ) (a b : ℕ) (r q : Mapped)
       → 0 < length counts
@@ -55,19 +55,19 @@ pub record CutsLaws (Cuts : List ℕ → List ℤ → List ℕ → List ℕ → 
   pub accepted : (u ranges ou ou' counts counts' : List ℕ) (s os os' : List ℤ) (n : ℕ)
       → Cuts u s ranges ou os counts (Rows n) ou' os' counts' → Accepted u s ranges ou os counts
   pub accepts : (u ranges ou ou' counts counts' : List ℕ) (s os os' : List ℤ) (r : Mapped)
-      → Accepted u s ranges ou os counts → Cuts u s ranges ou os counts r ou' os' counts' → r ≡ Rows (length (concat (cuts_of (rows u s) (rangesOf ranges))))
+      → Accepted u s ranges ou os counts → Cuts u s ranges ou os counts r ou' os' counts' → r ≡ Rows (length (concat (cuts_of (rows u s) (ranges_of ranges))))
   -- 4. Which refusal it is. A map that no call takes is refused as `cut` refuses it, whatever the range. Else 50: at the last range, where it has no end, or at the
   -- first that isn't in the map. Else 52, where something has no room.
   pub map-refused : (u ranges ou ou' counts counts' pu pu' : List ℕ) (s os os' ps ps' : List ℤ) (a b : ℕ) (r q : Mapped)
       → (LentMap u s → ⊥) → Cuts u s ranges ou os counts r ou' os' counts' → Cut u s a b pu ps q pu' ps' → r ≡ q
   pub torn-refused : (u ranges ou ou' counts counts' : List ℕ) (s os os' : List ℤ) (r : Mapped)
-      → LentMap u s → length ranges % 2 ≡ 1 → Cuts u s ranges ou os counts r ou' os' counts' → r ≡ Refused badRange (length ranges / 2)
+      → LentMap u s → length ranges % 2 ≡ 1 → Cuts u s ranges ou os counts r ou' os' counts' → r ≡ Refused bad_range (length ranges / 2)
   pub range-refused : (u ranges ou ou' counts counts' : List ℕ) (s os os' : List ℤ) (k : ℕ) (r : Mapped)
-      → LentMap u s → length ranges % 2 ≡ 0 → k < length ranges / 2 → ((j : ℕ) → j < k → Inside (total (rows u s)) (rangeAt ranges j)) → (Inside (total (rows u s)) (rangeAt ranges k) → ⊥)
-      → Cuts u s ranges ou os counts r ou' os' counts' → r ≡ Refused badRange k
+      → LentMap u s → length ranges % 2 ≡ 0 → k < length ranges / 2 → ((j : ℕ) → j < k → Inside (total (rows u s)) (range_at ranges j)) → (Inside (total (rows u s)) (range_at ranges k) → ⊥)
+      → Cuts u s ranges ou os counts r ou' os' counts' → r ≡ Refused bad_range k
   pub room-refused : (u ranges ou ou' counts counts' : List ℕ) (s os os' : List ℤ) (r : Mapped)
-      → LentMap u s → length ranges % 2 ≡ 0 → ((k : ℕ) → k < length ranges / 2 → Inside (total (rows u s)) (rangeAt ranges k)) → (Accepted u s ranges ou os counts → ⊥)
-      → Cuts u s ranges ou os counts r ou' os' counts' → r ≡ Refused rowsOver 0
+      → LentMap u s → length ranges % 2 ≡ 0 → ((k : ℕ) → k < length ranges / 2 → Inside (total (rows u s)) (range_at ranges k)) → (Accepted u s ranges ou os counts → ⊥)
+      → Cuts u s ranges ou os counts r ou' os' counts' → r ≡ Refused rows_over 0
   -- 5. What isn't answered stays as it was lent.
   pub leaves : (u ranges ou ou' counts counts' : List ℕ) (s os os' : List ℤ) (r : Mapped)
       → Cuts u s ranges ou os counts r ou' os' counts' → AsLent r ou os ou' os' × CountsAsLent r (length ranges / 2) counts counts'

@@ -4,8 +4,8 @@
 ghost use Rattle.std.specs.Prelude.{◌≡◌, ◌+◌, ◌*◌, ◌/◌, ◌≤◌, leb, length};
 ghost use Rattle.rows.specs.Lent.{rows};
 ghost use Rattle.maps.specs.Steps.{Room};
-ghost use Rattle.cuts.specs.Answers.{rangeAt, rangesOf, cuts_of, concat, rangeRefusal, rangesRefusal, cutsRefusal, Cuts};
-ghost use Rattle.cuts.specs.Steps.{ReadyToCut, AllWritten, roomOf};
+ghost use Rattle.cuts.specs.Answers.{range_at, ranges_of, cuts_of, concat, range_refusal, ranges_refusal, cuts_refusal, Cuts};
+ghost use Rattle.cuts.specs.Steps.{ReadyToCut, AllWritten, room_of};
 
 use choice::Refusal;
 use maps::{BAD_RANGE, Frames, MOST_ROWS, Mapped, ROWS_OVER};
@@ -20,7 +20,7 @@ pub struct Range {
 // Range k of the lent words.
 fn range_at(ranges: &[u64], k: usize) -> Range
     requires { 2 * k + 2 ≤ length ranges.now }
-    ensures { result ≡ rangeAt ranges.now k }
+    ensures { result ≡ range_at ranges.now k }
 {
     let j = 2 * k;
     Range {
@@ -31,7 +31,7 @@ fn range_at(ranges: &[u64], k: usize) -> Range
 
 // 50 of a range of a map of t frames, or 0.
 fn refuse_range(r: Range, t: u64) -> u64
-    ensures { result ≡ rangeRefusal t r }
+    ensures { result ≡ range_refusal t r }
 {
     let beyond = choice::first_of(t < r.to, BAD_RANGE, 0);
     choice::first_of(r.to <= r.from, BAD_RANGE, beyond)
@@ -39,7 +39,7 @@ fn refuse_range(r: Range, t: u64) -> u64
 
 // 50 of the ranges.
 fn refuse_ranges(ranges: &[u64], t: u64) -> Refusal
-    ensures { result ≡ rangesRefusal t ranges.now }
+    ensures { result ≡ ranges_refusal t ranges.now }
 {
     let n = ranges.len() / 2;
     if ranges.len() % 2 == 1 {
@@ -59,7 +59,7 @@ fn refuse_ranges(ranges: &[u64], t: u64) -> Refusal
 // Whether room for so many rows holds those of all cuts, counted cut by cut, so that no sum passes the room.
 fn holds_counted(u: &[u64], s: &[i64], ranges: &[u64], room: usize) -> bool
     requires { ReadyToCut u.now s.now ranges.now }
-    ensures { result ≡ leb (length (concat (cuts_of (rows u.now s.now) (rangesOf ranges.now)))) room }
+    ensures { result ≡ leb (length (concat (cuts_of (rows u.now s.now) (ranges_of ranges.now)))) room }
 {
     let n = ranges.len() / 2;
     let mut left = room;
@@ -79,7 +79,7 @@ fn holds_counted(u: &[u64], s: &[i64], ranges: &[u64], room: usize) -> bool
 // The same; where each cut could have all rows of the map, none is counted.
 fn holds_all(u: &[u64], s: &[i64], ranges: &[u64], room: usize) -> bool
     requires { ReadyToCut u.now s.now ranges.now }
-    ensures { result ≡ leb (length (concat (cuts_of (rows u.now s.now) (rangesOf ranges.now)))) room }
+    ensures { result ≡ leb (length (concat (cuts_of (rows u.now s.now) (ranges_of ranges.now)))) room }
 {
     if ranges.len() / 2 <= room / s.len() {
         return true;
@@ -89,14 +89,14 @@ fn holds_all(u: &[u64], s: &[i64], ranges: &[u64], room: usize) -> bool
 
 // The rows for which there is room in nu words and ns shifts.
 fn room_of(nu: usize, ns: usize) -> usize
-    ensures { result ≡ roomOf nu ns }
+    ensures { result ≡ room_of nu ns }
 {
     if nu / 5 < ns { nu / 5 } else { ns }
 }
 
 // The refusal of the cuts, where nu words, ns shifts and nc counts are lent.
 fn refuse_cuts(u: &[u64], s: &[i64], ranges: &[u64], nu: usize, ns: usize, nc: usize) -> Refusal
-    ensures { result ≡ cutsRefusal u.now s.now ranges.now nu ns nc }
+    ensures { result ≡ cuts_refusal u.now s.now ranges.now nu ns nc }
 {
     match maps::frames_of(u, s) {
         Frames::Refused(n, i) => Refusal::At(n, i),
@@ -128,8 +128,8 @@ fn write_cuts(
     os: &mut [i64],
     counts: &mut [u64],
 ) -> usize
-    requires { ReadyToCut u.now s.now ranges.now × Room (length (concat (cuts_of (rows u.now s.now) (rangesOf ranges.now)))) ou.old os.old × (length ranges.now / 2 ≤ length counts.old) }
-    ensures { AllWritten (cuts_of (rows u.now s.now) (rangesOf ranges.now)) ou.old os.old counts.old result ou.new os.new counts.new }
+    requires { ReadyToCut u.now s.now ranges.now × Room (length (concat (cuts_of (rows u.now s.now) (ranges_of ranges.now)))) ou.old os.old × (length ranges.now / 2 ≤ length counts.old) }
+    ensures { AllWritten (cuts_of (rows u.now s.now) (ranges_of ranges.now)) ou.old os.old counts.old result ou.new os.new counts.new }
 {
     let n = ranges.len() / 2;
     let mut w: usize = 0;

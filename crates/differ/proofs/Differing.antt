@@ -9,15 +9,15 @@ use lib.ListN.{length}
 use Rattle.signed.specs.Rounded.{rounded}
 use Rattle.rules.specs.declared.Checked.{Checked}
 use Rattle.rules.specs.declared.Checked.TheVariants.{Frames}
-use Rattle.rules.specs.Records.{Table, segment, outEnd, outEndUs}
+use Rattle.rules.specs.Records.{Table, segment, out_end, out_end_us}
 use Rattle.rules.proofs.Accepted.{Accepted, accepted}
 use Rattle.rules.proofs.Search.{frames-ordered}
 use Rattle.mcraw.specs.Mcraw.{nanoseconds, nominal}
 use Rattle.judge.specs.declared.Video.{Video}
-use Rattle.judge.specs.Video.{Shown, shownBy}
-use Rattle.judge.specs.Judge.{lastSegment, validateOf, single, checkMcraw}
+use Rattle.judge.specs.Video.{Shown, shown_by}
+use Rattle.judge.specs.Judge.{last_segment, validate_of, single, check_mcraw}
 use Rattle.judge.specs.Means.{Fits, Recorded}
-use Rattle.judge.specs.Paper.{Near, firstSource}
+use Rattle.judge.specs.Paper.{Near, first_source}
 use Rattle.judge.proofs.Meaning.{validated, recorded}
 use Rattle.differ.specs.Differ.{SameFrames, Alike, SameFps, Differing}
 use Rattle.differ.proofs.Distances.{last-near, duration-is, time-0, near-rates}
@@ -32,7 +32,7 @@ module _ (t u : Table) (v : Shown) {M N : ℕ} (p : Accepted t M) (q : Accepted 
       ∙ (λ i. starts (suc k) h i -ℤ starts k (omega arith) i)
       ∙ sym (duration-is (segment u k).stamps.outstart _ _ (q.follows k j).time)
 
-  last-start : (lastSegment t.segments).stamps.outstart ≡ (lastSegment u.segments).stamps.outstart
+  last-start : (last_segment t.segments).stamps.outstart ≡ (last_segment u.segments).stamps.outstart
   last-start =
       starts (length t.segments - 1) (omega (arith, p.some-segments))
       ∙ ap (λ (n : ℕ). (segment u (n - 1)).stamps.outstart) many
@@ -62,18 +62,18 @@ same-video t u v M N f g s =
 only-frame : (t : Table) (N : ℕ) → Accepted t N → N ≡ 1 → (k : ℕ) → k < length t.segments → (segment t k).words.out ≡ 0
 only-frame t N p e k h =
     let n = p.some-segments in
-    let r : outEnd (segment t k) ≤ outEnd (segment t (length t.segments - 1)) = (frames-ordered p).rising k (length t.segments - 1) (omega arith) (omega arith) in
+    let r : out_end (segment t k) ≤ out_end (segment t (length t.segments - 1)) = (frames-ordered p).rising k (length t.segments - 1) (omega arith) (omega arith) in
     omega (arith, p.last, (p.segments k h).some)
 
 module _ (t u : Table) (M N : ℕ) (f : Fits t (single t.sources t.segments) M) (g : Fits u (single u.sources u.segments) N)
-    (s : SameFrames t u) (r : SameFps (firstSource t) (firstSource u)) where
+    (s : SameFrames t u) (r : SameFps (first_source t) (first_source u)) where
   p : Accepted t M
   p = accepted t M f.checked
 
   q : Accepted u N
   q = accepted u N g.checked
 
-  same-frame : Alike t u (firstSource t).num (pos (firstSource t).den)
+  same-frame : Alike t u (first_source t).num (pos (first_source t).den)
   unfolding single
   same-frame =
       let named = (q.segments 0 q.some-segments).named in
@@ -82,10 +82,10 @@ module _ (t u : Table) (M N : ℕ) (f : Fits t (single t.sources t.segments) M) 
       (λ k h.
       let j : k < length u.segments = subst (λ (n : ℕ). k < n) s.many h in
       f.starts k h
-      ∙ time-0 _ (firstSource t).den (firstSource t).num (only-frame t M p f.frames k h) f.scaled
-      ∙ sym (g.starts k j ∙ time-0 _ (firstSource u).den (firstSource u).num (only-frame u N q g.frames k j) g.scaled))
+      ∙ time-0 _ (first_source t).den (first_source t).num (only-frame t M p f.frames k h) f.scaled
+      ∙ sym (g.starts k j ∙ time-0 _ (first_source u).den (first_source u).num (only-frame u N q g.frames k j) g.scaled))
       f.near
-      (near-rates (outEndUs (lastSegment u.segments)) _ (firstSource t).num (firstSource t).den (firstSource u).num (firstSource u).den
+      (near-rates (out_end_us (last_segment u.segments)) _ (first_source t).num (first_source t).den (first_source u).num (first_source u).den
       last.sum (q.sources (segment u 0).words.source named).den r g.near)
 
 -- ---- a recording
@@ -94,8 +94,8 @@ several t u ts a b c d M N h =
     ⊎_elim (λ f. absurd (omega (arith, f.0)))
     (λ f. ⊎_elim (λ g. absurd (omega (arith, g.0))) (λ g. same-video t u _ M N f.2 g.2))
 
-one : (t u : Table) (x : ℤ) (a b c d M N : ℕ) → Recorded t (x ∷ []) a b M → Recorded u (x ∷ []) c d N → SameFrames t u → SameFps (firstSource t) (firstSource u)
-    → Alike t u (firstSource t).num (pos (firstSource t).den)
+one : (t u : Table) (x : ℤ) (a b c d M N : ℕ) → Recorded t (x ∷ []) a b M → Recorded u (x ∷ []) c d N → SameFrames t u → SameFps (first_source t) (first_source u)
+    → Alike t u (first_source t).num (pos (first_source t).den)
 one t u x a b c d M N =
     ⊎_elim (λ f. ⊎_elim (λ g. same-frame t u M N f.1 g.1) (λ g. absurd (g.0 refl)))
     (λ f. absurd (f.0 refl))
@@ -103,10 +103,10 @@ one t u x a b c d M N =
 -- of calls that answer by the definitions
 pub differing : {L : Type 0} (table : L → Table)
     (Validate : L → Video → List ℤ → Checked → Type 0) (CheckMcraw : L → List ℤ → List ℤ → List ℤ → Checked → List ℤ → List ℤ → Type 0)
-    → ((l : L) (video : Video) (starts : List ℤ) (r : Checked) → Validate l video starts r → r ≡ validateOf (table l) (shownBy video starts))
-    → ((l : L) (ts a b a' b' : List ℤ) (r : Checked) → CheckMcraw l ts a b r a' b' → r ≡ checkMcraw (table l) ts (length a) (length b))
+    → ((l : L) (video : Video) (starts : List ℤ) (r : Checked) → Validate l video starts r → r ≡ validate_of (table l) (shown_by video starts))
+    → ((l : L) (ts a b a' b' : List ℤ) (r : Checked) → CheckMcraw l ts a b r a' b' → r ≡ check_mcraw (table l) ts (length a) (length b))
     → Differing table Validate CheckMcraw
-unfolding shownBy
+unfolding shown_by
 differing {L} table Validate CheckMcraw judged settled = record {
   constant = λ l m frames num den M N s s' x y. same-video (table l) (table m) _ M N (fits l x) (fits m y);
   times = λ l m scale end nominal starts M N x y. same-video (table l) (table m) _ M N (fits l x) (fits m y);
@@ -114,7 +114,7 @@ differing {L} table Validate CheckMcraw judged settled = record {
   one-timestamp = λ l m z a b a' b' c d c' d' M N x y. one (table l) (table m) z _ _ _ _ M N (holds l x) (holds m y);
 }
   where
-    fits : (l : L) {video : Video} {starts : List ℤ} {N : ℕ} → Validate l video starts (Frames N) → Fits (table l) (shownBy video starts) N
+    fits : (l : L) {video : Video} {starts : List ℤ} {N : ℕ} → Validate l video starts (Frames N) → Fits (table l) (shown_by video starts) N
     fits l x = (validated (table l) _ _).0 (sym (judged l _ _ _ x))
 
     holds : (l : L) {ts a b a' b' : List ℤ} {N : ℕ} → CheckMcraw l ts a b (Frames N) a' b' → Recorded (table l) ts (length a) (length b) N

@@ -8,8 +8,8 @@ use Rattle.rules.specs.Records.{Table, segment}
 use Rattle.mcraw.specs.Mcraw.{nanoseconds, nominal}
 use Rattle.judge.specs.declared.Video.{Video}
 use Rattle.judge.specs.declared.Video.TheVariants.{Constant, Times}
-use Rattle.judge.specs.Judge.{lastSegment}
-use Rattle.judge.specs.Paper.{firstSource}
+use Rattle.judge.specs.Judge.{last_segment}
+use Rattle.judge.specs.Paper.{first_source}
 
 -- they agree in every segment's frame fields: as many segments, and of each the same src_first_frame, frame_count and out_first_frame
 pub record SameFrames (t u : Table) : Type 0 where
@@ -23,7 +23,7 @@ pub record SameFrames (t u : Table) : Type 0 where
 pub record Alike (t u : Table) (scale : ℕ) (nominal : ℤ) : Type 0 where
   pub starts : (k : ℕ) → k < length t.segments → (segment t k).stamps.outstart ≡ (segment u k).stamps.outstart
   pub durations : (k : ℕ) → suc k < length t.segments → (segment t k).stamps.duration ≡ (segment u k).stamps.duration
-  pub last : (pos (nat_abs ((lastSegment t.segments).stamps.duration -ℤ (lastSegment u.segments).stamps.duration)) *ℤ pos scale)
+  pub last : (pos (nat_abs ((last_segment t.segments).stamps.duration -ℤ (last_segment u.segments).stamps.duration)) *ℤ pos scale)
       ≤ℤ (pos 2 *ℤ nominal *ℤ pos 1000000 +ℤ pos scale)
 
 -- the same fps, as a number: 25/1 and 50/2 are the same
@@ -49,5 +49,5 @@ pub record Differing {L : Type 0} (table : L → Table)
   -- for a recording of one timestamp, also with the same fps of segment 0's source
   pub one-timestamp : (l m : L) (x : ℤ) (a b a' b' c d c' d' : List ℤ) (M N : ℕ)
       → CheckMcraw l (x ∷ []) a b (Frames M) a' b' → CheckMcraw m (x ∷ []) c d (Frames N) c' d'
-      → SameFrames (table l) (table m) → SameFps (firstSource (table l)) (firstSource (table m))
-      → Alike (table l) (table m) (firstSource (table l)).num (pos (firstSource (table l)).den)
+      → SameFrames (table l) (table m) → SameFps (first_source (table l)) (first_source (table m))
+      → Alike (table l) (table m) (first_source (table l)).num (pos (first_source (table l)).den)

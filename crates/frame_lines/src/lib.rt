@@ -3,7 +3,7 @@
 
 ghost use Rattle.frame_times.specs.Times.{room};
 ghost use Rattle.frame_times.specs.Steps.{OutcomeAnswered};
-ghost use Rattle.frame_lines.specs.Files.{fileTimes};
+ghost use Rattle.frame_lines.specs.Files.{file_times};
 
 use boxes::read::code;
 use boxes::{Place, find_box_place};
@@ -21,7 +21,7 @@ fn times_of_file(
     work_a: &mut [i64],
     work_b: &mut [i64],
 ) -> FrameTimes
-    ensures { OutcomeAnswered (fileTimes file.now (room starts.old work_a.old work_b.old)) result starts.old starts.new }
+    ensures { OutcomeAnswered (file_times file.now (room starts.old work_a.old work_b.old)) result starts.old starts.new }
 {
     let p = find_box_place(file, 0, file.len(), code(b"moov"), true);
     match p {

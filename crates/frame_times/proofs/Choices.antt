@@ -13,35 +13,35 @@ use Rattle.signed.specs.Signed.{within}
 use Rattle.signed.specs.declared.Held.TheVariants.{Is, Outside}
 use Rattle.signed.specs.Steps.{I64}
 use Rattle.tracks.specs.declared.Edit.{Edit}
-use Rattle.frame_times.specs.Frames.{inEdit, capped, timeOrigin, maxZ, minZ}
+use Rattle.frame_times.specs.Frames.{in_edit, capped, time_origin, max_z, min_z}
 
 module _ (e : Edit) (c : ℤ) where
-  pub in-ending : le_z e.time c ≡ true → e.endless ≡ false → inEdit e c ≡ lt_z c e.end
+  pub in-ending : le_z e.time c ≡ true → e.endless ≡ false → in_edit e c ≡ lt_z c e.end
   in-ending p q = (λ i. if p i then if e.endless then true else lt_z c e.end else false) ∙ (λ i. if q i then true else lt_z c e.end)
 
-  pub out-before : le_z e.time c ≡ false → inEdit e c ≡ false
+  pub out-before : le_z e.time c ≡ false → in_edit e c ≡ false
   out-before p = λ i. if p i then if e.endless then true else lt_z c e.end else false
 
   pub cap-endless : e.endless ≡ true → capped e c ≡ c
-  cap-endless q = λ i. if q i then c else minZ c e.end
+  cap-endless q = λ i. if q i then c else min_z c e.end
 
   pub cap-under : e.endless ≡ false → le_z c e.end ≡ true → capped e c ≡ c
-  cap-under q p = (λ i. if q i then c else minZ c e.end) ∙ (λ i. if p i then c else e.end)
+  cap-under q p = (λ i. if q i then c else min_z c e.end) ∙ (λ i. if p i then c else e.end)
 
   pub cap-past : e.endless ≡ false → le_z c e.end ≡ false → capped e c ≡ e.end
-  cap-past q p = (λ i. if q i then c else minZ c e.end) ∙ (λ i. if p i then c else e.end)
+  cap-past q p = (λ i. if q i then c else min_z c e.end) ∙ (λ i. if p i then c else e.end)
 
-  pub origin-edited : (b : ℤ) → e.edited ≡ true → timeOrigin e c b ≡ maxZ c b
-  origin-edited b q = λ i. if q i then maxZ c b else pos 0
+  pub origin-edited : (b : ℤ) → e.edited ≡ true → time_origin e c b ≡ max_z c b
+  origin-edited b q = λ i. if q i then max_z c b else pos 0
 
-  pub origin-none : (b : ℤ) → e.edited ≡ false → timeOrigin e c b ≡ pos 0
-  origin-none b q = λ i. if q i then maxZ c b else pos 0
+  pub origin-none : (b : ℤ) → e.edited ≡ false → time_origin e c b ≡ pos 0
+  origin-none b q = λ i. if q i then max_z c b else pos 0
 
 module _ (a b : ℤ) where
-  pub max-second : le_z a b ≡ true → maxZ a b ≡ b
+  pub max-second : le_z a b ≡ true → max_z a b ≡ b
   max-second p = λ i. if p i then b else a
 
-  pub max-first : le_z a b ≡ false → maxZ a b ≡ a
+  pub max-first : le_z a b ≡ false → max_z a b ≡ a
   max-first p = λ i. if p i then b else a
 
 -- what a checked sum says of its number

@@ -17,43 +17,43 @@ use Rattle.tracks.specs.Tables.{offset_of}
 use Rattle.tracks.specs.Steps.{Sound}
 use Rattle.order.specs.Order.{sorted, mode}
 use Rattle.order.proofs.Mode.{mode-sorted}
-use Rattle.frame_times.specs.Frames.{Frame, framesFrom, inEdit, kept, ctsOf, last_of, end_of}
+use Rattle.frame_times.specs.Frames.{Frame, frames_from, in_edit, kept, cts_of, last_of, end_of}
 use Rattle.frame_times.specs.Steps.{Near, Good, Showable}
-use Rattle.frame_times.specs.Times.{refused, shown, ofKept}
+use Rattle.frame_times.specs.Times.{refused, shown, of_kept}
 use Rattle.frame_times.proofs.Choices.{in-ending, out-before}
 use Rattle.frame_times.proofs.Nearness.{ended, le-plus}
 
 -- a frame more, of the values of a stts and a ctts
 pub frames-step : (u : Bool) (t : ℕ) (ds os : List ℕ) → 0 < length ds
-    → framesFrom t ds (map (offset_of u) os)
-    ≡ record { decode = t; cts = pos t +ℤ offset_of u (get_or os 0 0); duration = get_or ds 0 0 } ∷ framesFrom (t + get_or ds 0 0) (drop 1 ds) (map (offset_of u) (drop 1 os))
-unfolding framesFrom of_bits
+    → frames_from t ds (map (offset_of u) os)
+    ≡ record { decode = t; cts = pos t +ℤ offset_of u (get_or os 0 0); duration = get_or ds 0 0 } ∷ frames_from (t + get_or ds 0 0) (drop 1 ds) (map (offset_of u) (drop 1 os))
+unfolding frames_from of_bits
 frames-step u t [] os h = absurd (omega arith)
 frames-step true t (d ∷ ds) [] h = refl
 frames-step false t (d ∷ ds) [] h = refl
 frames-step u t (d ∷ ds) (o ∷ os) h = refl
 
 module _ (e : Edit) (f : Frame) (fs : List Frame) where
-  pub kept-yes : inEdit e f.cts ≡ true → kept e (f ∷ fs) ≡ f ∷ kept e fs
+  pub kept-yes : in_edit e f.cts ≡ true → kept e (f ∷ fs) ≡ f ∷ kept e fs
   unfolding kept
   kept-yes p = λ i. if p i then f ∷ kept e fs else kept e fs
 
-  pub kept-no : inEdit e f.cts ≡ false → kept e (f ∷ fs) ≡ kept e fs
+  pub kept-no : in_edit e f.cts ≡ false → kept e (f ∷ fs) ≡ kept e fs
   unfolding kept
   kept-no p = λ i. if p i then f ∷ kept e fs else kept e fs
 
-in-under : (e : Edit) (c : ℤ) → e.endless ≡ false → inEdit e c ≡ true → le_z c e.end ≡ true
+in-under : (e : Edit) (c : ℤ) → e.endless ≡ false → in_edit e c ≡ true → le_z c e.end ≡ true
 in-under e c q p =
     decide (le_z e.time c)
     (λ t. lt-le c e.end (sym (in-ending e c t q) ∙ p))
     (λ t. tf (sym p ∙ out-before e c t))
 
 -- no kept time is past the media end
-kept_under : (e : Edit) (fs : List Frame) → e.endless ≡ false → All (λ x. le_z x e.end ≡ true) (ctsOf (kept e fs))
+kept_under : (e : Edit) (fs : List Frame) → e.endless ≡ false → All (λ x. le_z x e.end ≡ true) (cts_of (kept e fs))
 unfolding kept
 kept_under e [] q = tt
 kept_under e (f ∷ fs) q =
-    either (λ l. All (λ x. le_z x e.end ≡ true) (ctsOf l)) (inEdit e f.cts) (λ p. (in-under e f.cts q p, kept_under e fs q)) (λ p. kept_under e fs q)
+    either (λ l. All (λ x. le_z x e.end ≡ true) (cts_of l)) (in_edit e f.cts) (λ p. (in-under e f.cts q p, kept_under e fs q)) (λ p. kept_under e fs q)
 
 -- ---- the last frame
 pub last_snoc : (f : Frame) (fs : List Frame) (g : Frame) → last_of f (fs ++ g ∷ []) ≡ (if le_z (last_of f fs).cts g.cts then g else last_of f fs)
@@ -62,11 +62,11 @@ last_snoc f [] g = refl
 last_snoc f (h ∷ fs) g = last_snoc (if le_z f.cts h.cts then h else f) fs g
 
 -- no composition time is past the last one's
-last-above : (f : Frame) (fs : List Frame) → (le_z f.cts (last_of f fs).cts ≡ true) × All (λ x. le_z x (last_of f fs).cts ≡ true) (ctsOf fs)
+last-above : (f : Frame) (fs : List Frame) → (le_z f.cts (last_of f fs).cts ≡ true) × All (λ x. le_z x (last_of f fs).cts ≡ true) (cts_of fs)
 unfolding last_of
 last-above f [] = (le_refl f.cts, tt)
 last-above f (g ∷ fs) =
-    either (λ h. (le_z f.cts (last_of h fs).cts ≡ true) × ((le_z g.cts (last_of h fs).cts ≡ true) × All (λ x. le_z x (last_of h fs).cts ≡ true) (ctsOf fs))) (le_z f.cts g.cts)
+    either (λ h. (le_z f.cts (last_of h fs).cts ≡ true) × ((le_z g.cts (last_of h fs).cts ≡ true) × All (λ x. le_z x (last_of h fs).cts ≡ true) (cts_of fs))) (le_z f.cts g.cts)
     (λ p. let r = last-above g fs in (le_trans f.cts g.cts (last_of g fs).cts p r.0, (r.0, r.1)))
     (λ p. let r = last-above f fs in (r.0, (le_trans g.cts f.cts (last_of f fs).cts (le_total f.cts g.cts p) r.0, r.1)))
 
@@ -88,12 +88,12 @@ abbrev pub end-of : List Frame → ℤ
 end-of [] = pos 0
 end-of (f ∷ fs) = end_of (last_of f fs)
 
-near-all : (fs : List Frame) → All Good fs → All Near (ctsOf fs)
+near-all : (fs : List Frame) → All Good fs → All Near (cts_of fs)
 near-all [] a = tt
 near-all (f ∷ fs) a = (a.0.cts-near, near-all fs a.1)
 
 -- what `show` asks
-pub showable : (e : Edit) (all : List Frame) (fs : List Frame) → fs ≡ kept e all → 0 < length fs → All Good fs → Sound e → Showable (ctsOf fs) (first_of fs) (end-of fs) e
+pub showable : (e : Edit) (all : List Frame) (fs : List Frame) → fs ≡ kept e all → 0 < length fs → All Good fs → Sound e → Showable (cts_of fs) (first_of fs) (end-of fs) e
 showable e all [] k h a s = absurd (omega arith)
 showable e all (f ∷ fs) k h a s =
     let g = last-good f fs a.0 a.1 in
@@ -103,26 +103,26 @@ showable e all (f ∷ fs) k h a s =
       near_times = near-all (f ∷ fs) a;
       near_first = omega (arith, a.0.decode-near);
       near_last = ended (last_of f fs).cts (last_of f fs).duration g.cts-near g.short;
-      to_last = le-all (last_of f fs).cts (end_of (last_of f fs)) (ctsOf (f ∷ fs)) (le-plus (last_of f fs).cts (last_of f fs).duration g.cts-near g.short) (l.0, l.1);
-      to_end = λ q. subst (λ l. All (λ x. le_z x e.end ≡ true) (ctsOf l)) (sym k) (kept_under e all q);
+      to_last = le-all (last_of f fs).cts (end_of (last_of f fs)) (cts_of (f ∷ fs)) (le-plus (last_of f fs).cts (last_of f fs).duration g.cts-near g.short) (l.0, l.1);
+      to_end = λ q. subst (λ l. All (λ x. le_z x e.end ≡ true) (cts_of l)) (sym k) (kept_under e all q);
     }
 
 -- ---- the answers
 module _ (scale : ℕ) (nominal : ℤ) (e : Edit) where
-  pub none_kept : (fs : List Frame) → length fs ≡ 0 → ofKept scale nominal e fs ≡ refused 31
-  unfolding ofKept
+  pub none_kept : (fs : List Frame) → length fs ≡ 0 → of_kept scale nominal e fs ≡ refused 31
+  unfolding of_kept
   none_kept [] h = refl
   none_kept (f ∷ fs) h = absurd (omega arith)
 
-  pub low-nominal : (fs : List Frame) → le_z nominal (pos 0) ≡ true → ofKept scale nominal e fs ≡ refused 31
-  unfolding ofKept
+  pub low-nominal : (fs : List Frame) → le_z nominal (pos 0) ≡ true → of_kept scale nominal e fs ≡ refused 31
+  unfolding of_kept
   low-nominal [] h = refl
-  low-nominal (f ∷ fs) h = λ i. if h i then refused 31 else shown scale nominal e (first_of (f ∷ fs)) (end-of (f ∷ fs)) (sorted (ctsOf (f ∷ fs)))
+  low-nominal (f ∷ fs) h = λ i. if h i then refused 31 else shown scale nominal e (first_of (f ∷ fs)) (end-of (f ∷ fs)) (sorted (cts_of (f ∷ fs)))
 
-  pub some-shown : (fs : List Frame) → 0 < length fs → le_z nominal (pos 0) ≡ false → ofKept scale nominal e fs ≡ shown scale nominal e (first_of fs) (end-of fs) (sorted (ctsOf fs))
-  unfolding ofKept
+  pub some-shown : (fs : List Frame) → 0 < length fs → le_z nominal (pos 0) ≡ false → of_kept scale nominal e fs ≡ shown scale nominal e (first_of fs) (end-of fs) (sorted (cts_of fs))
+  unfolding of_kept
   some-shown [] h k = absurd (omega arith)
-  some-shown (f ∷ fs) h k = λ i. if k i then refused 31 else shown scale nominal e (first_of (f ∷ fs)) (end-of (f ∷ fs)) (sorted (ctsOf (f ∷ fs)))
+  some-shown (f ∷ fs) h k = λ i. if k i then refused 31 else shown scale nominal e (first_of (f ∷ fs)) (end-of (f ∷ fs)) (sorted (cts_of (f ∷ fs)))
 
 pub showable-as : (e : Edit) {l l' : List ℤ} {f f' z z' : ℤ} → l ≡ l' → f ≡ f' → z ≡ z' → Showable l' f' z' e → Showable l f z e
 showable-as e p q r m = rw (p, q, r) m

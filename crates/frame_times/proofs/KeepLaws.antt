@@ -20,13 +20,13 @@ use Rattle.choice.proofs.Tests.{decide}
 use Rattle.slices.proofs.Every.{all_append}
 use Rattle.tracks.specs.declared.Edit.{Edit}
 use Rattle.tracks.specs.declared.Cursor.{Cursor}
-use Rattle.tracks.specs.Tables.{offset_of, entriesOf, entryTotal, perFrame, durations}
-use Rattle.tracks.specs.Steps.{rest, There, Next, atFirst, offsetWrap, wrapped}
+use Rattle.tracks.specs.Tables.{offset_of, entries_of, entry_total, per_frame, durations}
+use Rattle.tracks.specs.Steps.{rest, There, Next, at_first, offset_wrap, wrapped}
 use Rattle.tracks.proofs.OffsetLaws.{offset-wrapped}
 use Rattle.tracks.proofs.EntryLaws.{length-per-frame}
 use Rattle.frame_times.specs.declared.Kept.{Kept}
-use Rattle.frame_times.specs.Frames.{Frame, framesFrom, inEdit, kept, ctsOf, last_of}
-use Rattle.frame_times.specs.Steps.{Good, keptWith, Told}
+use Rattle.frame_times.specs.Frames.{Frame, frames_from, in_edit, kept, cts_of, last_of}
+use Rattle.frame_times.specs.Steps.{Good, kept_with, Told}
 use Rattle.frame_times.proofs.Nearness.{offset-small, composed-near, ended}
 use Rattle.frame_times.proofs.FrameLaws.{frames-step, kept-yes, kept-no, last_snoc, last-good, first_of, end-of}
 
@@ -35,27 +35,27 @@ module _ (k : Kept) (t : ℕ) (c : ℤ) (d : ℕ) where
   abbrev later : Kept
   later = if le_z k.last c then record { count = k.count + 1; first = k.first; last = c; lasts = d } else record { count = k.count + 1; first = k.first; last = k.last; lasts = k.lasts }
 
-  pub with_first : k.count ≡ 0 → keptWith k t c d ≡ record { count = 1; first = t; last = c; lasts = d }
-  unfolding keptWith
+  pub with_first : k.count ≡ 0 → kept_with k t c d ≡ record { count = 1; first = t; last = c; lasts = d }
+  unfolding kept_with
   with_first h = λ i. if eq-eqb k.count 0 h i then record { count = 1; first = t; last = c; lasts = d } else later
 
   module _ (h : k.count ≡ 0 → ⊥) where
-    with-more : keptWith k t c d ≡ later
-    unfolding keptWith
+    with-more : kept_with k t c d ≡ later
+    unfolding kept_with
     with-more = λ i. if ne_eqb k.count 0 h i then record { count = 1; first = t; last = c; lasts = d } else later
 
-    pub with-last : le_z k.last c ≡ true → keptWith k t c d ≡ record { count = k.count + 1; first = k.first; last = c; lasts = d }
+    pub with-last : le_z k.last c ≡ true → kept_with k t c d ≡ record { count = k.count + 1; first = k.first; last = c; lasts = d }
     with-last p = with-more ∙ (λ i. if p i then record { count = k.count + 1; first = k.first; last = c; lasts = d } else record { count = k.count + 1; first = k.first; last = k.last; lasts = k.lasts })
 
-    pub with-other : le_z k.last c ≡ false → keptWith k t c d ≡ record { count = k.count + 1; first = k.first; last = k.last; lasts = k.lasts }
+    pub with-other : le_z k.last c ≡ false → kept_with k t c d ≡ record { count = k.count + 1; first = k.first; last = k.last; lasts = k.lasts }
     with-other p = with-more ∙ (λ i. if p i then record { count = k.count + 1; first = k.first; last = c; lasts = d } else record { count = k.count + 1; first = k.first; last = k.last; lasts = k.lasts })
 
 -- a time stored after those at the front
-front-more : (fs : List Frame) (f : Frame) (n : ℕ) (times : List ℤ) → n < length times → take n times ≡ ctsOf fs → take (n + 1) (set times n f.cts) ≡ ctsOf (fs ++ f ∷ [])
+front-more : (fs : List Frame) (f : Frame) (n : ℕ) (times : List ℤ) → n < length times → take n times ≡ cts_of fs → take (n + 1) (set times n f.cts) ≡ cts_of (fs ++ f ∷ [])
 front-more fs f n times h e = rw (add-one, take-suc-set times n f.cts h, e) (sym (map-append (λ (g : Frame). g.cts) fs (f ∷ [])))
 
 told_more : (fs : List Frame) (f : Frame) (k : Kept) (times : List ℤ) → Told fs k times → Good f → k.count < length times
-    → Told (fs ++ f ∷ []) (keptWith k f.decode f.cts f.duration) (set times k.count f.cts)
+    → Told (fs ++ f ∷ []) (kept_with k f.decode f.cts f.duration) (set times k.count f.cts)
 unfolding last_of
 told_more [] f k times h g room =
     let one : 1 ≡ k.count + 1 = omega (arith, h.count) in
@@ -91,18 +91,18 @@ pub record Keeping (u : Bool) (e : Edit) (stts ctts : List ℕ) (whole : List Fr
   pub small : t ≤ i * 4294967296
   pub done : List Frame
   pub few : length done ≤ i
-  pub is : done ++ kept e (framesFrom t (rest stts ds) (map (offset_of u) (rest ctts os))) ≡ whole
+  pub is : done ++ kept e (frames_from t (rest stts ds) (map (offset_of u) (rest ctts os))) ≡ whole
   pub told : Told done k times
 
-pub keep-start : (u : Bool) (e : Edit) (stts ctts : List ℕ) (n m : ℕ) (times : List ℤ) (k : Kept) → k.count ≡ 0 → n * 8 ≤ length stts - 8 → m * 8 ≤ length ctts - 8 → length times ≡ entryTotal (entriesOf n stts)
-    → Keeping u e stts ctts (kept e (framesFrom 0 (durations n stts) (map (offset_of u) (perFrame (entriesOf m ctts))))) times times (atFirst n) (atFirst m) k 0 0
+pub keep-start : (u : Bool) (e : Edit) (stts ctts : List ℕ) (n m : ℕ) (times : List ℤ) (k : Kept) → k.count ≡ 0 → n * 8 ≤ length stts - 8 → m * 8 ≤ length ctts - 8 → length times ≡ entry_total (entries_of n stts)
+    → Keeping u e stts ctts (kept e (frames_from 0 (durations n stts) (map (offset_of u) (per_frame (entries_of m ctts))))) times times (at_first n) (at_first m) k 0 0
 keep-start u e stts ctts n m times k z a b l =
     record {
       to = omega arith;
       long = refl;
       ds-there = a;
       os-there = b;
-      left = omega (arith, l, length-per-frame (entriesOf n stts));
+      left = omega (arith, l, length-per-frame (entries_of n stts));
       small = omega arith;
       done = [];
       few = omega arith;
@@ -120,7 +120,7 @@ module _ (u : Bool) (e : Edit) (stts ctts : List ℕ) (whole : List Frame) (time
   frame-good = record { decode-near = omega (arith, h.small); cts-near = composed-near t (offset_of u os'.value) (omega (arith, h.small)) (offset-small u os'.value fo); short = fd }
 
   -- its composition time, as the code adds it up
-  module _ {wrap : ℕ} {o : ℤ} (w : wrap ≡ offsetWrap u) (oi : I64 o) (oe : o ≡ wrapped wrap os'.value) where
+  module _ {wrap : ℕ} {o : ℤ} (w : wrap ≡ offset_wrap u) (oi : I64 o) (oe : o ≡ wrapped wrap os'.value) where
     abbrev added : ℤ
     added = to_z w64 t +ℤ read o
 
@@ -133,15 +133,15 @@ module _ (u : Bool) (e : Edit) (stts ctts : List ℕ) (whole : List Frame) (time
     pub cts-is : read added ≡ frame.cts
     cts-is = back added cts-fits ∙ sum_is
 
-  here : framesFrom t (rest stts ds) (map (offset_of u) (rest ctts os)) ≡ frame ∷ framesFrom (t + ds'.value) (rest stts ds') (map (offset_of u) (rest ctts os'))
+  here : frames_from t (rest stts ds) (map (offset_of u) (rest ctts os)) ≡ frame ∷ frames_from (t + ds'.value) (rest stts ds') (map (offset_of u) (rest ctts os'))
   here = frames-step u t (rest stts ds) (rest ctts os) (omega (arith, h.left))
-      ∙ sym (λ i. record { decode = t; cts = pos t +ℤ offset_of u (no.value i); duration = nd.value i } ∷ framesFrom (t + nd.value i) (nd.rest i) (map (offset_of u) (no.rest i)))
+      ∙ sym (λ i. record { decode = t; cts = pos t +ℤ offset_of u (no.value i); duration = nd.value i } ∷ frames_from (t + nd.value i) (nd.rest i) (map (offset_of u) (no.rest i)))
 
   after : length (rest stts ds') + (i + 1) ≡ length times₀
   after = omega (arith, ap length nd.rest, length-drop 1 (rest stts ds), h.left)
 
-  pub kept-turn : inEdit e frame.cts ≡ true
-      → Keeping u e stts ctts whole times₀ (set times k.count frame.cts) ds' os' (keptWith k t frame.cts ds'.value) (t + ds'.value) (i + 1)
+  pub kept-turn : in_edit e frame.cts ≡ true
+      → Keeping u e stts ctts whole times₀ (set times k.count frame.cts) ds' os' (kept_with k t frame.cts ds'.value) (t + ds'.value) (i + 1)
   kept-turn p =
       let room : k.count < length times = omega (arith, h.few, h.told.count, h.long) in
       record {
@@ -153,12 +153,12 @@ module _ (u : Bool) (e : Edit) (stts ctts : List ℕ) (whole : List Frame) (time
         small = omega (arith, h.small);
         done = h.done ++ frame ∷ [];
         few = omega (arith, h.few, length-append h.done (frame ∷ []));
-        is = append_assoc h.done (frame ∷ []) (kept e (framesFrom (t + ds'.value) (rest stts ds') (map (offset_of u) (rest ctts os'))))
-            ∙ ap (λ l. h.done ++ l) (sym (ap (kept e) here ∙ kept-yes e frame (framesFrom (t + ds'.value) (rest stts ds') (map (offset_of u) (rest ctts os'))) p)) ∙ h.is;
+        is = append_assoc h.done (frame ∷ []) (kept e (frames_from (t + ds'.value) (rest stts ds') (map (offset_of u) (rest ctts os'))))
+            ∙ ap (λ l. h.done ++ l) (sym (ap (kept e) here ∙ kept-yes e frame (frames_from (t + ds'.value) (rest stts ds') (map (offset_of u) (rest ctts os'))) p)) ∙ h.is;
         told = told_more h.done frame k times h.told frame-good room;
       }
 
-  pub left-turn : inEdit e frame.cts ≡ false → Keeping u e stts ctts whole times₀ times ds' os' k (t + ds'.value) (i + 1)
+  pub left-turn : in_edit e frame.cts ≡ false → Keeping u e stts ctts whole times₀ times ds' os' k (t + ds'.value) (i + 1)
   left-turn p =
       record {
         to = omega arith;
@@ -169,12 +169,12 @@ module _ (u : Bool) (e : Edit) (stts ctts : List ℕ) (whole : List Frame) (time
         small = omega (arith, h.small);
         done = h.done;
         few = omega (arith, h.few);
-        is = ap (λ l. h.done ++ l) (sym (ap (kept e) here ∙ kept-no e frame (framesFrom (t + ds'.value) (rest stts ds') (map (offset_of u) (rest ctts os'))) p)) ∙ h.is;
+        is = ap (λ l. h.done ++ l) (sym (ap (kept e) here ∙ kept-no e frame (frames_from (t + ds'.value) (rest stts ds') (map (offset_of u) (rest ctts os'))) p)) ∙ h.is;
         told = h.told;
       }
 
-none_left : (e : Edit) (t : ℕ) (ds : List ℕ) (os : List ℤ) → length ds ≡ 0 → kept e (framesFrom t ds os) ≡ []
-unfolding kept framesFrom
+none_left : (e : Edit) (t : ℕ) (ds : List ℕ) (os : List ℤ) → length ds ≡ 0 → kept e (frames_from t ds os) ≡ []
+unfolding kept frames_from
 none_left e t [] os h = refl
 none_left e t (d ∷ ds) os h = absurd (omega arith)
 

@@ -18,7 +18,7 @@ use lib.Signed.{le_z, mag}
 use borrow.Author.Tests.{le-leb, lt-leb}
 use Rattle.choice.specs.Records.{any}
 use Rattle.signed.specs.Steps.{I64}
-use Rattle.signed.specs.Signed.{isOutside, within}
+use Rattle.signed.specs.Signed.{is_outside, within}
 use Rattle.choice.proofs.Tests.{decide}
 use Rattle.signed.proofs.Up.{up, up_top, le_up, gt-up, sums, Difference, difference}
 use Rattle.slices.specs.Slices.{All, laid}
@@ -28,7 +28,7 @@ use Rattle.order.specs.Order.{sorted}
 use Rattle.order.proofs.Sorted.{all-sorted, length-sorted}
 use Rattle.tracks.specs.declared.Edit.{Edit}
 use Rattle.frame_times.specs.declared.FrameTimes.TheVariants.{Presented}
-use Rattle.frame_times.specs.Frames.{capped, timeOrigin, movedTime, maxZ}
+use Rattle.frame_times.specs.Frames.{capped, time_origin, moved_time, max_z}
 use Rattle.frame_times.specs.Steps.{Near, Ended, Showable, Movable, OutcomeAnswered}
 use Rattle.frame_times.specs.Times.{Outcome, placed, shown, refused}
 use Rattle.frame_times.proofs.Choices.{held, not-held, cap-endless, cap-under, cap-past, origin-edited, origin-none, max-first, max-second}
@@ -46,10 +46,10 @@ mid (negsuc n) h = record { inside = omega arith; low = omega arith; high = omeg
 mid-near : (z : ℤ) → Near z → Mid z
 mid-near z h = mid z (omega arith)
 
-max-mid : (a b : ℤ) → Mid a → Mid b → Mid (maxZ a b)
+max-mid : (a b : ℤ) → Mid a → Mid b → Mid (max_z a b)
 max-mid a b h k = decide (le_z a b) (λ p. subst Mid (sym (max-second a b p)) k) (λ p. subst Mid (sym (max-first a b p)) h)
 
-origin-mid : (e : Edit) (least first : ℤ) → Near least → Near first → Mid (timeOrigin e least first)
+origin-mid : (e : Edit) (least first : ℤ) → Near least → Near first → Mid (time_origin e least first)
 origin-mid e a b h k =
     decide e.edited
     (λ p. subst Mid (sym (origin-edited e a b p)) (max-mid a b (mid-near a h) (mid-near b k)))
@@ -84,25 +84,25 @@ apart : (x o : ℤ) → Mid x → Mid o → Difference x o (x -ℤ o)
 apart x o h k = difference x o h.inside k.inside (omega (arith, h, k)) (omega (arith, h, k))
 
 -- what is at most an end that fits, fits
-module _ (o d cap : ℤ) (mo : Mid o) (mc : Mid cap) (fd : I64 d) (nd : 2 ^ 63 ≤ up d) (fits : I64 (movedTime o d cap)) where
+module _ (o d cap : ℤ) (mo : Mid o) (mc : Mid cap) (fd : I64 d) (nd : 2 ^ 63 ≤ up d) (fits : I64 (moved_time o d cap)) where
   under-fits : (x : ℤ) → Mid x → le_z x cap ≡ true → Movable o d x
   under-fits x mx h =
       let a = apart cap o mc mo in
       let b = apart x o mx mo in
-      let top = up_top (movedTime o d cap) fits in
+      let top = up_top (moved_time o d cap) fits in
       let e = (sums (cap -ℤ o) d a.inside fd).at (omega arith) in
       let k = le_up x cap h in
       (b.inside, (sums (x -ℤ o) d b.inside fd).inside (omega arith) (omega (arith, a.at, b.at)))
 
 -- ---- the answer
-some_out : (l : List ℤ) (z : ℤ) → 2 ^ 63 ≤ mag z → any isOutside (z ∷ l) ≡ true
+some_out : (l : List ℤ) (z : ℤ) → 2 ^ 63 ≤ mag z → any is_outside (z ∷ l) ≡ true
 unfolding any
-some_out l z h = λ i. le-leb 9223372036854775808 (mag z) h i || any isOutside l
+some_out l z h = λ i. le-leb 9223372036854775808 (mag z) h i || any is_outside l
 
-none_out : (l : List ℤ) → All I64 l → any isOutside l ≡ false
+none_out : (l : List ℤ) → All I64 l → any is_outside l ≡ false
 unfolding any
 none_out [] h = refl
-none_out (z ∷ l) h = (λ i. lt-leb 9223372036854775808 (mag z) h.0 i || any isOutside l) ∙ none_out l h.1
+none_out (z ∷ l) h = (λ i. lt-leb 9223372036854775808 (mag z) h.0 i || any is_outside l) ∙ none_out l h.1
 
 module _ (scale : ℕ) (nominal end : ℤ) (starts : List ℤ) where
   abbrev told : Outcome
@@ -131,7 +131,7 @@ all_map P f [] h = tt
 all_map P f (x ∷ l) h = (h.0, all_map P f l h.1)
 
 abbrev pub from-0 : Edit → ℤ → List ℤ → ℤ
-from-0 e first times = timeOrigin e (get_or times 0 (pos 0)) first
+from-0 e first times = time_origin e (get_or times 0 (pos 0)) first
 
 module _ (times : List ℤ) (first last : ℤ) (e : Edit) (s : Showable times first last e) (some : 0 < length times) where
   o-mid : Mid (from-0 e first times)
@@ -143,11 +143,11 @@ module _ (times : List ℤ) (first last : ℤ) (e : Edit) (s : Showable times fi
   pub end-apart : Difference (capped e last) (from-0 e first times) (capped e last -ℤ from-0 e first times)
   end-apart = apart (capped e last) (from-0 e first times) cap-mid o-mid
 
-  pub shown-out : (scale : ℕ) (nominal : ℤ) → 2 ^ 63 ≤ mag (movedTime (from-0 e first times) e.empty (capped e last)) → shown scale nominal e first last times ≡ refused 33
+  pub shown-out : (scale : ℕ) (nominal : ℤ) → 2 ^ 63 ≤ mag (moved_time (from-0 e first times) e.empty (capped e last)) → shown scale nominal e first last times ≡ refused 33
   unfolding shown
-  shown-out scale nominal h = placed-out scale nominal (movedTime (from-0 e first times) e.empty (capped e last)) (map (movedTime (from-0 e first times) e.empty) times) h
+  shown-out scale nominal h = placed-out scale nominal (moved_time (from-0 e first times) e.empty (capped e last)) (map (moved_time (from-0 e first times) e.empty) times) h
 
-  module _ (fits : I64 (movedTime (from-0 e first times) e.empty (capped e last))) where
+  module _ (fits : I64 (moved_time (from-0 e first times) e.empty (capped e last))) where
     pub times-move : All (Movable (from-0 e first times) e.empty) times
     times-move =
         let up-empty : 2 ^ 63 ≤ up e.empty = omega (arith, le_up (pos 0) e.empty s.sound.empty-above) in
@@ -159,10 +159,10 @@ module _ (times : List ℤ) (first last : ℤ) (e : Edit) (s : Showable times fi
 
     pub shown-in : (scale : ℕ) (nominal : ℤ)
         → shown scale nominal e first last times
-        ≡ record { answer = Presented (length times) scale nominal (movedTime (from-0 e first times) e.empty (capped e last)); starts = map (movedTime (from-0 e first times) e.empty) times }
+        ≡ record { answer = Presented (length times) scale nominal (moved_time (from-0 e first times) e.empty (capped e last)); starts = map (moved_time (from-0 e first times) e.empty) times }
     unfolding shown
     shown-in scale nominal =
-        let f = movedTime (from-0 e first times) e.empty in
+        let f = moved_time (from-0 e first times) e.empty in
         placed-in scale nominal (f (capped e last)) (map f times) fits
         (all_map I64 f times (all-weaken (Movable (from-0 e first times) e.empty) (λ x. I64 (f x)) times (λ x m. m.1) times-move))
         ∙ ap (λ n. record { answer = Presented n scale nominal (f (capped e last)); starts = map f times }) (length-map times f)
@@ -187,12 +187,12 @@ pub record Showing (times new : List ℤ) (first last : ℤ) (e : Edit) (o cap :
   pub last_fits : SFits w64 last
   pub order : new ≡ sorted times
   pub origin_fits : I64 o
-  pub origin : o ≡ timeOrigin e (read (get_or new 0 (pos 0))) (read first)
+  pub origin : o ≡ time_origin e (read (get_or new 0 (pos 0))) (read first)
   pub cap_fits : I64 cap
   pub cap_is : cap ≡ capped e (read last)
 
 pub showing : {times new : List ℤ} {first last : ℤ} {e : Edit} {o cap : ℤ} → Showable times first last e → 0 < length times → SFits w64 first → SFits w64 last → new ≡ sorted times
-    → I64 o → o ≡ timeOrigin e (read (get_or new 0 (pos 0))) (read first) → I64 cap → cap ≡ capped e (read last) → Showing times new first last e o cap
+    → I64 o → o ≡ time_origin e (read (get_or new 0 (pos 0))) (read first) → I64 cap → cap ≡ capped e (read last) → Showing times new first last e o cap
 showing g s f l n x o y c = record { given = g; some₀ = s; first_fits = f; last_fits = l; order = n; origin_fits = x; origin = o; cap_fits = y; cap_is = c }
 
 module _ {times new : List ℤ} {first last : ℤ} {e : Edit} {o cap : ℤ} (h : Showing times new first last e o cap) where
@@ -213,7 +213,7 @@ module _ {times new : List ℤ} {first last : ℤ} {e : Edit} {o cap : ℤ} (h :
       let here : get_or new 0 (pos 0) ≡ get_or (sorted times) 0 (pos 0) = ap (λ (l : List ℤ). get_or l 0 (pos 0)) h.order in
       let inside : I64 (get_or (sorted times) 0 (pos 0)) = omega (arith, all-at Near (sorted times) 0 (pos 0) able.near_times some) in
       let least : read (get_or new 0 (pos 0)) ≡ get_or (sorted times) 0 (pos 0) = ap read here ∙ back (get_or (sorted times) 0 (pos 0)) inside in
-      back o h.origin_fits ∙ h.origin ∙ (λ i. timeOrigin e (least i) (reads h.first_fits i))
+      back o h.origin_fits ∙ h.origin ∙ (λ i. time_origin e (least i) (reads h.first_fits i))
 
   pub cap-read : read cap ≡ top
   cap-read = back cap h.cap_fits ∙ h.cap_is ∙ ap (capped e) (reads h.last_fits)
@@ -229,7 +229,7 @@ module _ {times new : List ℤ} {first last : ℤ} {e : Edit} {o cap : ℤ} (h :
 
   -- the end that is tested
   abbrev pub end_is : ℤ
-  end_is = movedTime org e.empty top
+  end_is = moved_time org e.empty top
 
   pub summed : {r : Held} → r ≡ within (read (read cap -ℤ read o) +ℤ read e.empty) → r ≡ within end_is
   summed q = q ∙ (λ i. within (((λ j. read (cap-read j -ℤ org-read j)) ∙ back (top -ℤ org) top-apart) i +ℤ empty-read i))
@@ -247,11 +247,11 @@ module _ {times new : List ℤ} {first last : ℤ} {e : Edit} {o cap : ℤ} (h :
     pub placeable : All (Movable (read o) (read e.empty)) new
     placeable = movable-as org (read o) e.empty (read e.empty) (sorted times) new org-read empty-read h.order (times-move (sorted times) first last e able some end-fits)
 
-    pub answers : (scale : ℕ) (nominal : ℤ) {l l' : List ℤ} → SFits w64 nominal → l' ≡ laid (map (movedTime (read o) (read e.empty)) new) l
+    pub answers : (scale : ℕ) (nominal : ℤ) {l l' : List ℤ} → SFits w64 nominal → l' ≡ laid (map (moved_time (read o) (read e.empty)) new) l
         → OutcomeAnswered (shown scale nominal e first last (sorted times)) (Presented (length new) scale (read nominal) (read z)) l l'
     answers scale nominal {l} {l'} f p =
         let s = shown-in (sorted times) first last e able some end-fits scale nominal in
         record {
           answer = (λ i. Presented (length (h.order i)) scale (reads f i) (end-read i)) ∙ ap (λ (o : Outcome). o.answer) (sym s);
-          starts = p ∙ (λ i. laid (map (movedTime (org-read i) (empty-read i)) (h.order i)) l) ∙ ap (λ (o : Outcome). laid o.starts l) (sym s);
+          starts = p ∙ (λ i. laid (map (moved_time (org-read i) (empty-read i)) (h.order i)) l) ∙ ap (λ (o : Outcome). laid o.starts l) (sym s);
         }

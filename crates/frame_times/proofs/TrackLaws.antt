@@ -9,8 +9,8 @@ use lib.ListN.{length}
 use lib.Dec.{eqb}
 use borrow.Author.Tests.{eqb-false}
 use Rattle.choice.proofs.Tests.{or-false}
-use Rattle.boxes.specs.Places.{placeOr, part_of}
-use Rattle.boxes.specs.Steps.{offsetIn}
+use Rattle.boxes.specs.Places.{place_or, part_of}
+use Rattle.boxes.specs.Steps.{offset_in}
 use Rattle.boxes.specs.declared.Walk.{Walk}
 use Rattle.boxes.specs.declared.Walk.TheVariants.{Found}
 use Rattle.boxes.proofs.Parts.{length_part}
@@ -30,11 +30,11 @@ pub answered-as : {o o' : Outcome} {r : FrameTimes} {l l' : List ℤ} → o ≡ 
 answered-as {r = r} {l = l} {l' = l'} e a = subst (λ (x : Outcome). OutcomeAnswered x r l l') (sym e) a
 
 -- nothing wraps: an offset in a part, counted from the moov's start
-pub offset-fits : (base : ℕ) (s : List ℕ) (w : Walk) → Walked (length s) w → base + length s ≤ 16777216 → base + offsetIn w < 2 ^ 64
+pub offset-fits : (base : ℕ) (s : List ℕ) (w : Walk) → Walked (length s) w → base + length s ≤ 16777216 → base + offset_in w < 2 ^ 64
 offset-fits base s w h l = omega (arith, offset-within (length s) w h)
 
 -- a payload, counted from the moov's start, ends within the moov
-pub deeper : (base a n : ℕ) (s : List ℕ) {w : Walk} {p : List ℕ} → w ≡ Found a n → Walked (length s) w → p ≡ part_of s (placeOr 31 (Found a n)) → base + length s ≤ 16777216 → (base + a) + length p ≤ 16777216
+pub deeper : (base a n : ℕ) (s : List ℕ) {w : Walk} {p : List ℕ} → w ≡ Found a n → Walked (length s) w → p ≡ part_of s (place_or 31 (Found a n)) → base + length s ≤ 16777216 → (base + a) + length p ≤ 16777216
 deeper base a n s {w} {p} f h q l =
     let k : a + n ≤ length s = subst (Walked (length s)) f h in
     let z : length p ≡ n = ap length q ∙ length_part s a n k in

@@ -11,22 +11,22 @@ pub record Frame : Type 0 where
 
 -- The frames in decode order, from the decode time t on. The durations add up to the decode times; a composition time is the decode time
 -- plus the offset. There are as many frames as durations: more offsets are ignored, and a frame that has none gets 0.
-unfoldable pub framesFrom : ℕ → List ℕ → List ℤ → List Frame
-framesFrom t [] os = []
-framesFrom t (d ∷ ds) os = record { decode = t; cts = pos t +ℤ get_or os 0 (pos 0); duration = d } ∷ framesFrom (t + d) ds (drop 1 os)
+unfoldable pub frames_from : ℕ → List ℕ → List ℤ → List Frame
+frames_from t [] os = []
+frames_from t (d ∷ ds) os = record { decode = t; cts = pos t +ℤ get_or os 0 (pos 0); duration = d } ∷ frames_from (t + d) ds (drop 1 os)
 
 -- kept: time <= cts < media end
-abbrev pub inEdit : Edit → ℤ → Bool
-inEdit e c = if le_z e.time c then if e.endless then true else lt_z c e.end else false
+abbrev pub in_edit : Edit → ℤ → Bool
+in_edit e c = if le_z e.time c then if e.endless then true else lt_z c e.end else false
 
 -- the frames that are kept
 unfoldable pub kept : Edit → List Frame → List Frame
 kept e [] = []
-kept e (f ∷ fs) = if inEdit e f.cts then f ∷ kept e fs else kept e fs
+kept e (f ∷ fs) = if in_edit e f.cts then f ∷ kept e fs else kept e fs
 
 -- their composition times
-abbrev pub ctsOf : List Frame → List ℤ
-ctsOf fs = map (λ (f : Frame). f.cts) fs
+abbrev pub cts_of : List Frame → List ℤ
+cts_of fs = map (λ (f : Frame). f.cts) fs
 
 -- the last of f and fs: the one with the largest cts, and of equals the later in decode order
 unfoldable pub last_of : Frame → List Frame → Frame
@@ -37,20 +37,20 @@ last_of f (g ∷ fs) = last_of (if le_z f.cts g.cts then g else f) fs
 abbrev pub end_of : Frame → ℤ
 end_of f = f.cts +ℤ pos f.duration
 
-abbrev pub maxZ : ℤ → ℤ → ℤ
-maxZ a b = if le_z a b then b else a
+abbrev pub max_z : ℤ → ℤ → ℤ
+max_z a b = if le_z a b then b else a
 
-abbrev pub minZ : ℤ → ℤ → ℤ
-minZ a b = if le_z a b then a else b
+abbrev pub min_z : ℤ → ℤ → ℤ
+min_z a b = if le_z a b then a else b
 
 -- capped at the media end
 abbrev pub capped : Edit → ℤ → ℤ
-capped e z = if e.endless then z else minZ z e.end
+capped e z = if e.endless then z else min_z z e.end
 
 -- with an edit the larger of the least kept cts and the decode time of the first kept frame, without one 0
-abbrev pub timeOrigin : Edit → ℤ → ℤ → ℤ
-timeOrigin e least first = if e.edited then maxZ least first else pos 0
+abbrev pub time_origin : Edit → ℤ → ℤ → ℤ
+time_origin e least first = if e.edited then max_z least first else pos 0
 
 -- minus origin plus empty ticks
-abbrev pub movedTime : ℤ → ℤ → ℤ → ℤ
-movedTime o empty z = (z -ℤ o) +ℤ empty
+abbrev pub moved_time : ℤ → ℤ → ℤ → ℤ
+moved_time o empty z = (z -ℤ o) +ℤ empty

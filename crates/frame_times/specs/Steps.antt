@@ -8,7 +8,7 @@ use Rattle.tracks.specs.Steps.{Sound}
 use Rattle.frame_times.specs.declared.FrameTimes.{FrameTimes}
 use Rattle.frame_times.specs.declared.Kept.{Kept}
 use Rattle.frame_times.specs.Times.{Outcome}
-use Rattle.frame_times.specs.Frames.{Frame, ctsOf, last_of, movedTime}
+use Rattle.frame_times.specs.Frames.{Frame, cts_of, last_of, moved_time}
 
 -- a decode or composition time, and where a frame ends
 abbrev pub Near : ℤ → Type 0
@@ -24,8 +24,8 @@ pub record Good (f : Frame) : Type 0 where
   pub short : f.duration < 2 ^ 32
 
 -- one kept frame more
-unfoldable pub keptWith : Kept → ℕ → ℤ → ℕ → Kept
-keptWith k t c d =
+unfoldable pub kept_with : Kept → ℕ → ℤ → ℕ → Kept
+kept_with k t c d =
     if eqb k.count 0 then record { count = 1; first = t; last = c; lasts = d }
     else if le_z k.last c then record { count = k.count + 1; first = k.first; last = c; lasts = d }
     else record { count = k.count + 1; first = k.first; last = k.last; lasts = k.lasts }
@@ -38,13 +38,13 @@ Ends (f ∷ fs) k = (k.first ≡ f.decode) × (k.last ≡ (last_of f fs).cts) ×
 -- kept frames, their composition times at the front of a slice, and what k tells of them
 pub record Told (fs : List Frame) (k : Kept) (times : List ℤ) : Type 0 where
   pub count : k.count ≡ length fs
-  pub front : take k.count times ≡ ctsOf fs
+  pub front : take k.count times ≡ cts_of fs
   pub ends : Ends fs k
   pub good : All Good fs
 
 -- a time that can be moved
 abbrev pub Movable : ℤ → ℤ → ℤ → Type 0
-Movable o d z = I64 (z -ℤ o) × I64 (movedTime o d z)
+Movable o d z = I64 (z -ℤ o) × I64 (moved_time o d z)
 
 -- kept times, with the first one's decode time and the last one's end
 pub record Showable (times : List ℤ) (first last : ℤ) (e : Edit) : Type 0 where

@@ -1,8 +1,8 @@
 // The pass over the frames, in decode order.
 ghost use Rattle.std.specs.Prelude.{◌≡◌, ◌-◌, ◌*◌, ◌≤◌, length};
-ghost use Rattle.tracks.specs.Tables.{entriesOf, entryTotal, durations, offsets};
-ghost use Rattle.frame_times.specs.Frames.{framesFrom, inEdit, kept};
-ghost use Rattle.frame_times.specs.Steps.{Told, keptWith};
+ghost use Rattle.tracks.specs.Tables.{entries_of, entry_total, durations, offsets};
+ghost use Rattle.frame_times.specs.Frames.{frames_from, in_edit, kept};
+ghost use Rattle.frame_times.specs.Steps.{Told, kept_with};
 
 use crate::Kept;
 use tracks::Edit;
@@ -10,7 +10,7 @@ use tracks::tables::{at_first, next, offset, offset_wrap};
 
 // Whether a composition time is kept: the closure in_edit of the Rust.
 fn in_edit(e: Edit, c: i64) -> bool
-    ensures { result ≡ inEdit e c }
+    ensures { result ≡ in_edit e c }
 {
     if e.time <= c {
         if e.endless {
@@ -22,10 +22,10 @@ fn in_edit(e: Edit, c: i64) -> bool
 }
 
 // One kept frame more, which comes last where its composition time isn't below the last one's.
-#[tactic(auto, using(choice::proofs::Tests::tests), unfolding(crate::specs::Steps::keptWith))]
+#[tactic(auto, using(choice::proofs::Tests::tests), unfolding(crate::specs::Steps::kept_with))]
 fn with_frame(k: Kept, decode: u64, c: i64, duration: u64) -> Kept
     requires { k.count ≤ 16777216 }
-    ensures { result ≡ keptWith k decode c duration }
+    ensures { result ≡ kept_with k decode c duration }
 {
     if k.count == 0 {
         return Kept {
@@ -62,8 +62,8 @@ pub(crate) fn keep(
     e: Edit,
     times: &mut [i64],
 ) -> Kept
-    requires { (n * 8 ≤ length stts.now - 8) × (m * 8 ≤ length ctts.now - 8) × (length times.old ≡ entryTotal (entriesOf n stts.now)) × (length times.old ≤ 16777216) }
-    ensures { Told (kept e (framesFrom 0 (durations n stts.now) (offsets standard m ctts.now))) result times.new }
+    requires { (n * 8 ≤ length stts.now - 8) × (m * 8 ≤ length ctts.now - 8) × (length times.old ≡ entry_total (entries_of n stts.now)) × (length times.old ≤ 16777216) }
+    ensures { Told (kept e (frames_from 0 (durations n stts.now) (offsets standard m ctts.now))) result times.new }
 {
     let wrap = offset_wrap(standard, ctts);
     let mut ds = at_first(n);

@@ -2,10 +2,10 @@
 ghost use Rattle.std.specs.Prelude.{◌≡◌, map, ◌-◌, ◌*◌, ◌≤◌, ◌<◌, length, pos};
 ghost use Rattle.slices.specs.Slices.{All, laid};
 ghost use Rattle.order.specs.Order.{Asc, sorted, mode};
-ghost use Rattle.tracks.specs.Tables.{entriesOf, entryTotal, durations, offsets};
+ghost use Rattle.tracks.specs.Tables.{entries_of, entry_total, durations, offsets};
 ghost use Rattle.tracks.specs.Steps.{Sound};
-ghost use Rattle.frame_times.specs.Frames.{timeOrigin, capped, movedTime, maxZ};
-ghost use Rattle.frame_times.specs.Times.{shown, ofFrames};
+ghost use Rattle.frame_times.specs.Frames.{time_origin, capped, moved_time, max_z};
+ghost use Rattle.frame_times.specs.Times.{shown, of_frames};
 ghost use Rattle.frame_times.specs.Steps.{Movable, Showable, OutcomeAnswered};
 
 use crate::FrameTimes;
@@ -23,14 +23,14 @@ pub(crate) fn refused(number: u64) -> FrameTimes
 
 // The larger of two.
 fn larger(a: i64, b: i64) -> i64
-    ensures { result ≡ maxZ a b }
+    ensures { result ≡ max_z a b }
 {
     if a <= b { b } else { a }
 }
 
 // Where the starts count from, with the least composition time and the first decode time that are kept.
 fn origin_of(e: Edit, least: i64, first: i64) -> i64
-    ensures { result ≡ timeOrigin e least first }
+    ensures { result ≡ time_origin e least first }
 {
     if e.edited {
         return larger(least, first);
@@ -55,7 +55,7 @@ fn capped_at(e: Edit, z: i64) -> i64
 fn place(times: &[i64], o: i64, d: i64, out: &mut [i64])
     requires times_in_bounds { length times.now ≤ length out.old }
     requires all { All (λ x. Movable o d x) times.now }
-    ensures { out.new ≡ laid (map (movedTime o d) times.now) out.old }
+    ensures { out.new ≡ laid (map (moved_time o d) times.now) out.old }
 {
     let mut i: usize = 0;
     while i < times.len() {
@@ -117,9 +117,9 @@ pub(crate) fn present(
     a: &mut [i64],
     b: &mut [i64],
 ) -> FrameTimes
-    requires n_in_bounds { (n * 8 ≤ length stts.now - 8) × (m * 8 ≤ length ctts.now - 8) × (length a.old ≡ entryTotal (entriesOf n stts.now)) × (length a.old ≤ 16777216) × (length a.old ≤ length starts.old) }
+    requires n_in_bounds { (n * 8 ≤ length stts.now - 8) × (m * 8 ≤ length ctts.now - 8) × (length a.old ≡ entry_total (entries_of n stts.now)) × (length a.old ≤ 16777216) × (length a.old ≤ length starts.old) }
     requires b_value { (b.old ≡ map pos (durations n stts.now)) × Sound e }
-    ensures { OutcomeAnswered (ofFrames scale e (durations n stts.now) (offsets standard m ctts.now)) result starts.old starts.new }
+    ensures { OutcomeAnswered (of_frames scale e (durations n stts.now) (offsets standard m ctts.now)) result starts.old starts.new }
 {
     order::sort_any(b, a);
     let nominal = nominal_of(b);

@@ -1,8 +1,8 @@
 // From the moov to the tables of its first video track, in the order of the Rust.
 ghost use Rattle.std.specs.Prelude.{◌≡◌, map, ◌+◌, ◌-◌, ◌*◌, ◌≤◌, ◌<◌, ◌^◌, min, length, pos};
-ghost use Rattle.boxes.specs.Steps.{offsetIn};
-ghost use Rattle.tracks.specs.Tables.{tableRows, optionalRows, entriesOf, entryTotal, durations};
-ghost use Rattle.frame_times.specs.Times.{stbl, room, notFound, inChild, ofOffsets, ofDurations, ofTables, ofMedia, ofTrack, timesOfMoov};
+ghost use Rattle.boxes.specs.Steps.{offset_in};
+ghost use Rattle.tracks.specs.Tables.{table_rows, optional_rows, entries_of, entry_total, durations};
+ghost use Rattle.frame_times.specs.Times.{stbl, room, not_found, in_child, of_offsets, of_durations, of_tables, of_media, of_track, times_of_moov};
 ghost use Rattle.frame_times.specs.Steps.{OutcomeAnswered};
 
 use crate::FrameTimes;
@@ -34,8 +34,8 @@ fn least_length(x: &[i64], y: &[i64], z: &[i64]) -> usize
 
 // A box that has to be there and that a walk didn't find, in the part that starts at base of the moov.
 fn not_found(base: usize, w: Walk) -> FrameTimes
-    requires { base + offsetIn w < 2 ^ 64 }
-    ensures { result ≡ (notFound base w).answer }
+    requires { base + offset_in w < 2 ^ 64 }
+    ensures { result ≡ (not_found base w).answer }
 {
     match w {
         Walk::Found { start: _, len: _ } => refused(NO_TIMES),
@@ -60,9 +60,9 @@ fn past_room(
     a: &mut [i64],
     b: &mut [i64],
 ) -> FrameTimes
-    requires n_in_bounds { (n * 8 ≤ length stts.now - 8) × (length a.old ≡ entryTotal (entriesOf n stts.now)) × (length a.old ≤ 16777216) × (length a.old ≤ length starts.old) }
+    requires n_in_bounds { (n * 8 ≤ length stts.now - 8) × (length a.old ≡ entry_total (entries_of n stts.now)) × (length a.old ≤ 16777216) × (length a.old ≤ length starts.old) }
     requires b_value { (b.old ≡ map pos (durations n stts.now)) × (scale < 2 ^ 32) × (0 < movie) × (movie < 2 ^ 32) }
-    ensures { OutcomeAnswered (ofOffsets standard (optionalRows ctts.now) ctts.now edts.now scale movie (durations n stts.now)) result starts.old starts.new }
+    ensures { OutcomeAnswered (of_offsets standard (optional_rows ctts.now) ctts.now edts.now scale movie (durations n stts.now)) result starts.old starts.new }
 {
     let Rows::Whole(m) = optional_rows(ctts) else {
         return refused(NO_TIMES);
@@ -87,7 +87,7 @@ fn of_durations(
     b: &mut [i64],
 ) -> FrameTimes
     requires { (bytes ≤ 16777216) × (scale < 2 ^ 32) × (0 < movie) × (movie < 2 ^ 32) }
-    ensures { OutcomeAnswered (ofDurations standard (tableRows stts.now) bytes (room starts.old a.old b.old) movie scale edts.now ctts.now stts.now) result starts.old starts.new }
+    ensures { OutcomeAnswered (of_durations standard (table_rows stts.now) bytes (room starts.old a.old b.old) movie scale edts.now ctts.now stts.now) result starts.old starts.new }
 {
     let Rows::Whole(n) = count_rows(stts) else {
         return refused(NO_TIMES);
@@ -114,7 +114,7 @@ fn of_durations(
 }
 
 // Answers with the edts of such a track, and with its stbl, which starts at base of the moov.
-#[tactic(auto, using(choice::proofs::Tests::tests), unfolding(crate::specs::Times::ofTables))]
+#[tactic(auto, using(choice::proofs::Tests::tests), unfolding(crate::specs::Times::of_tables))]
 fn of_tables(
     standard: bool,
     bytes: usize,
@@ -128,7 +128,7 @@ fn of_tables(
     b: &mut [i64],
 ) -> FrameTimes
     requires { (bytes ≤ 16777216) × (scale < 2 ^ 32) × (0 < movie) × (movie < 2 ^ 32) × (base + length stbl.now ≤ 16777216) }
-    ensures { OutcomeAnswered (ofTables standard bytes (room starts.old a.old b.old) movie scale edts.now base stbl.now) result starts.old starts.new }
+    ensures { OutcomeAnswered (of_tables standard bytes (room starts.old a.old b.old) movie scale edts.now base stbl.now) result starts.old starts.new }
 {
     let w = find_child(stbl, code(b"stts"));
     let Walk::Found { start: _, len: _ } = w else {
@@ -163,7 +163,7 @@ fn of_info(
     b: &mut [i64],
 ) -> FrameTimes
     requires { (bytes ≤ 16777216) × (scale < 2 ^ 32) × (0 < movie) × (movie < 2 ^ 32) × (base + length minf.now ≤ 16777216) }
-    ensures { OutcomeAnswered (inChild stbl base minf.now (ofTables standard bytes (room starts.old a.old b.old) movie scale edts.now)) result starts.old starts.new }
+    ensures { OutcomeAnswered (in_child stbl base minf.now (of_tables standard bytes (room starts.old a.old b.old) movie scale edts.now)) result starts.old starts.new }
 {
     let w = find_child(minf, code(b"stbl"));
     let Walk::Found { start, len: _ } = w else {
@@ -184,7 +184,7 @@ fn of_info(
 }
 
 // Answers with the mdia of a video track, at base of the moov, which has its timescale and its minf.
-#[tactic(auto, using(choice::proofs::Tests::tests), unfolding(crate::specs::Times::ofMedia))]
+#[tactic(auto, using(choice::proofs::Tests::tests), unfolding(crate::specs::Times::of_media))]
 fn of_media(
     standard: bool,
     bytes: usize,
@@ -197,7 +197,7 @@ fn of_media(
     b: &mut [i64],
 ) -> FrameTimes
     requires { (bytes ≤ 16777216) × (movie < 2 ^ 32) × (base + length mdia.now ≤ 16777216) }
-    ensures { OutcomeAnswered (ofMedia standard bytes (room starts.old a.old b.old) movie edts.now base mdia.now) result starts.old starts.new }
+    ensures { OutcomeAnswered (of_media standard bytes (room starts.old a.old b.old) movie edts.now base mdia.now) result starts.old starts.new }
 {
     let h = find_child(mdia, code(b"mdhd"));
     let Walk::Found { start: _, len: _ } = h else {
@@ -226,7 +226,7 @@ fn of_media(
 }
 
 // Answers with a video track, which starts at base of the moov.
-#[tactic(auto, using(choice::proofs::Tests::tests), unfolding(crate::specs::Times::ofTrack))]
+#[tactic(auto, using(choice::proofs::Tests::tests), unfolding(crate::specs::Times::of_track))]
 fn of_track(
     standard: bool,
     bytes: usize,
@@ -238,7 +238,7 @@ fn of_track(
     b: &mut [i64],
 ) -> FrameTimes
     requires { (bytes ≤ 16777216) × (movie < 2 ^ 32) × (base + length trak.now ≤ 16777216) }
-    ensures { OutcomeAnswered (ofTrack standard bytes (room starts.old a.old b.old) movie base trak.now) result starts.old starts.new }
+    ensures { OutcomeAnswered (of_track standard bytes (room starts.old a.old b.old) movie base trak.now) result starts.old starts.new }
 {
     let w = find_child(trak, code(b"mdia"));
     let Walk::Found { start, len: _ } = w else {
@@ -259,7 +259,7 @@ fn of_track(
 }
 
 // Answers with a moov, and leaves the working slices as they happen to be.
-#[tactic(auto, using(choice::proofs::Tests::tests), unfolding(crate::specs::Times::timesOfMoov))]
+#[tactic(auto, using(choice::proofs::Tests::tests), unfolding(crate::specs::Times::times_of_moov))]
 pub(crate) fn of_moov(
     moov: &[u8],
     standard: bool,
@@ -267,7 +267,7 @@ pub(crate) fn of_moov(
     a: &mut [i64],
     b: &mut [i64],
 ) -> FrameTimes
-    ensures { OutcomeAnswered (timesOfMoov standard moov.now (room starts.old a.old b.old)) result starts.old starts.new }
+    ensures { OutcomeAnswered (times_of_moov standard moov.now (room starts.old a.old b.old)) result starts.old starts.new }
 {
     let bytes = moov.len();
     if MOST_BYTES < bytes {

@@ -10,25 +10,25 @@ use Rattle.slices.specs.Slices.{laid}
 use Rattle.slices.proofs.Laid.{length-laid}
 use Rattle.mcraw.specs.declared.RecordingTimes.{RecordingTimes}
 use Rattle.mcraw.specs.declared.RecordingTimes.TheVariants.{Timed}
-use Rattle.mcraw.specs.Mcraw.{startsOf, mcrawTimes, McrawAnswers}
+use Rattle.mcraw.specs.Mcraw.{starts_of, mcraw_times, McrawAnswers}
 use Rattle.mcraw.proofs.Spans.{length-starts}
 use Rattle.mcraw.proofs.Answers.{accepted, wrote}
 
 module _ {ts starts work : List ℤ} {r : RecordingTimes} {s w : List ℤ} (h : McrawAnswers ts starts work r s w) {n scale : ℕ} {m e : ℤ} (k : r ≡ Timed n scale m e) where
-  pub times-are : mcrawTimes ts (length starts) (length work) ≡ Timed n scale m e
+  pub times-are : mcraw_times ts (length starts) (length work) ≡ Timed n scale m e
   times-are = sym h.answer ∙ k
 
-  laid_out : s ≡ laid (startsOf ts) starts
+  laid_out : s ≡ laid (starts_of ts) starts
   laid_out = h.laid_out ∙ ap (λ (l : List ℤ). laid l starts) (sym (wrote ts n scale m e r k))
 
   pub starts-room : n ≤ length s
   starts-room =
       let a = accepted ts (length starts) (length work) n scale m e times-are in
       let l = length-starts ts in
-      let long = ap length laid_out ∙ length-laid (startsOf ts) starts (omega (arith, a.passed.starts-room)) in
+      let long = ap length laid_out ∙ length-laid (starts_of ts) starts (omega (arith, a.passed.starts-room)) in
       omega (arith, a.passed.starts-room, a.frames)
 
-  pub starts-are : take n s ≡ startsOf ts
+  pub starts-are : take n s ≡ starts_of ts
   starts-are =
       let a = accepted ts (length starts) (length work) n scale m e times-are in
-      ap (take n) laid_out ∙ take_at (startsOf ts) (drop (length (startsOf ts)) starts) n (length-starts ts ∙ sym a.frames)
+      ap (take n) laid_out ∙ take_at (starts_of ts) (drop (length (starts_of ts)) starts) n (length-starts ts ∙ sym a.frames)

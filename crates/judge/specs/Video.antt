@@ -1,12 +1,12 @@
 -- A video, as a table is judged by it, and the ways in which one is lent (document 01, "Time of a frame").
 use Rattle.std.specs.Prelude.{ℕ, ◌*◌, Bool, true, false, ◌||◌, List, ltb, ℤ, pos, negsuc, length, get_or}
-use Rattle.ticks.specs.Ticks.{largestScale}
+use Rattle.ticks.specs.Ticks.{largest_scale}
 use Rattle.judge.specs.declared.Video.{Video}
 use Rattle.judge.specs.declared.Video.TheVariants.{Nothing, Constant, Times}
 
 -- the most starts
-abbrev pub mostStarts : ℕ
-mostStarts = 16777216
+abbrev pub most_starts : ℕ
+most_starts = 16777216
 
 pub record Shown : Type 0 where
   -- there is a video
@@ -24,7 +24,7 @@ pub record Shown : Type 0 where
 abbrev pub constant : ℕ → ℕ → ℕ → Shown
 constant frames num den = record {
   given = true;
-  over = ltb largestScale num || ltb largestScale den;
+  over = ltb largest_scale num || ltb largest_scale den;
   frames = frames;
   scale = num;
   time = λ k. pos (k * den);
@@ -36,7 +36,7 @@ constant frames num den = record {
 abbrev pub timed : List ℤ → ℕ → ℤ → ℤ → Shown
 timed starts scale end nominal = record {
   given = true;
-  over = ltb largestScale scale || ltb mostStarts (length starts);
+  over = ltb largest_scale scale || ltb most_starts (length starts);
   frames = length starts;
   scale = scale;
   time = λ k. get_or starts k end;
@@ -49,7 +49,7 @@ abbrev pub nothing : Shown
 nothing = record { given = false; over = false; frames = 0; scale = 0; time = λ k. pos 0; end = pos 0; nominal = negsuc 0 }
 
 -- the video that is lent, its starts beside it
-unfoldable pub shownBy : Video → List ℤ → Shown
-shownBy Nothing starts = nothing
-shownBy (Constant frames num den) starts = constant frames num den
-shownBy (Times scale end nominal) starts = timed starts scale end nominal
+unfoldable pub shown_by : Video → List ℤ → Shown
+shown_by Nothing starts = nothing
+shown_by (Constant frames num den) starts = constant frames num den
+shown_by (Times scale end nominal) starts = timed starts scale end nominal

@@ -2,12 +2,12 @@
 #![tactic(auto)]
 
 ghost use Rattle.std.specs.Prelude.{◌≡◌, false, List, ◌+◌, ◌*◌, ◌/◌, ◌≤◌, ◌<◌, ◌^◌, length, get_or, ℤ, pos, ◌+ℤ◌};
-ghost use Rattle.choice.specs.Records.{run, firstRefused};
+ghost use Rattle.choice.specs.Records.{run, first_refused};
 ghost use Rattle.signed.specs.Steps.{I64};
-ghost use Rattle.ticks.specs.Ticks.{microsOf, endsNear};
-ghost use Rattle.table.specs.Layout.{sourceWords, segmentWords, segmentStamps, stampsAt, segmentAt, sourcesOf, segmentsOf, table_of};
-ghost use Rattle.judge.specs.Video.{shownBy};
-ghost use Rattle.judge.specs.Judge.{startsAt, startRefusal, videoRefusal, validateOf, single, recoded, recordingRefusal, checkMcraw, Settled};
+ghost use Rattle.ticks.specs.Ticks.{micros_of, ends_near};
+ghost use Rattle.table.specs.Layout.{source_words, segment_words, segment_stamps, stamps_at, segment_at, sources_of, segments_of, table_of};
+ghost use Rattle.judge.specs.Video.{shown_by};
+ghost use Rattle.judge.specs.Judge.{starts_at, start_refusal, video_refusal, validate_of, single, recoded, recording_refusal, check_mcraw, Settled};
 ghost use Rattle.judge.specs.Steps.{Ready};
 
 use choice::Refusal;
@@ -41,9 +41,9 @@ pub enum Video {
 }
 
 // Whether there is a video.
-#[tactic(auto, unfolding(crate::specs::Video::shownBy))]
+#[tactic(auto, unfolding(crate::specs::Video::shown_by))]
 fn is_given(video: Video) -> bool
-    ensures { (starts : List ℤ) → result ≡ (shownBy video starts).given }
+    ensures { (starts : List ℤ) → result ≡ (shown_by video starts).given }
 {
     match video {
         Video::Nothing => false,
@@ -61,9 +61,9 @@ fn is_given(video: Video) -> bool
 }
 
 // 20: whether one of its numbers is over its limit.
-#[tactic(auto, unfolding(crate::specs::Video::shownBy))]
+#[tactic(auto, unfolding(crate::specs::Video::shown_by))]
 fn is_over(video: Video, starts: &[i64]) -> bool
-    ensures { result ≡ (shownBy video starts.now).over }
+    ensures { result ≡ (shown_by video starts.now).over }
 {
     match video {
         Video::Nothing => false,
@@ -81,9 +81,9 @@ fn is_over(video: Video, starts: &[i64]) -> bool
 }
 
 // How many frames it has.
-#[tactic(auto, unfolding(crate::specs::Video::shownBy))]
+#[tactic(auto, unfolding(crate::specs::Video::shown_by))]
 fn frame_count(video: Video, starts: &[i64]) -> u64
-    ensures { result ≡ (shownBy video starts.now).frames }
+    ensures { result ≡ (shown_by video starts.now).frames }
 {
     match video {
         Video::Nothing => 0,
@@ -103,7 +103,7 @@ fn frame_count(video: Video, starts: &[i64]) -> u64
 // k × den ticks of scale num, in microseconds.
 fn constant_us(k: u64, num: u64, den: u64) -> Held
     requires { (num < 2 ^ 32) × (den < 2 ^ 32) }
-    ensures { result ≡ microsOf (pos (k * den)) num }
+    ensures { result ≡ micros_of (pos (k * den)) num }
 {
     let mag = wide::product(k, den);
     ticks::micros(Big { neg: false, mag }, num)
@@ -112,7 +112,7 @@ fn constant_us(k: u64, num: u64, den: u64) -> Held
 // The start of frame k in microseconds; past the last, the end.
 fn start_us(starts: &[i64], k: u64, scale: u64, end: i64) -> Held
     requires { scale < 2 ^ 32 }
-    ensures { result ≡ microsOf (get_or starts.now k end) scale }
+    ensures { result ≡ micros_of (get_or starts.now k end) scale }
 {
     let at = k as usize;
     if at < starts.len() {
@@ -123,8 +123,8 @@ fn start_us(starts: &[i64], k: u64, scale: u64, end: i64) -> Held
 
 // The time of frame k in microseconds. The Rust's time_us.
 fn frame_us(video: Video, starts: &[i64], k: u64) -> Held
-    requires { (shownBy video starts.now).over ≡ false }
-    ensures { result ≡ microsOf ((shownBy video starts.now).time k) (shownBy video starts.now).scale }
+    requires { (shown_by video starts.now).over ≡ false }
+    ensures { result ≡ micros_of ((shown_by video starts.now).time k) (shown_by video starts.now).scale }
 {
     match video {
         Video::Nothing => Held::Outside,
@@ -143,8 +143,8 @@ fn frame_us(video: Video, starts: &[i64], k: u64) -> Held
 
 // Whether a time is near the video's end. The Rust's ends_near.
 fn is_near(video: Video, starts: &[i64], us: i64) -> bool
-    requires { (shownBy video starts.now).over ≡ false }
-    ensures { result ≡ endsNear us (shownBy video starts.now).end (shownBy video starts.now).nominal (shownBy video starts.now).scale }
+    requires { (shown_by video starts.now).over ≡ false }
+    ensures { result ≡ ends_near us (shown_by video starts.now).end (shown_by video starts.now).nominal (shown_by video starts.now).scale }
 {
     match video {
         Video::Nothing => false,
@@ -162,7 +162,7 @@ fn is_near(video: Video, starts: &[i64], us: i64) -> bool
 
 // 23 and 24 of a segment that starts at out, of its first frame's time: a number, or 0.
 fn starts_at(us: Held, out: i64) -> u64
-    ensures { result ≡ startsAt us out }
+    ensures { result ≡ starts_at us out }
 {
     match us {
         Held::Outside => ticks::NO_TIME,
@@ -172,8 +172,8 @@ fn starts_at(us: Held, out: i64) -> u64
 
 // 23 and 24 of segment k.
 fn start_refusal_at(u: &[u64], t: &[i64], k: usize, video: Video, starts: &[i64]) -> u64
-    requires { (k * segmentWords + segmentWords ≤ length u.now) × (k * segmentStamps + segmentStamps ≤ length t.now) × ((shownBy video starts.now).over ≡ false) }
-    ensures { result ≡ startRefusal (shownBy video starts.now) (segmentAt u.now t.now k) }
+    requires { (k * segment_words + segment_words ≤ length u.now) × (k * segment_stamps + segment_stamps ≤ length t.now) × ((shown_by video starts.now).over ≡ false) }
+    ensures { result ≡ start_refusal (shown_by video starts.now) (segment_at u.now t.now k) }
 {
     let us = frame_us(video, starts, u[k * WORDS + 3]);
     starts_at(us, t[k * STAMPS + 1])
@@ -181,8 +181,8 @@ fn start_refusal_at(u: &[u64], t: &[i64], k: usize, video: Video, starts: &[i64]
 
 // 23 and 24 of m segments, one by one.
 fn first_start(u: &[u64], t: &[i64], m: usize, video: Video, starts: &[i64]) -> Refusal
-    requires { (m * segmentWords ≤ length u.now) × (m * segmentStamps ≤ length t.now) × ((shownBy video starts.now).over ≡ false) }
-    ensures { result ≡ firstRefused (startRefusal (shownBy video starts.now)) 0 (run (segmentAt u.now t.now) 0 m) }
+    requires { (m * segment_words ≤ length u.now) × (m * segment_stamps ≤ length t.now) × ((shown_by video starts.now).over ≡ false) }
+    ensures { result ≡ first_refused (start_refusal (shown_by video starts.now)) 0 (run (segment_at u.now t.now) 0 m) }
 {
     let mut k = 0;
     while k < m {
@@ -197,8 +197,8 @@ fn first_start(u: &[u64], t: &[i64], m: usize, video: Video, starts: &[i64]) -> 
 
 // Where segment k ends in the output.
 fn end_us_at(t: &[i64], k: usize) -> i64
-    requires { (k * segmentStamps + segmentStamps ≤ length t.now) × I64 ((stampsAt t.now k).outstart +ℤ (stampsAt t.now k).duration) }
-    ensures { result ≡ (stampsAt t.now k).outstart +ℤ (stampsAt t.now k).duration }
+    requires { (k * segment_stamps + segment_stamps ≤ length t.now) × I64 ((stamps_at t.now k).outstart +ℤ (stamps_at t.now k).duration) }
+    ensures { result ≡ (stamps_at t.now k).outstart +ℤ (stamps_at t.now k).duration }
 {
     let d = k * STAMPS;
     t[d + 1] + t[d + 2]
@@ -207,7 +207,7 @@ fn end_us_at(t: &[i64], k: usize) -> i64
 // 20 to 25 of an accepted table of n frames.
 fn video_refusal(u: &[u64], t: &[i64], n: u64, video: Video, starts: &[i64]) -> Refusal
     requires { Ready u.now t.now n }
-    ensures { result ≡ videoRefusal (segmentsOf u.now t.now) (shownBy video starts.now) }
+    ensures { result ≡ video_refusal (segments_of u.now t.now) (shown_by video starts.now) }
 {
     let m = u.len() / WORDS;
     let last = m - 1;
@@ -239,7 +239,7 @@ pub fn validate(
     video: Video,
     starts: &[i64],
 ) -> Checked
-    ensures { result ≡ validateOf (table_of sources.now u.now t.now log text.now) (shownBy video starts.now) }
+    ensures { result ≡ validate_of (table_of sources.now u.now t.now log text.now) (shown_by video starts.now) }
 {
     match table::check(sources, u, t, log, text) {
         Checked::Refused(number, index) => Checked::Refused(number, index),
@@ -252,8 +252,8 @@ pub fn validate(
 
 // A recording of one frame, at the rate of segment 0's source.
 fn single_frame(s: &[u64], u: &[u64]) -> Video
-    requires { (0 < length u.now / segmentWords) × (get_or u.now 0 0 < length s.now / sourceWords) }
-    ensures { (t l : List ℤ) → shownBy result l ≡ single (sourcesOf s.now) (segmentsOf u.now t) }
+    requires { (0 < length u.now / segment_words) × (get_or u.now 0 0 < length s.now / source_words) }
+    ensures { (t l : List ℤ) → shown_by result l ≡ single (sources_of s.now) (segments_of u.now t) }
 {
     let b = u[0] as usize * SOURCE;
     Video::Constant {
@@ -281,8 +281,8 @@ fn recording_refusal(
     a: &mut [i64],
     b: &mut [i64],
 ) -> Refusal
-    requires { Ready u.now t.now n × (get_or u.now 0 0 < length s.now / sourceWords) }
-    ensures { result ≡ recordingRefusal (sourcesOf s.now) (segmentsOf u.now t.now) timestamps.now (length a.old) (length b.old) }
+    requires { Ready u.now t.now n × (get_or u.now 0 0 < length s.now / source_words) }
+    ensures { result ≡ recording_refusal (sources_of s.now) (segments_of u.now t.now) timestamps.now (length a.old) (length b.old) }
 {
     if timestamps.len() == 1 {
         return video_refusal(u, t, n, single_frame(s, u), timestamps);
@@ -316,7 +316,7 @@ fn judge_recording(
     a: &mut [i64],
     b: &mut [i64],
 ) -> Checked
-    ensures { result ≡ checkMcraw (table_of sources.now u.now t.now log text.now) timestamps.now (length a.old) (length b.old) }
+    ensures { result ≡ check_mcraw (table_of sources.now u.now t.now log text.now) timestamps.now (length a.old) (length b.old) }
 {
     match table::check(sources, u, t, log, text) {
         Checked::Refused(number, index) => Checked::Refused(number, index),

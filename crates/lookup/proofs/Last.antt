@@ -8,10 +8,10 @@ use mathlib.Core.Logic.{◌⊎◌, inl, inr, ⊎_elim}
 use lib.ListN.{length, get_or}
 use Rattle.choice.proofs.Tests.{le-or-lt}
 use Rattle.rows.specs.Steps.{out_at, OutsRise, LastBegun}
-use Rattle.rules.specs.Steps.{endedBy, Ordered}
+use Rattle.rules.specs.Steps.{ended_by, Ordered}
 use Rattle.rules.proofs.Search.{bracket-end}
-use Rattle.table.specs.Layout.{wordsAt}
-use Rattle.lookup.specs.Steps.{end_at, Searchable, indexIn}
+use Rattle.table.specs.Layout.{words_at}
+use Rattle.lookup.specs.Steps.{end_at, Searchable, index_in}
 
 lt-or-le : (i j : ℕ) → (i < j) ⊎ (j ≤ i)
 lt-or-le i j = ⊎_elim (λ (l : suc i ≤ j). inl l) (λ (l : j < suc i). inr (omega arith)) (le-or-lt (suc i) j)
@@ -34,14 +34,14 @@ module _ (b e : ℕ → ℕ) {n top : ℕ} (o : Ordered e n top) (chained : (k :
     before : (k : ℕ) → k < r → e k ≤ v
     before k h = omega (arith, after r (omega arith) within, low (omega arith), o.rising k (r - 1) (omega arith) (omega arith))
 
-    met : (m : ℕ) → m ≤ n → ((k : ℕ) → k < m → e k ≤ v) → ((k : ℕ) → m ≤ k → k < n → v < e k) → m ≡ endedBy e n v
+    met : (m : ℕ) → m ≤ n → ((k : ℕ) → k < m → e k ≤ v) → ((k : ℕ) → m ≤ k → k < n → v < e k) → m ≡ ended_by e n v
     met m l p q = bracket-end e n v m m (record { lo-le = omega arith; hi-le = l; below = p; above = q }) (omega arith)
 
     whole : e r ≤ v → n ≡ suc r
     whole z = ⊎_elim (λ (y : n ≤ suc r). omega arith) (λ (y : suc r < n). absurd (omega (arith, chained r (omega arith), high (omega arith)))) (le-or-lt n (suc r))
 
     -- it has not ended, where another follows
-    pub looked-up : r ≡ min (endedBy e n v) (n - 1)
+    pub looked-up : r ≡ min (ended_by e n v) (n - 1)
     looked-up =
         ⊎_elim
         (λ (z : e r ≤ v).
@@ -55,11 +55,11 @@ module _ (b e : ℕ → ℕ) {n top : ℕ} (o : Ordered e n top) (chained : (k :
 
 module _ {u : List ℕ} (o : Searchable u) where
   begins : (k : ℕ) → out_at u k ≤ end_at u k
-  begins k = let e : 5 * k + 3 ≡ k * 5 + 3 = omega arith in let z : out_at u k ≡ (wordsAt u k).out = ap (λ (j : ℕ). get_or u j 0) e in omega arith
+  begins k = let e : 5 * k + 3 ≡ k * 5 + 3 = omega arith in let z : out_at u k ≡ (words_at u k).out = ap (λ (j : ℕ). get_or u j 0) e in omega arith
 
   pub outs-rise : OutsRise u (length u / 5)
   outs-rise = record { some = o.some; sizes = omega arith; rising = begin-in-order (out_at u) (end_at u) o.ends o.chained begins }
 
-  pub last-index : {frame r : ℕ} → LastBegun u (length u / 5) frame r → r ≡ indexIn u frame
-  unfolding indexIn
+  pub last-index : {frame r : ℕ} → LastBegun u (length u / 5) frame r → r ≡ index_in u frame
+  unfolding index_in
   last-index b = looked-up (out_at u) (end_at u) o.ends o.chained b.within (λ z. b.low) b.high

@@ -6,13 +6,13 @@ use mathlib.Core.List.{List}
 use mathlib.Core.Path.{◌≡◌, refl, ap, subst}
 use lib.IntN.{ℤ, pos, nat_abs}
 use lib.ListN.{length, get_or}
-use Rattle.rows.proofs.Begun.{Halved, halved-start, halved-up, halved-down, halved-end}
+use Rattle.rows.proofs.Begun.{Halved, halved-start, halved-up, halved-down}
 use Rattle.rules.specs.Rules.{negative}
-use Rattle.lookup.specs.Steps.{startUsAt, StartsRise, LastStarted}
+use Rattle.lookup.specs.Steps.{start_us_at, StartsRise, LastStarted}
 
 pub record Started (t : List ℤ) (n time at left : ℕ) : Type 0 where
   pub word : at % 7 ≡ 1
-  pub segments : Halved (startUsAt t) n time (at / 7) left
+  pub segments : Halved (start_us_at t) n time (at / 7) left
 
 module _ {t : List ℤ} {n time : ℕ} (o : StartsRise t n) where
   pub started-start : Started t n time 1 n
@@ -22,7 +22,7 @@ module _ {t : List ℤ} {n time : ℕ} (o : StartsRise t n) where
     mid-word : 7 * ((at + 7 * (left / 2)) / 7) + 1 ≡ at + 7 * (left / 2)
     mid-word = omega (arith, h.word)
 
-    mid_start : startUsAt t ((at + 7 * (left / 2)) / 7) ≡ nat_abs (get_or t (at + 7 * (left / 2)) (pos 0))
+    mid_start : start_us_at t ((at + 7 * (left / 2)) / 7) ≡ nat_abs (get_or t (at + 7 * (left / 2)) (pos 0))
     mid_start = ap (λ (j : ℕ). nat_abs (get_or t j (pos 0))) mid-word
 
     mid-segment : at / 7 + left / 2 ≡ (at + 7 * (left / 2)) / 7
@@ -34,13 +34,5 @@ module _ {t : List ℤ} {n time : ℕ} (o : StartsRise t n) where
       subst (λ (j : ℕ). negative (get_or t j (pos 0)) ≡ false) mid-word (o.plain ((at + 7 * (left / 2)) / 7) (omega (arith, mid-segment, h.segments.within))),
     )
 
-    pub started-up : nat_abs (get_or t (at + 7 * (left / 2)) (pos 0)) ≤ time → Started t n time (at + 7 * (left / 2)) (left - left / 2)
-    started-up l = record { word = omega (arith, h.word); segments = halved-up h.segments few mid-segment (omega (arith, mid_start)) }
-
     pub started-down : time < nat_abs (get_or t (at + 7 * (left / 2)) (pos 0)) → Started t n time at (left - left / 2)
     started-down l = record { word = h.word; segments = halved-down h.segments few mid-segment o.rising (omega (arith, mid_start)) }
-
-  pub started-end : {at left : ℕ} → Started t n time at left → left ≤ 1 → LastStarted t n time (at / 7)
-  started-end h l =
-      let d = halved-end h.segments l in
-      record { within = omega (arith, d.within); low = d.low; high = d.high }

@@ -2,18 +2,18 @@
 #![tactic(auto)]
 
 ghost use Rattle.std.specs.Prelude.{◌≡◌, false, ◌+◌, ◌-◌, ◌*◌, ◌≤◌, ◌<◌, pos, nat_abs, length, get_or};
-ghost use Rattle.choice.specs.Choice.{maxU64};
+ghost use Rattle.choice.specs.Choice.{max_u64};
 ghost use Rattle.rules.specs.Rules.{negative};
-ghost use Rattle.rules.specs.Lookups.{segmentOfFrame, segmentOfTime, sameShift, segmentRunsOn, continuesAt};
-ghost use Rattle.table.specs.Layout.{segmentWords, segmentStamps, wordsAt, segmentAt, table_of};
-ghost use Rattle.lookup.specs.Steps.{end_at, Searchable, indexIn, StartsRise, LastStarted};
+ghost use Rattle.rules.specs.Lookups.{segment_of_frame, segment_of_time, same_shift, segment_runs_on, continues_at};
+ghost use Rattle.table.specs.Layout.{segment_words, segment_stamps, words_at, segment_at, table_of};
+ghost use Rattle.lookup.specs.Steps.{end_at, Searchable, index_in, StartsRise, LastStarted};
 
 use rules::{Checked, Continued, Lookup};
 use table::{STAMPS, WORDS};
 
 // The frame after the last of segment k.
 pub fn end_at(u: &[u64], k: usize) -> u64
-    requires { (k * segmentWords + segmentWords ≤ length u.now) × (end_at u.now k ≤ maxU64) }
+    requires { (k * segment_words + segment_words ≤ length u.now) × (end_at u.now k ≤ max_u64) }
     ensures { result ≡ end_at u.now k }
 {
     let b = k * WORDS;
@@ -23,7 +23,7 @@ pub fn end_at(u: &[u64], k: usize) -> u64
 // The segment that has a frame, in words that were checked; past the last frame, the last segment.
 pub fn index_of_frame(u: &[u64], frame: u64) -> usize
     requires { Searchable u.now }
-    ensures { result ≡ indexIn u.now frame }
+    ensures { result ≡ index_in u.now frame }
 {
     // a segment's unsigned words are its row's
     rows::last_begun(u, u.len() / WORDS, frame)
@@ -66,7 +66,7 @@ pub fn segment_of_frame(
     text: &[u8],
     frame: u64,
 ) -> Lookup
-    ensures { result ≡ segmentOfFrame (table_of sources.now u.now t.now log text.now) frame }
+    ensures { result ≡ segment_of_frame (table_of sources.now u.now t.now log text.now) frame }
 {
     match table::check(sources, u, t, log, text) {
         Checked::Refused(n, i) => Lookup::NoIndex(n, i),
@@ -83,7 +83,7 @@ pub fn segment_of_time_us(
     text: &[u8],
     time: i64,
 ) -> Lookup
-    ensures { result ≡ segmentOfTime (table_of sources.now u.now t.now log text.now) time }
+    ensures { result ≡ segment_of_time (table_of sources.now u.now t.now log text.now) time }
 {
     match table::check(sources, u, t, log, text) {
         Checked::Refused(n, i) => return Lookup::NoIndex(n, i),
@@ -97,15 +97,15 @@ pub fn segment_of_time_us(
 
 // Whether two shifts are equal; both absent counts as equal.
 fn same_shift(flag: u64, shift: i64, other: u64, second: i64) -> bool
-    ensures { result ≡ sameShift flag shift other second }
+    ensures { result ≡ same_shift flag shift other second }
 {
     (flag == other) & ((flag == 0) | signed::same(shift, second))
 }
 
 // Whether segment r continues the one before it.
 fn runs_on(u: &[u64], t: &[i64], r: usize) -> bool
-    requires { (0 < r) × (r * segmentWords + segmentWords ≤ length u.now) × (r * segmentStamps + segmentStamps ≤ length t.now) × ((wordsAt u.now (r - 1)).first + (wordsAt u.now (r - 1)).count ≤ maxU64) }
-    ensures { result ≡ segmentRunsOn (segmentAt u.now t.now (r - 1)) (segmentAt u.now t.now r) }
+    requires { (0 < r) × (r * segment_words + segment_words ≤ length u.now) × (r * segment_stamps + segment_stamps ≤ length t.now) × ((words_at u.now (r - 1)).first + (words_at u.now (r - 1)).count ≤ max_u64) }
+    ensures { result ≡ segment_runs_on (segment_at u.now t.now (r - 1)) (segment_at u.now t.now r) }
 {
     let p = table::words_at(u, r - 1);
     let e = table::words_at(u, r);
@@ -122,7 +122,7 @@ pub fn continues(
     text: &[u8],
     r: usize,
 ) -> Continued
-    ensures { result ≡ continuesAt (table_of sources.now u.now t.now log text.now) r }
+    ensures { result ≡ continues_at (table_of sources.now u.now t.now log text.now) r }
 {
     match table::check(sources, u, t, log, text) {
         Checked::Refused(n, i) => return Continued::NoAnswer(n, i),

@@ -12,7 +12,7 @@ use borrow.Author.Tests.{lt-ltb, le-ltb, ltb-false}
 use Rattle.choice.specs.declared.Refusal.{Refusal}
 use Rattle.choice.specs.declared.Refusal.TheVariants.{Never, At}
 use Rattle.choice.specs.Choice.{when}
-use Rattle.choice.specs.Numbers.{noRoom}
+use Rattle.choice.specs.Numbers.{no_room}
 use Rattle.choice.proofs.Chains.{or-never}
 use Rattle.choice.proofs.Tests.{decide}
 use Rattle.slices.specs.Slices.{laid, after}
@@ -20,40 +20,40 @@ use Rattle.slices.proofs.Lists.{map_at, map_same}
 use Rattle.rules.specs.declared.Checked.TheVariants.{Frames, Refused}
 use Rattle.rules.specs.declared.Lookup.TheVariants.{Index}
 use Rattle.rules.specs.Records.{Table}
-use Rattle.rules.specs.Rules.{refusal, checkedOf, checkOf}
-use Rattle.rules.specs.Lookups.{lookedUp, segmentOfFrame}
+use Rattle.rules.specs.Rules.{refusal, checked_of, check_of}
+use Rattle.rules.specs.Lookups.{looked_up, segment_of_frame}
 use Rattle.rules.proofs.Answers.{check-first, then-rest}
 use Rattle.table.specs.Layout.{table_of}
-use Rattle.lookup.specs.Steps.{indexIn}
+use Rattle.lookup.specs.Steps.{index_in}
 use Rattle.lookup.proofs.Found.{index-lent}
 use Rattle.lookups.specs.declared.Indexed.{Indexed}
 use Rattle.lookups.specs.declared.Indexed.TheVariants.{Indices, NoIndices}
-use Rattle.lookups.specs.Indices.{indicesOf, indicesRefusal, indexed, Indexing}
+use Rattle.lookups.specs.Indices.{indices_of, indices_refusal, indexed, Indexing}
 
 -- ---- the refusal
 module _ (t : Table) (frames out : List ℕ) where
-  refused-first : {n i : ℕ} → checkOf t ≡ Refused n i → indicesRefusal t (length frames) (length out) ≡ At n i
-  unfolding indicesRefusal
+  refused-first : {n i : ℕ} → check_of t ≡ Refused n i → indices_refusal t (length frames) (length out) ≡ At n i
+  unfolding indices_refusal
   refused-first e = check-first _ _ e
 
-  then-room : {N : ℕ} {b : Bool} → checkOf t ≡ Frames N → ltb (length out) (length frames) ≡ b → indicesRefusal t (length frames) (length out) ≡ when b (At noRoom 0) Never
-  unfolding indicesRefusal
+  then-room : {N : ℕ} {b : Bool} → check_of t ≡ Frames N → ltb (length out) (length frames) ≡ b → indices_refusal t (length frames) (length out) ≡ when b (At no_room 0) Never
+  unfolding indices_refusal
   then-room e h = then-rest _ _ e ∙ rw h
 
 -- ---- the call, of a table that is lent
 module _ (s u : List ℕ) (t : List ℤ) (log : Bool) (text frames out : List ℕ) where
-  pub list-refused : {n i : ℕ} → checkOf (table_of s u t log text) ≡ Refused n i → Indexing (table_of s u t log text) frames out (NoIndices n i) out
+  pub list-refused : {n i : ℕ} → check_of (table_of s u t log text) ≡ Refused n i → Indexing (table_of s u t log text) frames out (NoIndices n i) out
   unfolding indexed
   list-refused e = let q = refused-first (table_of s u t log text) frames out e in record { answer = rw q; indices = rw q }
 
-  module _ {N : ℕ} (e : checkOf (table_of s u t log text) ≡ Frames N) where
-    pub list-short : length out < length frames → Indexing (table_of s u t log text) frames out (NoIndices noRoom 0) out
+  module _ {N : ℕ} (e : check_of (table_of s u t log text) ≡ Frames N) where
+    pub list-short : length out < length frames → Indexing (table_of s u t log text) frames out (NoIndices no_room 0) out
     unfolding indexed when
     list-short h = let q = then-room (table_of s u t log text) frames out e (lt-ltb _ _ h) in record { answer = rw q; indices = rw q }
 
-    pub list_written : {out' : List ℕ} → length frames ≤ length out → out' ≡ laid (map (indexIn u) frames) out
+    pub list_written : {out' : List ℕ} → length frames ≤ length out → out' ≡ laid (map (index_in u) frames) out
         → Indexing (table_of s u t log text) frames out (Indices (length frames)) out'
-    unfolding indexed when indicesOf
+    unfolding indexed when indices_of
     list_written {out'} h w =
         let q = then-room (table_of s u t log text) frames out e (le-ltb _ _ h) in
         record { answer = rw q; indices = rw q (w ∙ ap (λ (l : List ℕ). laid l out) (map_same _ _ (index-lent s u t log text) frames)) }
@@ -62,21 +62,21 @@ module _ (s u : List ℕ) (t : List ℤ) (log : Bool) (text frames out : List �
 module _ (t : Table) (frames out : List ℕ) where
   -- the one answer that a refusal leaves
   module _ {r : Indexed} {out' : List ℕ} (p : Indexing t frames out r out') where
-    pub answer-refused : {n i : ℕ} → checkOf t ≡ Refused n i → r ≡ NoIndices n i
+    pub answer-refused : {n i : ℕ} → check_of t ≡ Refused n i → r ≡ NoIndices n i
     unfolding indexed
     answer-refused e = p.answer ∙ rw (refused-first t frames out e)
 
-    pub answer-short : {N : ℕ} → checkOf t ≡ Frames N → length out < length frames → r ≡ NoIndices noRoom 0
+    pub answer-short : {N : ℕ} → check_of t ≡ Frames N → length out < length frames → r ≡ NoIndices no_room 0
     unfolding indexed when
     answer-short e h = p.answer ∙ rw (then-room t frames out e (lt-ltb _ _ h))
 
-    pub answer-all : {N : ℕ} → checkOf t ≡ Frames N → length frames ≤ length out → r ≡ Indices (length frames)
+    pub answer-all : {N : ℕ} → check_of t ≡ Frames N → length frames ≤ length out → r ≡ Indices (length frames)
     unfolding indexed when
     answer-all e h = p.answer ∙ rw (then-room t frames out e (le-ltb _ _ h))
 
   -- what was written
   module _ {n : ℕ} {out' : List ℕ} (p : Indexing t frames out (Indices n) out') where
-    none : indicesRefusal t (length frames) (length out) ≡ Never
+    none : indices_refusal t (length frames) (length out) ≡ Never
     unfolding indexed
     none = free _ p.answer
       where
@@ -84,43 +84,43 @@ module _ (t : Table) (frames out : List ℕ) where
         free Never e = refl
         free (At m i) e = let z : ◌≡◌ {A = ℕ} 0 1 = cc in absurd (omega arith)
 
-    over : out' ≡ laid (indicesOf t frames) out
-    over = p.indices ∙ ap (λ (x : Refusal). after x (indicesOf t frames) out) none
+    over : out' ≡ laid (indices_of t frames) out
+    over = p.indices ∙ ap (λ (x : Refusal). after x (indices_of t frames) out) none
 
-    many : length (indicesOf t frames) ≡ length frames
-    unfolding indicesOf
+    many : length (indices_of t frames) ≡ length frames
+    unfolding indices_of
     many = length-map frames _
 
     pub rest-kept : drop (length frames) out' ≡ drop (length frames) out
-    rest-kept = ap (drop (length frames)) over ∙ drop_at (indicesOf t frames) _ (length frames) many ∙ ap (λ (k : ℕ). drop k out) many
+    rest-kept = ap (drop (length frames)) over ∙ drop_at (indices_of t frames) _ (length frames) many ∙ ap (λ (k : ℕ). drop k out) many
 
     fits : length frames ≤ length out
-    unfolding indicesRefusal when
+    unfolding indices_refusal when
     fits = decide (ltb (length out) (length frames)) (λ e. let r = rw e at (or-never (refusal t) _ none).1 in let z : ◌≡◌ {A = ℕ} 0 1 = cc in absurd (omega arith)) (ltb-false _ _)
 
     long-written : length out' ≡ length out
     long-written =
-        let i = indicesOf t frames in
+        let i = indices_of t frames in
         ap length over ∙ length-append i (drop (length i) out) ∙ ap (λ (n : ℕ). length i + n) (length-drop (length i) out) ∙ omega (arith, many, fits)
 
     accepted : refusal t ≡ Never
-    unfolding indicesRefusal
+    unfolding indices_refusal
     accepted = (or-never (refusal t) _ none).0
 
     -- each index is the single lookup's
-    pub each_index : (k : ℕ) → k < length frames → Index (get_or out' k 0) ≡ segmentOfFrame t (get_or frames k 0)
-    unfolding segmentOfFrame checkOf checkedOf lookedUp indicesOf
+    pub each_index : (k : ℕ) → k < length frames → Index (get_or out' k 0) ≡ segment_of_frame t (get_or frames k 0)
+    unfolding segment_of_frame check_of checked_of looked_up indices_of
     each_index k h =
-        let i = indicesOf t frames in
+        let i = indices_of t frames in
         rw accepted (ap Index
         (ap (λ (l : List ℕ). get_or l k 0) over ∙ get_or-append i (drop (length i) out) 0 k (omega (arith, many)) ∙ map_at _ frames k 0 0 h))
 
   -- a refusal leaves all as lent
   pub all-kept : {n i : ℕ} {out' : List ℕ} → Indexing t frames out (NoIndices n i) out' → out' ≡ out
   unfolding indexed
-  all-kept {n} {i} p = p.indices ∙ so (indicesRefusal t (length frames) (length out)) p.answer
+  all-kept {n} {i} p = p.indices ∙ so (indices_refusal t (length frames) (length out)) p.answer
     where
-      so : (x : Refusal) → NoIndices n i ≡ indexed x (length frames) → after x (indicesOf t frames) out ≡ out
+      so : (x : Refusal) → NoIndices n i ≡ indexed x (length frames) → after x (indices_of t frames) out ≡ out
       so Never e = let z : ◌≡◌ {A = ℕ} 0 1 = cc in absurd (omega arith)
       so (At m j) e = refl
 

@@ -4,10 +4,10 @@
 
 ghost use Rattle.std.specs.Prelude.{◌≡◌, ◌&&◌, map, ◌/◌, ◌≤◌, ◌<◌, leb, ltb, length};
 ghost use Rattle.slices.specs.Slices.{laid};
-ghost use Rattle.table.specs.Layout.{segmentWords, table_of};
-ghost use Rattle.lookup.specs.Steps.{Searchable, indexIn};
+ghost use Rattle.table.specs.Layout.{segment_words, table_of};
+ghost use Rattle.lookup.specs.Steps.{Searchable, index_in};
 ghost use Rattle.lookups.specs.Indices.{Indexing};
-ghost use Rattle.lookups.specs.Steps.{pieceFrom, pieceEnd, piece_at, Covers};
+ghost use Rattle.lookups.specs.Steps.{piece_from, piece_end, piece_at, Covers};
 
 use choice::MAX_U64;
 use rules::Checked;
@@ -30,8 +30,8 @@ pub struct Piece {
 
 // Where the frames of segment k begin.
 fn piece_from(u: &[u64], k: usize) -> u64
-    requires { Searchable u.now × (k < length u.now / segmentWords) }
-    ensures { result ≡ pieceFrom u.now k }
+    requires { Searchable u.now × (k < length u.now / segment_words) }
+    ensures { result ≡ piece_from u.now k }
 {
     if k == 0 {
         return 0;
@@ -41,8 +41,8 @@ fn piece_from(u: &[u64], k: usize) -> u64
 
 // Where they end. All frames past the table go to the last segment.
 fn piece_end(u: &[u64], k: usize) -> u64
-    requires { Searchable u.now × (k < length u.now / segmentWords) }
-    ensures { result ≡ pieceEnd u.now k }
+    requires { Searchable u.now × (k < length u.now / segment_words) }
+    ensures { result ≡ piece_end u.now k }
 {
     if k + 1 == u.len() / WORDS {
         return MAX_U64;
@@ -52,7 +52,7 @@ fn piece_end(u: &[u64], k: usize) -> u64
 
 // The frames of segment k.
 fn piece_at(u: &[u64], k: usize) -> Piece
-    requires { Searchable u.now × (k < length u.now / segmentWords) }
+    requires { Searchable u.now × (k < length u.now / segment_words) }
     ensures { result ≡ piece_at u.now k }
 {
     Piece {
@@ -72,7 +72,7 @@ fn has(p: Piece, frame: u64) -> bool
 // A frame's segment: the guessed one, which need not be right, or the one that a search finds.
 fn guessed(u: &[u64], frame: u64, guess: usize) -> Piece
     requires { Searchable u.now }
-    ensures { Covers u.now result × (result.index ≡ indexIn u.now frame) }
+    ensures { Covers u.now result × (result.index ≡ index_in u.now frame) }
 {
     if guess < u.len() / WORDS {
         let next = piece_at(u, guess);
@@ -86,7 +86,7 @@ fn guessed(u: &[u64], frame: u64, guess: usize) -> Piece
 // A frame's segment, where the frame before it in the list lay in p: mostly that one again, or the one after it.
 fn piece_of(u: &[u64], frame: u64, p: Piece) -> Piece
     requires { Searchable u.now × Covers u.now p }
-    ensures { Covers u.now result × (result.index ≡ indexIn u.now frame) }
+    ensures { Covers u.now result × (result.index ≡ index_in u.now frame) }
 {
     if has(p, frame) {
         return p;
@@ -97,7 +97,7 @@ fn piece_of(u: &[u64], frame: u64, p: Piece) -> Piece
 // The segment of each frame.
 fn write_indices(u: &[u64], frames: &[u64], out: &mut [u64])
     requires { Searchable u.now × (length frames.now ≤ length out.old) }
-    ensures { out.new ≡ laid (map (indexIn u.now) frames.now) out.old }
+    ensures { out.new ≡ laid (map (index_in u.now) frames.now) out.old }
 {
     let mut p = piece_at(u, 0);
     let mut k = 0;

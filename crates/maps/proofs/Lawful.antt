@@ -2,7 +2,7 @@
 use Rattle.std.proofs.Common.{◌≡◌, ℕ, ◌+◌, ◌-◌, ◌*◌, ◌<◌, ◌≤◌, ◌↔◌, List, length, take, ℤ, sym, refl, ap, ◌∙◌, ap₂, ⊎_elim, arith}
 use Rattle.choice.specs.declared.Refusal.{Refusal}
 use Rattle.choice.specs.declared.Refusal.TheVariants.{Never}
-use Rattle.choice.specs.Choice.{maxU64}
+use Rattle.choice.specs.Choice.{max_u64}
 use Rattle.choice.proofs.Tests.{le-or-lt}
 use Rattle.rows.specs.declared.Row.{Row}
 use Rattle.rows.specs.Rows.{total, Origin, nowhere, from, origin, cut, join, merge}
@@ -12,7 +12,7 @@ use Rattle.maps.specs.declared.Mapped.TheVariants.{Rows, Refused}
 use Rattle.maps.specs.declared.Traced.{Traced}
 use Rattle.maps.specs.declared.Traced.TheVariants as traced
 use Rattle.rows.specs.Lent.{rows}
-use Rattle.maps.specs.Answers.{mostRows, rowsOver, pastMap, roomRefusal, cutRefusal, mergeRefusal, mappedOf, tracedAs, tracedOf, Placed, Cut, Join, Merge, Trace}
+use Rattle.maps.specs.Answers.{most_rows, rows_over, past_map, room_refusal, cut_refusal, merge_refusal, mapped_of, traced_as, traced_of, Placed, Cut, Join, Merge, Trace}
 use Rattle.maps.specs.Steps.{Sound}
 use Rattle.maps.specs.Laws.{LentMap, Wrote, TracedTo, Laws}
 use Rattle.choice.proofs.Chains.{not-past}
@@ -22,7 +22,7 @@ use Rattle.maps.proofs.Joined.{length-rows, length-join}
 use Rattle.maps.proofs.ReadBack.{none, count, wrote, as_lent, frames-rows, rows-frames}
 
 -- ---- lent maps
-lent : {u : List ℕ} {s : List ℤ} → Sound u s → length s ≤ mostRows → LentMap u s
+lent : {u : List ℕ} {s : List ℤ} → Sound u s → length s ≤ most_rows → LentMap u s
 lent m few = record { some = m.some; sizes = m.sizes; well = m.well; few = few }
 
 sound : {u : List ℕ} {s : List ℤ} → LentMap u s → Sound u s
@@ -45,7 +45,7 @@ cut-gives u s a b k ou ou' os os' p =
     (lent o.sound o.few, o.some, o.inside, wrote p (frames-rows (cut a b (rows u s)) (omega (arith, o.some))) o.room.few (demanded.cut-well (rows u s) a b o.sound.well), t)
 
 join-gives : (u v : List ℕ) (s t : List ℤ) (k : ℕ) (ou ou' : List ℕ) (os os' : List ℤ) → Join u s v t ou os (Rows k) ou' os'
-    → LentMap u s × LentMap v t × (total (rows u s) + total (rows v t) ≤ maxU64) × Wrote k ou' os' (join (rows u s) (rows v t)) × (k ≡ length s + length t)
+    → LentMap u s × LentMap v t × (total (rows u s) + total (rows v t) ≤ max_u64) × Wrote k ou' os' (join (rows u s) (rows v t)) × (k ≡ length s + length t)
     × (total (join (rows u s) (rows v t)) ≡ total (rows u s) + total (rows v t))
 join-gives u v s t k ou ou' os os' p =
     let o = join-never u s v t (length ou) (length os) (none p) in
@@ -72,7 +72,7 @@ cut-whole u s k ou ou' os os' p =
 
 -- ---- where they answer
 answer : {x : Refusal} {m : List Row} {ou ou' : List ℕ} {os os' : List ℤ} {r : Mapped} → Placed x m ou os r ou' os' → x ≡ Never → r ≡ Rows (length m)
-answer {x} {m} p e = p.answer ∙ ap (λ (y : Refusal). mappedOf y m) e
+answer {x} {m} p e = p.answer ∙ ap (λ (y : Refusal). mapped_of y m) e
 
 cut-accepts : (u : List ℕ) (s : List ℤ) (a b : ℕ) (ou ou' : List ℕ) (os os' : List ℤ) (r : Mapped) → LentMap u s → a < b → b ≤ total (rows u s)
     → 5 * length (cut a b (rows u s)) ≤ length ou → length (cut a b (rows u s)) ≤ length os → Cut u s a b ou os r ou' os' → r ≡ Rows (length (cut a b (rows u s)))
@@ -80,8 +80,8 @@ cut-accepts u s a b ou ou' os os' r l h i x y p =
     let f : Fits (length (cut a b (rows u s))) (length ou) (length os) = record { few = omega (arith, demanded.cut-rows (rows u s) a b, length-rows u s, l.few); words = x; shifts = y } in
     answer p (cut-accepted u s a b (length ou) (length os) (record { sound = sound l; few = l.few; some = h; inside = i; room = f }))
 
-join-accepts : (u v : List ℕ) (s t : List ℤ) (ou ou' : List ℕ) (os os' : List ℤ) (r : Mapped) → LentMap u s → LentMap v t → total (rows u s) + total (rows v t) ≤ maxU64
-    → length s + length t ≤ mostRows → 5 * (length s + length t) ≤ length ou → length s + length t ≤ length os → Join u s v t ou os r ou' os' → r ≡ Rows (length s + length t)
+join-accepts : (u v : List ℕ) (s t : List ℤ) (ou ou' : List ℕ) (os os' : List ℤ) (r : Mapped) → LentMap u s → LentMap v t → total (rows u s) + total (rows v t) ≤ max_u64
+    → length s + length t ≤ most_rows → 5 * (length s + length t) ≤ length ou → length s + length t ≤ length os → Join u s v t ou os r ou' os' → r ≡ Rows (length s + length t)
 join-accepts u v s t ou ou' os os' r l k h few x y p =
     let n = length-join u s v t in
     let f : Fits (length (join (rows u s) (rows v t))) (length ou) (length os) = record { few = omega arith; words = omega arith; shifts = omega arith } in
@@ -95,18 +95,18 @@ merge-accepts u s ou ou' os os' r l x y p =
 
 -- ---- origins
 -- what `origin` answers of a lent map, for every frame
-traces : (u : List ℕ) (s : List ℤ) (f : ℕ) (r : Traced) → LentMap u s → Trace u s f r → r ≡ tracedAs (origin (rows u s) f)
+traces : (u : List ℕ) (s : List ℤ) (f : ℕ) (r : Traced) → LentMap u s → Trace u s f r → r ≡ traced_as (origin (rows u s) f)
 traces u s f r l e =
     ⊎_elim
     (λ (h : total (rows u s) ≤ f).
     e
-    ∙ ap (λ (x : Refusal). tracedOf x (origin (rows u s) f)) (origin-beyond u s f (sound-map u s (sound l)) l.few h)
-    ∙ ap tracedAs (sym (demanded.past-map (rows u s) f l.well h)))
-    (λ (h : f < total (rows u s)). e ∙ ap (λ (x : Refusal). tracedOf x (origin (rows u s) f)) (origin-accepted u s f (sound-map u s (sound l)) l.few h))
+    ∙ ap (λ (x : Refusal). traced_of x (origin (rows u s) f)) (origin-beyond u s f (sound-map u s (sound l)) l.few h)
+    ∙ ap traced_as (sym (demanded.past-map (rows u s) f l.well h)))
+    (λ (h : f < total (rows u s)). e ∙ ap (λ (x : Refusal). traced_of x (origin (rows u s) f)) (origin-accepted u s f (sound-map u s (sound l)) l.few h))
     (le-or-lt (total (rows u s)) f)
 
-origin-past : (u : List ℕ) (s : List ℤ) (f : ℕ) (r : Traced) → LentMap u s → total (rows u s) ≤ f → Trace u s f r → r ≡ traced.Refused pastMap 0
-origin-past u s f r l h e = traces u s f r l e ∙ ap tracedAs (demanded.past-map (rows u s) f l.well h)
+origin-past : (u : List ℕ) (s : List ℤ) (f : ℕ) (r : Traced) → LentMap u s → total (rows u s) ≤ f → Trace u s f r → r ≡ traced.Refused past_map 0
+origin-past u s f r l h e = traces u s f r l e ∙ ap traced_as (demanded.past-map (rows u s) f l.well h)
 
 origin-found : (u : List ℕ) (s : List ℤ) (f : ℕ) (r : Traced) → LentMap u s → f < total (rows u s) → Trace u s f r → TracedTo u s f r
 origin-found u s f r l h e =
@@ -117,14 +117,14 @@ origin-found u s f r l h e =
       low = o.holder.low;
       high = o.holder.high;
       only = o.only;
-      gives = traces u s f r l e ∙ ap tracedAs (origin-held (sound l) f o.index o.holder);
+      gives = traces u s f r l e ∙ ap traced_as (origin-held (sound l) f o.index o.holder);
     }
 
 -- two maps give two frames the same origin, so `origin` answers the same
 same-traces : (u v : List ℕ) (s t : List ℤ) (f g : ℕ) (r q : Traced) → LentMap u s → LentMap v t → origin (rows u s) f ≡ origin (rows v t) g → Trace u s f r → Trace v t g q → r ≡ q
-same-traces u v s t f g r q l k e x y = traces u s f r l x ∙ ap tracedAs e ∙ sym (traces v t g q k y)
+same-traces u v s t f g r q l k e x y = traces u s f r l x ∙ ap traced_as e ∙ sym (traces v t g q k y)
 
-told-once : (o p : Origin) → tracedAs o ≡ tracedAs p → o ≡ p
+told-once : (o p : Origin) → traced_as o ≡ traced_as p → o ≡ p
 told-once nowhere nowhere e = refl
 told-once nowhere (from s f g z) e = let x : ◌≡◌ {A = ℕ} 0 1 = cc in absurd (omega arith)
 told-once (from s f g z) nowhere e = let x : ◌≡◌ {A = ℕ} 0 1 = cc in absurd (omega arith)
@@ -170,7 +170,7 @@ cut_again u s a b c d k mu mu' ou ou' ou'' ms ms' os os' os'' r q p x y h = once
     one : cut c d (rows (take (5 * k) mu') (take k ms')) ≡ cut (a + c) (a + d) (rows u s)
     one = ap (cut c d) g.3.is ∙ demanded.cut-cut (rows u s) a b c d h
 
-    refusals : cutRefusal (take (5 * k) mu') (take k ms') c d (length ou) (length os) ≡ cutRefusal u s (a + c) (a + d) (length ou) (length os)
+    refusals : cut_refusal (take (5 * k) mu') (take k ms') c d (length ou) (length os) ≡ cut_refusal u s (a + c) (a + d) (length ou) (length os)
     refusals =
         let lv = g.3.lent in
         let lu = g.0 in
@@ -181,16 +181,16 @@ cut_again u s a b c d k mu mu' ou ou' ou'' ms ms' os os' os'' r q p x y h = once
         ∙ sym (cut-empty u s (a + c) (a + d) (length ou) (length os) (sound-map _ _ (sound lu)) lu.few (omega arith)))
         (λ (e : c < d).
         cut-room (take (5 * k) mu') (take k ms') c d (length ou) (length os) (sound-map _ _ (sound lv)) lv.few e (omega arith)
-        ∙ ap (λ (m : List Row). roomRefusal (length m) (length ou) (length os)) one
+        ∙ ap (λ (m : List Row). room_refusal (length m) (length ou) (length os)) one
         ∙ sym (cut-room u s (a + c) (a + d) (length ou) (length os) (sound-map _ _ (sound lu)) lu.few (omega arith) (omega (arith, g.2))))
         (le-or-lt d c)
 
 -- ---- merges
 -- maps that merge to the same rows are refused alike
-merge-alike : (u v : List ℕ) (s t : List ℤ) (nu ns : ℕ) → LentMap u s → LentMap v t → merge (rows u s) ≡ merge (rows v t) → mergeRefusal u s nu ns ≡ mergeRefusal v t nu ns
+merge-alike : (u v : List ℕ) (s t : List ℤ) (nu ns : ℕ) → LentMap u s → LentMap v t → merge (rows u s) ≡ merge (rows v t) → merge_refusal u s nu ns ≡ merge_refusal v t nu ns
 merge-alike u v s t nu ns l k e =
     merge-room u s nu ns (sound-map u s (sound l)) l.few
-    ∙ ap (λ (m : List Row). roomRefusal (length m) nu ns) e
+    ∙ ap (λ (m : List Row). room_refusal (length m) nu ns) e
     ∙ sym (merge-room v t nu ns (sound-map v t (sound k)) k.few)
 
 merge-again : (u : List ℕ) (s : List ℤ) (k : ℕ) (ou ou' ou'' : List ℕ) (os os' os'' : List ℤ) (r : Mapped) → Merge u s ou os (Rows k) ou' os'
@@ -258,19 +258,19 @@ module _ (u : List ℕ) (s : List ℤ) (a b c i j : ℕ) (pu pu' qu qu' : List �
   )
 
   join-cuts-answer : (ju ju' : List ℕ) (js js' : List ℤ) (r : Mapped) → Join (take (5 * i) pu') (take i ps') (take (5 * j) qu') (take j qs') ju js r ju' js'
-      → 5 * (i + j) ≤ length ju → i + j ≤ length js → (i + j ≤ mostRows → r ≡ Rows (i + j)) × (mostRows < i + j → r ≡ Refused rowsOver 0)
+      → 5 * (i + j) ≤ length ju → i + j ≤ length js → (i + j ≤ most_rows → r ≡ Rows (i + j)) × (most_rows < i + j → r ≡ Refused rows_over 0)
   join-cuts-answer ju ju' js js' r k h l =
       let vu = take (5 * i) pu' in
       let vs = take i ps' in
       let wu = take (5 * j) qu' in
       let ws = take j qs' in
       let n : length vs + length ws ≡ i + j = omega (arith, sizes) in
-      let t : total (rows vu vs) + total (rows wu ws) ≤ maxU64 = omega (arith, ap total left.3.is ∙ left.4, ap total right.3.is ∙ right.4, left.1, right.1, right.2, (demanded.tiles (rows u s) left.0.well).1) in (
+      let t : total (rows vu vs) + total (rows wu ws) ≤ max_u64 = omega (arith, ap total left.3.is ∙ left.4, ap total right.3.is ∙ right.4, left.1, right.1, right.2, (demanded.tiles (rows u s) left.0.well).1) in (
         λ e. join-accepts vu wu vs ws ju ju' js js' r left.3.lent right.3.lent t (omega arith) (omega arith) (omega arith) k ∙ ap Rows n,
         λ e.
-            let z = join-room vu vs wu ws (length ju) (length js) (sound-map vu vs (sound left.3.lent)) (sound-map wu ws (sound right.3.lent)) left.3.lent.few right.3.lent.few (not-past (total (rows vu vs)) (total (rows wu ws)) maxU64 t) in
+            let z = join-room vu vs wu ws (length ju) (length js) (sound-map vu vs (sound left.3.lent)) (sound-map wu ws (sound right.3.lent)) left.3.lent.few right.3.lent.few (not-past (total (rows vu vs)) (total (rows wu ws)) max_u64 t) in
             let f = too_many (length (join (rows vu vs) (rows wu ws))) (length ju) (length js) (omega (arith, length-join vu vs wu ws)) in
-            k.answer ∙ ap (λ (y : Refusal). mappedOf y (join (rows vu vs) (rows wu ws))) (z ∙ room-on _ _ _ f),
+            k.answer ∙ ap (λ (y : Refusal). mapped_of y (join (rows vu vs) (rows wu ws))) (z ∙ room-on _ _ _ f),
       )
 
   join-cuts-rows : (w : ℕ) (wu wu' : List ℕ) (ws ws' : List ℤ) → Cut u s a c wu ws (Rows w) wu' ws' → i + j ≤ w + 1

@@ -8,12 +8,12 @@ use Rattle.rows.specs.Rows.{total, WellFormed}
 use Rattle.rows.proofs.Demanded.{demanded}
 use Rattle.maps.specs.declared.Mapped.{Mapped}
 use Rattle.maps.specs.declared.Mapped.TheVariants.{Rows, Refused}
-use Rattle.rows.specs.Lent.{rows, words_of, shiftsOf}
-use Rattle.maps.specs.Answers.{mostRows, mappedOf, Placed}
+use Rattle.rows.specs.Lent.{rows, words_of, shifts_of}
+use Rattle.maps.specs.Answers.{most_rows, mapped_of, Placed}
 use Rattle.maps.specs.Laws.{Wrote, AsLent}
 use Rattle.rows.proofs.Flat.{length-words, length-shifts, rows-flat}
 
-answered-rows : (x : Refusal) (m : List Row) (k : ℕ) → Rows k ≡ mappedOf x m → (x ≡ Never) × (k ≡ length m)
+answered-rows : (x : Refusal) (m : List Row) (k : ℕ) → Rows k ≡ mapped_of x m → (x ≡ Never) × (k ≡ length m)
 answered-rows Never m k e = (refl, cc)
 answered-rows (At n i) m k e = let z : ◌≡◌ {A = ℕ} 0 1 = cc in absurd (omega arith)
 
@@ -28,20 +28,20 @@ module _ {x : Refusal} {m : List Row} {ou : List ℕ} {os : List ℤ} {k : ℕ} 
   words-n : length (words_of m) ≡ 5 * k
   words-n = length-words m ∙ ap (λ (n : ℕ). 5 * n) (sym count)
 
-  shifts-n : length (shiftsOf m) ≡ k
+  shifts-n : length (shifts_of m) ≡ k
   shifts-n = length-shifts m ∙ sym count
 
   the-words : ou' ≡ words_of m ++ drop (length (words_of m)) ou
   the-words = p.words ∙ ap (λ (y : Refusal). after y (words_of m) ou) none
 
-  the-shifts : os' ≡ shiftsOf m ++ drop (length (shiftsOf m)) os
-  the-shifts = p.shifts ∙ ap (λ (y : Refusal). after y (shiftsOf m) os) none
+  the-shifts : os' ≡ shifts_of m ++ drop (length (shifts_of m)) os
+  the-shifts = p.shifts ∙ ap (λ (y : Refusal). after y (shifts_of m) os) none
 
   pub words_are : take (5 * k) ou' ≡ words_of m
   words_are = ap (take (5 * k)) the-words ∙ take_at (words_of m) (drop (length (words_of m)) ou) (5 * k) words-n
 
-  pub shifts-are : take k os' ≡ shiftsOf m
-  shifts-are = ap (take k) the-shifts ∙ take_at (shiftsOf m) (drop (length (shiftsOf m)) os) k shifts-n
+  pub shifts-are : take k os' ≡ shifts_of m
+  shifts-are = ap (take k) the-shifts ∙ take_at (shifts_of m) (drop (length (shifts_of m)) os) k shifts-n
 
   pub read_back : rows (take (5 * k) ou') (take k os') ≡ m
   read_back = ap₂ rows words_are shifts-are ∙ rows-flat m
@@ -50,9 +50,9 @@ module _ {x : Refusal} {m : List Row} {ou : List ℕ} {os : List ℤ} {k : ℕ} 
   past_words = ap (drop (5 * k)) the-words ∙ drop_at (words_of m) (drop (length (words_of m)) ou) (5 * k) words-n ∙ ap (λ (n : ℕ). drop n ou) words-n
 
   pub past-shifts : drop k os' ≡ drop k os
-  past-shifts = ap (drop k) the-shifts ∙ drop_at (shiftsOf m) (drop (length (shiftsOf m)) os) k shifts-n ∙ ap (λ (n : ℕ). drop n os) shifts-n
+  past-shifts = ap (drop k) the-shifts ∙ drop_at (shifts_of m) (drop (length (shifts_of m)) os) k shifts-n ∙ ap (λ (n : ℕ). drop n os) shifts-n
 
-  pub wrote : 0 < length m → length m ≤ mostRows → WellFormed m → Wrote k ou' os' m
+  pub wrote : 0 < length m → length m ≤ most_rows → WellFormed m → Wrote k ou' os' m
   wrote some few well =
       let nu = ap length words_are ∙ length-words m in
       let ns = ap length shifts-are ∙ length-shifts m in
@@ -61,13 +61,13 @@ module _ {x : Refusal} {m : List Row} {ou : List ℕ} {os : List ℤ} {k : ℕ} 
         is = read_back;
       }
 
-pub as-lent-refused : (x : Refusal) (m : List Row) (n i : ℕ) {A : Type 0} (p o o' : List A) → Refused n i ≡ mappedOf x m → o' ≡ after x p o → o' ≡ o
+pub as-lent-refused : (x : Refusal) (m : List Row) (n i : ℕ) {A : Type 0} (p o o' : List A) → Refused n i ≡ mapped_of x m → o' ≡ after x p o → o' ≡ o
 as-lent-refused Never m n i p o o' e f = let z : ◌≡◌ {A = ℕ} 0 1 = cc in absurd (omega arith)
 as-lent-refused (At n i) m _ _ p o o' e f = f
 
 pub as_lent : {x : Refusal} {m : List Row} {ou : List ℕ} {os : List ℤ} (r : Mapped) {ou' : List ℕ} {os' : List ℤ} → Placed x m ou os r ou' os' → AsLent r ou os ou' os'
 as_lent (Rows k) p = (past_words p, past-shifts p)
-as_lent {x} {m} {ou} {os} (Refused n i) {ou'} {os'} p = (as-lent-refused x m n i (words_of m) ou ou' p.answer p.words, as-lent-refused x m n i (shiftsOf m) os os' p.answer p.shifts)
+as_lent {x} {m} {ou} {os} (Refused n i) {ou'} {os'} p = (as-lent-refused x m n i (words_of m) ou ou' p.answer p.words, as-lent-refused x m n i (shifts_of m) os os' p.answer p.shifts)
 
 -- a map has rows exactly where it has frames
 pub frames-rows : (m : List Row) → 0 < total m → 0 < length m

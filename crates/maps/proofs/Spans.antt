@@ -1,20 +1,20 @@
 -- Runs of rows: where each row of a sound map lies, the row that holds a frame, and the rows that a cut takes. Assumes nothing.
 use Rattle.std.proofs.Common.{◌≡◌, ℕ, zero, suc, ◌+◌, ◌-◌, ◌<◌, ◌≤◌, min, max, true, false, List, [], ◌∷◌, ◌++◌, length, get_or, ℤ, sym, refl, ap, ◌∙◌, subst, ap₂, ⊎_elim, append-nil, le_of_suc-le-suc, not-suc-le-zero, add-zero, arith, ltb-true, le-ltb, lt-ltb}
 use Rattle.choice.specs.Records.{run}
-use Rattle.choice.proofs.Runs.{length_run, getD-run}
+use Rattle.choice.proofs.Runs.{length_run, get_d-run}
 use Rattle.choice.proofs.Tests.{le-or-lt, Test, was, wasnt, test}
 use Rattle.rows.specs.declared.Row.{Row}
-use Rattle.rows.specs.Rows.{rowEnd, total, WellFrom, WellFormed, holds, originIn, origin, overlaps, clip, cut}
+use Rattle.rows.specs.Rows.{row_end, total, WellFrom, WellFormed, holds, origin_in, origin, overlaps, clip, cut}
 use Rattle.rows.specs.Demands.{no_row}
 use Rattle.rows.proofs.Origins.{holds-in, holds-lo, holds-hi}
 use Rattle.rows.proofs.Demanded.{demanded}
 use Rattle.rows.proofs.Well.{Ok, ok-facts}
 use Rattle.choice.specs.declared.Refusal.TheVariants.{Never}
-use Rattle.choice.specs.Choice.{maxU64}
+use Rattle.choice.specs.Choice.{max_u64}
 use Rattle.maps.specs.declared.Traced.TheVariants.{From}
-use Rattle.rows.specs.Lent.{rowAt, rows}
+use Rattle.rows.specs.Lent.{row_at, rows}
 use Rattle.rows.specs.Steps.{out_at, OutsRise, LastBegun}
-use Rattle.maps.specs.Answers.{originRefusal, tracedAs, tracedOf}
+use Rattle.maps.specs.Answers.{origin_refusal, traced_as, traced_of}
 use Rattle.maps.specs.Steps.{Sound, Room, Holder, Span}
 use Rattle.maps.proofs.Chains.{Cuttable}
 
@@ -56,10 +56,10 @@ module _ (f : ℕ → Row) where
   -- where a row of a well-formed map lies
   pub record Lies (k : ℕ) : Type 0 where
     pub begins : (f k).out ≡ start k
-    pub ends : rowEnd (f k) ≡ start (suc k)
+    pub ends : row_end (f k) ≡ start (suc k)
     pub some : 0 < (f k).count
-    pub last : rowEnd (f k) ≤ maxU64
-    pub source : (f k).first + (f k).count ≤ maxU64
+    pub last : row_end (f k) ≤ max_u64
+    pub source : (f k).first + (f k).count ≤ max_u64
 
   lies : (n k : ℕ) → WellFormed (run f 0 n) → k < n → Lies k
   lies n k w h =
@@ -102,22 +102,22 @@ cut-append (r ∷ x) y a b = go (test (overlaps a b r)) (cut-append x y a b)
     go (wasnt e) ih = rw (e, ih)
 
 module _ {u : List ℕ} {s : List ℤ} (m : Sound u s) where
-  pub row_lies : (k : ℕ) → k < length s → Lies (rowAt u s) k
-  row_lies k h = lies (rowAt u s) (length s) k m.well h
+  pub row_lies : (k : ℕ) → k < length s → Lies (row_at u s) k
+  row_lies k h = lies (row_at u s) (length s) k m.well h
 
   -- the row's sums fit
-  pub row-end : (k : ℕ) (r : Row) → r ≡ rowAt u s k → k < length s → rowEnd r ≤ maxU64
-  row-end k r e h = let l = row_lies k h in omega (arith, ap rowEnd e, l.last)
+  pub row-end : (k : ℕ) (r : Row) → r ≡ row_at u s k → k < length s → row_end r ≤ max_u64
+  row-end k r e h = let l = row_lies k h in omega (arith, ap row_end e, l.last)
 
-  pub row-source : (k : ℕ) (r : Row) → r ≡ rowAt u s k → k < length s → r.first + r.count ≤ maxU64
-  row-source k r e h = let l = row_lies k h in let z : r.first + r.count ≡ (rowAt u s k).first + (rowAt u s k).count = ap (λ (x : Row). x.first + x.count) e in omega (arith, l.source)
+  pub row-source : (k : ℕ) (r : Row) → r ≡ row_at u s k → k < length s → r.first + r.count ≤ max_u64
+  row-source k r e h = let l = row_lies k h in let z : r.first + r.count ≡ (row_at u s k).first + (row_at u s k).count = ap (λ (x : Row). x.first + x.count) e in omega (arith, l.source)
 
   -- the search for a row that holds a frame: rows begin one after another, the first at 0
   pub outs-rise : OutsRise u (length s)
   outs-rise = record {
     some = m.some;
     sizes = omega (arith, m.sizes);
-    rising = λ i j h l. let p = row_lies i (omega arith) in let q = row_lies j l in omega (arith, p.begins, q.begins, start-rises (rowAt u s) i j h);
+    rising = λ i j h l. let p = row_lies i (omega arith) in let q = row_lies j l in omega (arith, p.begins, q.begins, start-rises (row_at u s) i j h);
   }
 
   pub from_zero : (k : ℕ) → out_at u 0 ≤ k
@@ -132,8 +132,8 @@ module _ {u : List ℕ} {s : List ℤ} (m : Sound u s) where
         within = b.within;
         low = b.low;
         high = ⊎_elim
-            (λ (z : length s ≤ suc i). let g : suc i ≡ length s = omega (arith, b.within) in omega (arith, lies.ends, ap (λ (n : ℕ). total (run (rowAt u s) 0 n)) g))
-            (λ (z : suc i < length s). let l = row_lies (suc i) z in let e : i + 1 ≡ suc i = omega arith in let w : k < (rowAt u s (suc i)).out = subst (λ (n : ℕ). k < out_at u n) e (b.high (omega arith)) in omega (arith, lies.ends, l.begins))
+            (λ (z : length s ≤ suc i). let g : suc i ≡ length s = omega (arith, b.within) in omega (arith, lies.ends, ap (λ (n : ℕ). total (run (row_at u s) 0 n)) g))
+            (λ (z : suc i < length s). let l = row_lies (suc i) z in let e : i + 1 ≡ suc i = omega arith in let w : k < (row_at u s (suc i)).out = subst (λ (n : ℕ). k < out_at u n) e (b.high (omega arith)) in omega (arith, lies.ends, l.begins))
             (le-or-lt (length s) (suc i));
       }
 
@@ -145,40 +145,40 @@ module _ {u : List ℕ} {s : List ℤ} (m : Sound u s) where
         (λ (l : j < i).
         let p = row_lies i x.within in
         let q = row_lies j y.within in
-        absurd (omega (arith, p.begins, q.ends, start-rises (rowAt u s) (suc j) i l, x.low, y.high)))
+        absurd (omega (arith, p.begins, q.ends, start-rises (row_at u s) (suc j) i l, x.low, y.high)))
         (le-or-lt i j)
 
-    before-none : (k : ℕ) → 0 ≤ k → k < 0 + i → overlaps a b (rowAt u s k) ≡ false
+    before-none : (k : ℕ) → 0 ≤ k → k < 0 + i → overlaps a b (row_at u s k) ≡ false
     before-none k l t =
         let p = row_lies i x.within in
         let q = row_lies k (omega (arith, x.within)) in
-        let z : rowEnd (rowAt u s k) ≤ a = omega (arith, p.begins, q.ends, start-rises (rowAt u s) (suc k) i (omega arith), x.low) in
-        le-ltb (max a (rowAt u s k).out) (min b (rowEnd (rowAt u s k))) (omega arith)
+        let z : row_end (row_at u s k) ≤ a = omega (arith, p.begins, q.ends, start-rises (row_at u s) (suc k) i (omega arith), x.low) in
+        le-ltb (max a (row_at u s k).out) (min b (row_end (row_at u s k))) (omega arith)
 
-    after_none : (k : ℕ) → i + (j - i + 1) ≤ k → k < i + (j - i + 1) + (length s - (i + (j - i + 1))) → overlaps a b (rowAt u s k) ≡ false
+    after_none : (k : ℕ) → i + (j - i + 1) ≤ k → k < i + (j - i + 1) + (length s - (i + (j - i + 1))) → overlaps a b (row_at u s k) ≡ false
     after_none k l t =
         let r = holders-rise in
         let p = row_lies j y.within in
         let q = row_lies k (omega (arith, y.within)) in
-        let z : b ≤ (rowAt u s k).out = omega (arith, p.ends, q.begins, start-rises (rowAt u s) (suc j) k (omega arith), y.high) in
-        le-ltb (max a (rowAt u s k).out) (min b (rowEnd (rowAt u s k))) (omega arith)
+        let z : b ≤ (row_at u s k).out = omega (arith, p.ends, q.begins, start-rises (row_at u s) (suc j) k (omega arith), y.high) in
+        le-ltb (max a (row_at u s k).out) (min b (row_end (row_at u s k))) (omega arith)
 
-    inside : (k : ℕ) → k < j - i + 1 → overlaps a b (rowAt u s (i + k)) ≡ true
+    inside : (k : ℕ) → k < j - i + 1 → overlaps a b (row_at u s (i + k)) ≡ true
     inside k l =
         let r = holders-rise in
         let w : i + k < length s = omega (arith, y.within) in
         let p = row_lies (i + k) w in
         let pi = row_lies i x.within in
         let pj = row_lies j y.within in
-        let z₁ : a < rowEnd (rowAt u s (i + k)) = omega (arith, p.ends, pi.ends, start-rises (rowAt u s) (suc i) (suc (i + k)) (omega arith), x.high) in
-        let z₂ : (rowAt u s (i + k)).out < b = omega (arith, p.begins, pj.begins, start-rises (rowAt u s) (i + k) j (omega arith), y.low) in
-        lt-ltb (max a (rowAt u s (i + k)).out) (min b (rowEnd (rowAt u s (i + k)))) (omega (arith, p.some))
+        let z₁ : a < row_end (row_at u s (i + k)) = omega (arith, p.ends, pi.ends, start-rises (row_at u s) (suc i) (suc (i + k)) (omega arith), x.high) in
+        let z₂ : (row_at u s (i + k)).out < b = omega (arith, p.begins, pj.begins, start-rises (row_at u s) (i + k) j (omega arith), y.low) in
+        lt-ltb (max a (row_at u s (i + k)).out) (min b (row_end (row_at u s (i + k)))) (omega (arith, p.some))
 
     pub spans : Span u s a b i (j - i + 1)
     spans =
         let r = holders-rise in
         let k = j - i + 1 in
-        let f = rowAt u s in
+        let f = row_at u s in
         let e : length s ≡ i + (k + (length s - (i + k))) = omega (arith, y.within) in
         let whole : rows u s ≡ run f 0 i ++ (run f (0 + i) k ++ run f (0 + i + k) (length s - (i + k))) =
         ap (run f 0) e ∙ run-append f i (k + (length s - (i + k))) 0 ∙ ap (λ (l : List Row). run f 0 i ++ l) (run-append f k (length s - (i + k)) (0 + i)) in
@@ -196,14 +196,14 @@ module _ {u : List ℕ} {s : List ℤ} (m : Sound u s) where
         }
 
 pub span-length : {u : List ℕ} {s : List ℤ} {a b i k : ℕ} → Span u s a b i k → length (cut a b (rows u s)) ≡ k
-span-length {u} {s} {a} {b} {i} {k} x = ap length x.is ∙ length_run (λ j. clip a b (rowAt u s (i + j))) 0 k
+span-length {u} {s} {a} {b} {i} {k} x = ap length x.is ∙ length_run (λ j. clip a b (row_at u s (i + j))) 0 k
 
 -- what a cut asks of each row that it takes
-pub span-clips : {u : List ℕ} {s : List ℤ} {a b i k : ℕ} → Sound u s → Span u s a b i k → (w : ℕ) → w < k → (r : Row) → r ≡ rowAt u s (i + w)
-    → (max a r.out < min b (rowEnd r)) × (rowEnd r ≤ maxU64) × (r.first + r.count ≤ maxU64)
+pub span-clips : {u : List ℕ} {s : List ℤ} {a b i k : ℕ} → Sound u s → Span u s a b i k → (w : ℕ) → w < k → (r : Row) → r ≡ row_at u s (i + w)
+    → (max a r.out < min b (row_end r)) × (row_end r ≤ max_u64) × (r.first + r.count ≤ max_u64)
 span-clips {u} {s} {a} {b} {i} m x w h r e =
     let l : i + w < length s = omega (arith, x.within) in
-    (ltb-true (max a r.out) (min b (rowEnd r)) (ap (overlaps a b) e ∙ x.over w h), row-end m (i + w) r e l, row-source m (i + w) r e l)
+    (ltb-true (max a r.out) (min b (row_end r)) (ap (overlaps a b) e ∙ x.over w h), row-end m (i + w) r e l, row-source m (i + w) r e l)
 
 pub span-room : {u : List ℕ} {s : List ℤ} {a b i k : ℕ} {ou : List ℕ} {os : List ℤ} → Span u s a b i k → Room k ou os → Room (length (cut a b (rows u s))) ou os
 span-room x r = let e = span-length x in record { words = omega (arith, r.words); shifts = omega (arith, r.shifts) }
@@ -212,51 +212,51 @@ span-room x r = let e = span-length x in record { words = omega (arith, r.words)
 pub record OneHolder (u : List ℕ) (s : List ℤ) (k : ℕ) : Type 0 where
   pub index : ℕ
   pub holder : Holder u s k index
-  pub only : (j : ℕ) → j < length s → (rowAt u s j).out ≤ k → k < rowEnd (rowAt u s j) → j ≡ index
+  pub only : (j : ℕ) → j < length s → (row_at u s j).out ≤ k → k < row_end (row_at u s j) → j ≡ index
 
 module _ {u : List ℕ} {s : List ℤ} (m : Sound u s) where
   -- a row begins before the map ends
-  pub row_out : (k : ℕ) (r : Row) → r ≡ rowAt u s k → k < length s → r.out ≤ total (rows u s)
-  row_out k r e h = let l = row_lies m k h in omega (arith, ap (λ (x : Row). x.out) e, l.begins, start-rises (rowAt u s) k (length s) (omega arith))
+  pub row_out : (k : ℕ) (r : Row) → r ≡ row_at u s k → k < length s → r.out ≤ total (rows u s)
+  row_out k r e h = let l = row_lies m k h in omega (arith, ap (λ (x : Row). x.out) e, l.begins, start-rises (row_at u s) k (length s) (omega arith))
 
-  row_is : (j : ℕ) → j < length s → get_or (rows u s) j no_row ≡ rowAt u s j
-  row_is j h = let z : 0 + j ≡ j = omega arith in getD-run (rowAt u s) 0 (length s) j no_row h ∙ ap (rowAt u s) z
+  row_is : (j : ℕ) → j < length s → get_or (rows u s) j no_row ≡ row_at u s j
+  row_is j h = let z : 0 + j ≡ j = omega arith in get_d-run (row_at u s) 0 (length s) j no_row h ∙ ap (row_at u s) z
 
-  holds_row : (k j : ℕ) → j < length s → (rowAt u s j).out ≤ k → k < rowEnd (rowAt u s j) → holds (get_or (rows u s) j no_row) k ≡ true
-  holds_row k j h l t = ap (λ (r : Row). holds r k) (row_is j h) ∙ holds-in (rowAt u s j) k l t
+  holds_row : (k j : ℕ) → j < length s → (row_at u s j).out ≤ k → k < row_end (row_at u s j) → holds (get_or (rows u s) j no_row) k ≡ true
+  holds_row k j h l t = ap (λ (r : Row). holds r k) (row_is j h) ∙ holds-in (row_at u s j) k l t
 
   -- the row that was found gives the frame's origin
-  pub origin-held : (k i : ℕ) → Holder u s k i → origin (rows u s) k ≡ originIn (rowAt u s i) k
+  pub origin-held : (k i : ℕ) → Holder u s k i → origin (rows u s) k ≡ origin_in (row_at u s i) k
   origin-held k i x =
       let l = row_lies m i x.within in
-      let n = length_run (rowAt u s) 0 (length s) in
-      let o = demanded.one-row (rows u s) k m.well (omega (arith, l.ends, start-rises (rowAt u s) (suc i) (length s) (omega (arith, x.within)), x.high)) in
+      let n = length_run (row_at u s) 0 (length s) in
+      let o = demanded.one-row (rows u s) k m.well (omega (arith, l.ends, start-rises (row_at u s) (suc i) (length s) (omega (arith, x.within)), x.high)) in
       let same : i ≡ o.index = o.only i (omega (arith, x.within)) (holds_row k i x.within x.low x.high) in
-      o.gives ∙ ap (λ (j : ℕ). originIn (get_or (rows u s) j no_row) k) (sym same) ∙ ap (λ (r : Row). originIn r k) (row_is i x.within)
+      o.gives ∙ ap (λ (j : ℕ). origin_in (get_or (rows u s) j no_row) k) (sym same) ∙ ap (λ (r : Row). origin_in r k) (row_is i x.within)
 
   -- each frame has one row that holds it
   pub row-holder : (k : ℕ) → k < total (rows u s) → OneHolder u s k
   row-holder k h =
-      let n = length_run (rowAt u s) 0 (length s) in
+      let n = length_run (row_at u s) 0 (length s) in
       let o = demanded.one-row (rows u s) k m.well h in
       let w : o.index < length s = omega (arith, o.within) in
       let e = ap (λ (r : Row). holds r k) (sym (row_is o.index w)) ∙ o.here in
       record {
         index = o.index;
-        holder = record { within = w; low = holds-lo (rowAt u s o.index) k e; high = holds-hi (rowAt u s o.index) k e };
+        holder = record { within = w; low = holds-lo (row_at u s o.index) k e; high = holds-hi (row_at u s o.index) k e };
         only = λ j g l t. o.only j (omega arith) (holds_row k j g l t);
       }
 
 -- what `origin` makes of the row that it found
-module _ {u : List ℕ} {s : List ℤ} (m : Sound u s) {k i : ℕ} (x : Holder u s k i) (r : Row) (e : r ≡ rowAt u s i) where
+module _ {u : List ℕ} {s : List ℤ} (m : Sound u s) {k i : ℕ} (x : Holder u s k i) (r : Row) (e : r ≡ row_at u s i) where
   pub held_low : r.out ≤ k
   held_low = rw e x.low
 
-  pub held_fits : r.first + (k - r.out) ≤ maxU64
-  held_fits = let h : k < rowEnd r = rw e x.high in omega (arith, held_low, row-source m i r e x.within)
+  pub held_fits : r.first + (k - r.out) ≤ max_u64
+  held_fits = let h : k < row_end r = rw e x.high in omega (arith, held_low, row-source m i r e x.within)
 
-  pub held-traced : {z : ℤ} → originRefusal u s k ≡ Never → z ≡ r.shift → From r.source (r.first + (k - r.out)) r.flag z ≡ tracedOf (originRefusal u s k) (origin (rows u s) k)
-  held-traced a f = ap (From r.source (r.first + (k - r.out)) r.flag) f ∙ ap (λ (y : Row). tracedAs (originIn y k)) e ∙ sym (ap₂ tracedOf a (origin-held m k i x))
+  pub held-traced : {z : ℤ} → origin_refusal u s k ≡ Never → z ≡ r.shift → From r.source (r.first + (k - r.out)) r.flag z ≡ traced_of (origin_refusal u s k) (origin (rows u s) k)
+  held-traced a f = ap (From r.source (r.first + (k - r.out)) r.flag) f ∙ ap (λ (y : Row). traced_as (origin_in y k)) e ∙ sym (ap₂ traced_of a (origin-held m k i x))
 
 pub taken-room : {u : List ℕ} {s : List ℤ} {a b i k : ℕ} {ou : List ℕ} {os : List ℤ} → Cuttable u s a b (length ou) (length os) → Span u s a b i k → Room k ou os
 taken-room o x = let e = span-length x in record { words = omega (arith, o.room.words); shifts = omega (arith, o.room.shifts) }

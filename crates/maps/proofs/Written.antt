@@ -1,7 +1,7 @@
 -- Loops over lent rows: judging, writing rows over what is lent, merging, a turn each. Assumes nothing.
 use Rattle.std.proofs.Common.{◌≡◌, ℕ, ◌+◌, ◌-◌, ◌*◌, ◌<◌, ◌≤◌, true, false, List, [], ◌∷◌, ◌++◌, length, set, ℤ, sym, refl, ap, ◌∙◌, append_assoc, append-nil, add-one, arith, length-append}
 use lib.Seq.{sets}
-use Rattle.choice.specs.Choice.{when, maxU64}
+use Rattle.choice.specs.Choice.{when, max_u64}
 use Rattle.choice.specs.Records.{run}
 use Rattle.choice.specs.declared.Refusal.{Refusal}
 use Rattle.choice.specs.declared.Refusal.TheVariants.{Never, At}
@@ -9,13 +9,13 @@ use Rattle.choice.proofs.Runs.{run-cons, run-nil}
 use Rattle.slices.specs.Slices.{laid}
 use Rattle.slices.proofs.Laid.{length-laid, set-laid, sets-laid}
 use Rattle.rows.specs.declared.Row.{Row}
-use Rattle.rows.specs.Rows.{total, okRow, runsOn, glue, mergeInto, merge}
-use Rattle.rows.proofs.Merging.{runs_on}
+use Rattle.rows.specs.Rows.{total, ok_row, runs_on, glue, merge_into, merge}
+use Rattle.rows.proofs.Merging.{runs_on-true}
 use Rattle.maps.specs.declared.Mapped.TheVariants.{Rows, Refused}
 use Rattle.maps.specs.declared.Frames.TheVariants as frames
-use Rattle.rows.specs.Lent.{rowAt, rows, words, words_of, shiftsOf}
+use Rattle.rows.specs.Lent.{row_at, rows, words, words_of, shifts_of}
 use Rattle.rows.proofs.Flat.{words_append, shifts-append, length-words, length-shifts}
-use Rattle.maps.specs.Answers.{badRows, firstBad, Placed}
+use Rattle.maps.specs.Answers.{bad_rows, first_bad, Placed}
 use Rattle.maps.specs.Steps.{Room, counted}
 
 -- row i as it was read, and the rows after it
@@ -25,27 +25,21 @@ read f i n r e h = run-cons f i n h ∙ ap (λ (x : Row). x ∷ run f (i + 1) (n
 -- judging
 module _ (f : ℕ → Row) (p i n : ℕ) where
   module _ (r : Row) (e : r ≡ f i) (h : i < n) where
-    pub judge-bad : (t : ℕ) → okRow p r ≡ false → counted (firstBad p i (run f i (n - i))) t ≡ frames.Refused badRows i
-    unfolding firstBad when
+    pub judge-bad : (t : ℕ) → ok_row p r ≡ false → counted (first_bad p i (run f i (n - i))) t ≡ frames.Refused bad_rows i
+    unfolding first_bad when
     judge-bad t b = rw (read f i n r e h, b)
 
-    pub judge-ok : okRow p r ≡ true
-        → counted (firstBad p i (run f i (n - i))) (p + total (run f i (n - i)))
-        ≡ counted (firstBad (p + r.count) (i + 1) (run f (i + 1) (n - (i + 1)))) (p + r.count + total (run f (i + 1) (n - (i + 1))))
-    unfolding firstBad when
+    pub judge-ok : ok_row p r ≡ true
+        → counted (first_bad p i (run f i (n - i))) (p + total (run f i (n - i)))
+        ≡ counted (first_bad (p + r.count) (i + 1) (run f (i + 1) (n - (i + 1)))) (p + r.count + total (run f (i + 1) (n - (i + 1))))
+    unfolding first_bad when
     judge-ok b =
         let g : p + (r.count + total (run f (i + 1) (n - (i + 1)))) ≡ p + r.count + total (run f (i + 1) (n - (i + 1))) = omega arith in
         rw (read f i n r e h, b, g, add-one)
 
-  pub judge-end : n ≤ i → counted (firstBad p i (run f i (n - i))) (p + total (run f i (n - i))) ≡ frames.Are p
-  unfolding firstBad
+  pub judge-end : n ≤ i → counted (first_bad p i (run f i (n - i))) (p + total (run f i (n - i))) ≡ frames.Are p
+  unfolding first_bad
   judge-end h = let g : p + 0 ≡ p = omega arith in rw (run-nil f i n h, g)
-
-pub judge-start : (u : List ℕ) (s : List ℤ) → counted (firstBad 0 0 (run (rowAt u s) 0 (length s - 0))) (0 + total (run (rowAt u s) 0 (length s - 0))) ≡ counted (firstBad 0 0 (rows u s)) (total (rows u s))
-judge-start u s =
-    let e : length s - 0 ≡ length s = omega arith in
-    let g : 0 + total (rows u s) ≡ total (rows u s) = omega arith in
-    rw (e, g)
 
 -- of the rows C, those but rest have been written over what was lent
 pub record Written (C rest : List Row) (ou₀ : List ℕ) (os₀ : List ℤ) (ou : List ℕ) (os : List ℤ) (w : ℕ) : Type 0 where
@@ -53,7 +47,7 @@ pub record Written (C rest : List Row) (ou₀ : List ℕ) (os₀ : List ℤ) (ou
   pub so_far : done ++ rest ≡ C
   pub count : length done ≡ w
   pub words : ou ≡ laid (words_of done) ou₀
-  pub shifts : os ≡ laid (shiftsOf done) os₀
+  pub shifts : os ≡ laid (shifts_of done) os₀
 
 pub written_none : {C rest : List Row} (ou : List ℕ) (os : List ℤ) → rest ≡ C → Written C rest ou os ou os 0
 written_none ou os e = record { done = []; so_far = e; count = refl; words = refl; shifts = refl }
@@ -71,13 +65,13 @@ module _ {C rest : List Row} {ou₀ : List ℕ} {os₀ : List ℤ} {ou : List �
   pub shifts-length : length os ≡ length os₀
   shifts-length =
       let e = length-shifts d.done in
-      ap length d.shifts ∙ length-laid (shiftsOf d.done) os₀ (omega (arith, rows_all, room.shifts, d.count))
+      ap length d.shifts ∙ length-laid (shifts_of d.done) os₀ (omega (arith, rows_all, room.shifts, d.count))
 
 pub written_all : {C rest : List Row} {ou₀ : List ℕ} {os₀ : List ℤ} {ou : List ℕ} {os : List ℤ} {w : ℕ} → Written C rest ou₀ os₀ ou os w → rest ≡ []
-    → (ou ≡ laid (words_of C) ou₀) × (os ≡ laid (shiftsOf C) os₀)
+    → (ou ≡ laid (words_of C) ou₀) × (os ≡ laid (shifts_of C) os₀)
 written_all {C} {rest} {ou₀} {os₀} d z =
     let e : d.done ≡ C = sym (append-nil d.done) ∙ ap (λ (x : List Row). d.done ++ x) (sym z) ∙ d.so_far in
-    (d.words ∙ ap (λ (x : List Row). laid (words_of x) ou₀) e, d.shifts ∙ ap (λ (x : List Row). laid (shiftsOf x) os₀) e)
+    (d.words ∙ ap (λ (x : List Row). laid (words_of x) ou₀) e, d.shifts ∙ ap (λ (x : List Row). laid (shifts_of x) os₀) e)
 
 written-put : {C : List Row} {x : Row} {rest : List Row} {ou₀ : List ℕ} {os₀ : List ℤ} {ou : List ℕ} {os : List ℤ} {w : ℕ}
     → Room (length C) ou₀ os₀ → Written C (x ∷ rest) ou₀ os₀ ou os w
@@ -87,7 +81,7 @@ written-put {C} {x} {rest} {ou₀} {os₀} {ou} {os} {w} room d =
     let eu = length-words d.done in
     let es = length-shifts d.done in
     let ku : 5 * w ≡ length (words_of d.done) = omega (arith, d.count) in
-    let ks : w ≡ length (shiftsOf d.done) = omega (arith, d.count) in
+    let ks : w ≡ length (shifts_of d.done) = omega (arith, d.count) in
     record {
       done = d.done ++ x ∷ [];
       so_far = append_assoc d.done (x ∷ []) rest ∙ d.so_far;
@@ -99,8 +93,8 @@ written-put {C} {x} {rest} {ou₀} {os₀} {ou} {os} {w} room d =
           ∙ ap (λ (l : List ℕ). laid l ou₀) (sym (words_append d.done (x ∷ [])));
       shifts =
           ap (λ (l : List ℤ). set l w x.shift) d.shifts
-          ∙ ap (λ (k : ℕ). set (laid (shiftsOf d.done) os₀) k x.shift) ks
-          ∙ set-laid (shiftsOf d.done) os₀ x.shift (omega (arith, room.shifts))
+          ∙ ap (λ (k : ℕ). set (laid (shifts_of d.done) os₀) k x.shift) ks
+          ∙ set-laid (shifts_of d.done) os₀ x.shift (omega (arith, room.shifts))
           ∙ ap (λ (l : List ℤ). laid l os₀) (sym (shifts-append d.done (x ∷ [])));
     }
 
@@ -113,32 +107,25 @@ module _ {C rest₀ rest : List Row} {y : Row} {ou₀ : List ℕ} {os₀ : List 
   put_step x ou' os' ex eu es = rw (eu, es, ex) (written-put room (rw e at d))
 
 -- merging: c is the row that grows, and r row i as it was read
-pub merge-start : (u : List ℕ) (s : List ℤ) (r : Row) → r ≡ rowAt u s 0 → 0 < length s → mergeInto r (run (rowAt u s) 1 (length s - 1)) ≡ merge (rows u s)
-merge-start u s r e h = let g : length s - 0 ≡ length s = omega arith in ap merge (sym (read (rowAt u s) 0 (length s) r e h) ∙ ap (run (rowAt u s) 0) g)
+pub merge-start : (u : List ℕ) (s : List ℤ) (r : Row) → r ≡ row_at u s 0 → 0 < length s → merge_into r (run (row_at u s) 1 (length s - 1)) ≡ merge (rows u s)
+merge-start u s r e h = let g : length s - 0 ≡ length s = omega arith in ap merge (sym (read (row_at u s) 0 (length s) r e h) ∙ ap (run (row_at u s) 0) g)
 
 module _ (f : ℕ → Row) (i n : ℕ) (c : Row) where
   module _ (r : Row) (e : r ≡ f i) (h : i < n) where
-    pub merge-glues : runsOn c r ≡ true → mergeInto c (run f i (n - i)) ≡ mergeInto (glue c r) (run f (i + 1) (n - (i + 1)))
+    pub merge-glues : runs_on c r ≡ true → merge_into c (run f i (n - i)) ≡ merge_into (glue c r) (run f (i + 1) (n - (i + 1)))
     merge-glues b = rw (read f i n r e h, b)
 
-    pub merge-parts : runsOn c r ≡ false → mergeInto c (run f i (n - i)) ≡ c ∷ mergeInto r (run f (i + 1) (n - (i + 1)))
+    pub merge-parts : runs_on c r ≡ false → merge_into c (run f i (n - i)) ≡ c ∷ merge_into r (run f (i + 1) (n - (i + 1)))
     merge-parts b = rw (read f i n r e h, b)
 
-  pub merge-end : n ≤ i → mergeInto c (run f i (n - i)) ≡ c ∷ []
+  pub merge-end : n ≤ i → merge_into c (run f i (n - i)) ≡ c ∷ []
   merge-end h = rw (run-nil f i n h)
 
 -- row c with row r after it still fits
-pub glue-fits : (c r : Row) → runsOn c r ≡ true → r.first + r.count ≤ maxU64 → (c.count + r.count ≤ maxU64) × (c.first + (c.count + r.count) ≤ maxU64)
-glue-fits c r b h = let o = runs_on c r b in omega (arith, o.first)
-
--- all of a run
-pub run-start : (f : ℕ → Row) (n : ℕ) → run f 0 (n - 0) ≡ run f 0 n
-run-start f n = let e : n - 0 ≡ n = omega arith in ap (run f 0) e
+pub glue-fits : (c r : Row) → runs_on c r ≡ true → r.first + r.count ≤ max_u64 → (c.count + r.count ≤ max_u64) × (c.first + (c.count + r.count) ≤ max_u64)
+glue-fits c r b h = let o = runs_on-true c r b in omega (arith, o.first)
 
 -- what a call that writes rows promises, from its two ends
 module _ {x : Refusal} {m : List Row} {ou : List ℕ} {os : List ℤ} where
-  pub placed-rows : {k : ℕ} {ou' : List ℕ} {os' : List ℤ} → x ≡ Never → k ≡ length m → ou' ≡ laid (words_of m) ou → os' ≡ laid (shiftsOf m) os → Placed x m ou os (Rows k) ou' os'
+  pub placed-rows : {k : ℕ} {ou' : List ℕ} {os' : List ℤ} → x ≡ Never → k ≡ length m → ou' ≡ laid (words_of m) ou → os' ≡ laid (shifts_of m) os → Placed x m ou os (Rows k) ou' os'
   placed-rows e n p q = record { answer = rw e (ap Rows n); words = rw e p; shifts = rw e q }
-
-  pub placed-refused : {n i : ℕ} → x ≡ At n i → Placed x m ou os (Refused n i) ou os
-  placed-refused e = record { answer = rw e; words = rw e; shifts = rw e }

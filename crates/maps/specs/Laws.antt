@@ -1,22 +1,22 @@
 -- WHAT THE CALLS GIVE TOGETHER: demand 3, of any four calls. `Cut`, `Join`, `Merge` and `Trace` say which answers the calls allow, so that each law speaks of
 -- any such answers. `lawful`, in proofs/Lawful.antt, proves every line of the promises of Answers.antt, and the audit claims it of the promises in the source.
 use Rattle.std.specs.Prelude.{◌≡◌, ℕ, ◌+◌, ◌-◌, ◌*◌, ◌<◌, ◌≤◌, ◌↔◌, List, length, take, drop, ℤ}
-use Rattle.choice.specs.Choice.{maxU64}
+use Rattle.choice.specs.Choice.{max_u64}
 use Rattle.rows.specs.declared.Row.{Row}
-use Rattle.rows.specs.Rows.{rowEnd, total, WellFormed, cut, join, merge}
+use Rattle.rows.specs.Rows.{row_end, total, WellFormed, cut, join, merge}
 use Rattle.maps.specs.declared.Mapped.{Mapped}
 use Rattle.maps.specs.declared.Mapped.TheVariants.{Rows, Refused}
 use Rattle.maps.specs.declared.Traced.{Traced}
 use Rattle.maps.specs.declared.Traced.TheVariants as traced
-use Rattle.rows.specs.Lent.{rowAt, rows}
-use Rattle.maps.specs.Answers.{mostRows, rowsOver, pastMap}
+use Rattle.rows.specs.Lent.{row_at, rows}
+use Rattle.maps.specs.Answers.{most_rows, rows_over, past_map}
 
 -- a lent map that no call refuses for itself (51, or 52 for its rows)
 pub record LentMap (u : List ℕ) (s : List ℤ) : Type 0 where
   pub some : 0 < length s
   pub sizes : length u ≡ 5 * length s
   pub well : WellFormed (rows u s)
-  pub few : length s ≤ mostRows
+  pub few : length s ≤ most_rows
 
 -- the first k rows of what is lent, lent again, are the map m
 pub record Wrote (k : ℕ) (ou : List ℕ) (os : List ℤ) (m : List Row) : Type 0 where
@@ -32,10 +32,10 @@ AsLent (Refused n i) ou os ou' os' = (ou' ≡ ou) × (os' ≡ os)
 pub record TracedTo (u : List ℕ) (s : List ℤ) (f : ℕ) (r : Traced) : Type 0 where
   pub index : ℕ
   pub within : index < length s
-  pub low : (rowAt u s index).out ≤ f
-  pub high : f < rowEnd (rowAt u s index)
-  pub only : (j : ℕ) → j < length s → (rowAt u s j).out ≤ f → f < rowEnd (rowAt u s j) → j ≡ index
-  pub gives : r ≡ traced.From (rowAt u s index).source ((rowAt u s index).first + (f - (rowAt u s index).out)) (rowAt u s index).flag (rowAt u s index).shift
+  pub low : (row_at u s index).out ≤ f
+  pub high : f < row_end (row_at u s index)
+  pub only : (j : ℕ) → j < length s → (row_at u s j).out ≤ f → f < row_end (row_at u s j) → j ≡ index
+  pub gives : r ≡ traced.From (row_at u s index).source ((row_at u s index).first + (f - (row_at u s index).out)) (row_at u s index).flag (row_at u s index).shift
 
 -- what a call that writes rows allows after its own arguments: of the slices as lent, its answer, and the slices afterwards
 abbrev pub Writes : Type 1
@@ -56,7 +56,7 @@ pub record Laws
       → LentMap u s × (a < b) × (b ≤ total (rows u s)) × Wrote k ou' os' (cut a b (rows u s)) × (total (cut a b (rows u s)) ≡ b - a)
   pub join-gives : (u v : List ℕ) (s t : List ℤ) (k : ℕ) (ou ou' : List ℕ) (os os' : List ℤ)
       → Join u s v t ou os (Rows k) ou' os'
-      → LentMap u s × LentMap v t × (total (rows u s) + total (rows v t) ≤ maxU64) × Wrote k ou' os' (join (rows u s) (rows v t)) × (k ≡ length s + length t)
+      → LentMap u s × LentMap v t × (total (rows u s) + total (rows v t) ≤ max_u64) × Wrote k ou' os' (join (rows u s) (rows v t)) × (k ≡ length s + length t)
       × (total (join (rows u s) (rows v t)) ≡ total (rows u s) + total (rows v t))
   pub merge-gives : (u : List ℕ) (s : List ℤ) (k : ℕ) (ou ou' : List ℕ) (os os' : List ℤ)
       → Merge u s ou os (Rows k) ou' os'
@@ -70,15 +70,15 @@ pub record Laws
       → 5 * length (cut a b (rows u s)) ≤ length ou → length (cut a b (rows u s)) ≤ length os
       → Cut u s a b ou os r ou' os' → r ≡ Rows (length (cut a b (rows u s)))
   pub join-accepts : (u v : List ℕ) (s t : List ℤ) (ou ou' : List ℕ) (os os' : List ℤ) (r : Mapped)
-      → LentMap u s → LentMap v t → total (rows u s) + total (rows v t) ≤ maxU64
-      → length s + length t ≤ mostRows → 5 * (length s + length t) ≤ length ou → length s + length t ≤ length os
+      → LentMap u s → LentMap v t → total (rows u s) + total (rows v t) ≤ max_u64
+      → length s + length t ≤ most_rows → 5 * (length s + length t) ≤ length ou → length s + length t ≤ length os
       → Join u s v t ou os r ou' os' → r ≡ Rows (length s + length t)
   pub merge-accepts : (u : List ℕ) (s : List ℤ) (ou ou' : List ℕ) (os os' : List ℤ) (r : Mapped)
       → LentMap u s → 5 * length (merge (rows u s)) ≤ length ou → length (merge (rows u s)) ≤ length os
       → Merge u s ou os r ou' os' → r ≡ Rows (length (merge (rows u s)))
   -- 3. Each frame of a lent map lies in exactly one row, which `origin` answers; a frame past the map is 54.
   pub origin-found : (u : List ℕ) (s : List ℤ) (f : ℕ) (r : Traced) → LentMap u s → f < total (rows u s) → Trace u s f r → TracedTo u s f r
-  pub origin-past : (u : List ℕ) (s : List ℤ) (f : ℕ) (r : Traced) → LentMap u s → total (rows u s) ≤ f → Trace u s f r → r ≡ traced.Refused pastMap 0
+  pub origin-past : (u : List ℕ) (s : List ℤ) (f : ℕ) (r : Traced) → LentMap u s → total (rows u s) ≤ f → Trace u s f r → r ≡ traced.Refused past_map 0
   -- 4. Frame f of a cut has the origin of frame a + f.
   pub cut-origins : (u : List ℕ) (s : List ℤ) (a b k f : ℕ) (ou ou' : List ℕ) (os os' : List ℤ) (r q : Traced)
       → Cut u s a b ou os (Rows k) ou' os' → f < b - a
@@ -125,7 +125,7 @@ pub record Laws
       → Cut u s b c qu qs (Rows j) qu' qs'
       → Join (take (5 * i) pu') (take i ps') (take (5 * j) qu') (take j qs') ju js r ju' js'
       → 5 * (i + j) ≤ length ju → i + j ≤ length js
-      → (i + j ≤ mostRows → r ≡ Rows (i + j)) × (mostRows < i + j → r ≡ Refused rowsOver 0)
+      → (i + j ≤ most_rows → r ≡ Rows (i + j)) × (most_rows < i + j → r ≡ Refused rows_over 0)
   pub join-cuts-rows : (u : List ℕ) (s : List ℤ) (a b c i j w : ℕ) (pu pu' qu qu' wu wu' : List ℕ) (ps ps' qs qs' ws ws' : List ℤ)
       → Cut u s a b pu ps (Rows i) pu' ps'
       → Cut u s b c qu qs (Rows j) qu' qs'

@@ -4,11 +4,11 @@
 ghost use Rattle.std.specs.Prelude.{◌≡◌, ◌+◌, ◌-◌, ◌*◌, ◌%◌, ◌^◌, ◌<◌, ◌≤◌, min, max, length, slice_set};
 ghost use Rattle.std.proofs.lemmas.List.Edits.{sets};
 ghost use Rattle.choice.specs.Records.{run};
-ghost use Rattle.choice.specs.Choice.{maxU64};
+ghost use Rattle.choice.specs.Choice.{max_u64};
 ghost use Rattle.slices.specs.Slices.{laid};
-ghost use Rattle.rows.specs.Rows.{rowEnd, total, okRow, clip, cut, moved, join, runsOn, glue, merge};
-ghost use Rattle.rows.specs.Lent.{rowAt, rows, words, words_of, shiftsOf};
-ghost use Rattle.maps.specs.Answers.{sized, fits, firstBad, mapRefusal, joinRefusal, mergeRefusal, Cut, Join, Merge, Trace};
+ghost use Rattle.rows.specs.Rows.{row_end, total, ok_row, clip, cut, moved, join, runs_on, glue, merge};
+ghost use Rattle.rows.specs.Lent.{row_at, rows, words, words_of, shifts_of};
+ghost use Rattle.maps.specs.Answers.{sized, fits, first_bad, map_refusal, join_refusal, merge_refusal, Cut, Join, Merge, Trace};
 ghost use Rattle.maps.specs.Steps.{Sound, Room, Holder, counted, Span, Planned};
 
 use choice::{MAX_U64, Refusal};
@@ -66,7 +66,7 @@ enum Part {
 // Row i of a lent map.
 fn row_at(u: &[u64], s: &[i64], i: usize) -> Row
     requires { (5 * i + 5 ≤ length u.now) × (i < length s.now) }
-    ensures { result ≡ rowAt u.now s.now i }
+    ensures { result ≡ row_at u.now s.now i }
 {
     let j = 5 * i;
     Row {
@@ -106,7 +106,7 @@ fn put_row(u: &mut [u64], s: &mut [i64], w: usize, r: Row)
 // than what was added to, so that one test of the source's end finds both that and a count of 0.
 fn ok_row(p: u64, end: u64, r: Row) -> bool
     requires { end ≡ (p + r.count) % 2 ^ 64 }
-    ensures { result ≡ okRow p r }
+    ensures { result ≡ ok_row p r }
 {
     let source_end = std::num::wrapping_add_u64(r.first, r.count);
     if source_end <= r.first {
@@ -134,7 +134,7 @@ fn is_sized(u: &[u64], s: &[i64]) -> bool
 // The frames of a map, or 51 at its first row that isn't well formed.
 fn judge(u: &[u64], s: &[i64]) -> Frames
     requires { length u.now ≡ 5 * length s.now }
-    ensures { result ≡ counted (firstBad 0 0 (rows u.now s.now)) (total (rows u.now s.now)) }
+    ensures { result ≡ counted (first_bad 0 0 (rows u.now s.now)) (total (rows u.now s.now)) }
 {
     let mut p: u64 = 0;
     let mut i: usize = 0;
@@ -152,7 +152,7 @@ fn judge(u: &[u64], s: &[i64]) -> Frames
 
 // The frames of a lent map, or 51.
 pub fn frames_of(u: &[u64], s: &[i64]) -> Frames
-    ensures { result ≡ counted (mapRefusal u.now s.now) (total (rows u.now s.now)) }
+    ensures { result ≡ counted (map_refusal u.now s.now) (total (rows u.now s.now)) }
 {
     if !is_sized(u, s) {
         return Frames::Refused(BAD_ROWS, 0);
@@ -211,7 +211,7 @@ fn less(x: u64, y: u64) -> u64
 
 // A row's overlap with a..b, counted from a.
 fn clipped(r: Row, a: u64, b: u64) -> Row
-    requires { (max a r.out < min b (rowEnd r)) × (rowEnd r ≤ maxU64) × (r.first + r.count ≤ maxU64) }
+    requires { (max a r.out < min b (row_end r)) × (row_end r ≤ max_u64) × (r.first + r.count ≤ max_u64) }
     ensures { result ≡ clip a b r }
 {
     Row {
@@ -261,7 +261,7 @@ pub fn write_cut(
     os: &mut [i64],
 )
     requires { Sound u.now s.now × Span u.now s.now a b i k × Room k ou.old os.old }
-    ensures { (ou.new ≡ laid (words_of (cut a b (rows u.now s.now))) ou.old) × (os.new ≡ laid (shiftsOf (cut a b (rows u.now s.now))) os.old) }
+    ensures { (ou.new ≡ laid (words_of (cut a b (rows u.now s.now))) ou.old) × (os.new ≡ laid (shifts_of (cut a b (rows u.now s.now))) os.old) }
 {
     let mut w: usize = 0;
     while w < k {
@@ -287,8 +287,8 @@ pub fn cut(u: &[u64], s: &[i64], a: u64, b: u64, ou: &mut [u64], os: &mut [i64])
 
 // Whether row r continues row c.
 fn runs_on(c: Row, r: Row) -> bool
-    requires { c.first + c.count ≤ maxU64 }
-    ensures { result ≡ runsOn c r }
+    requires { c.first + c.count ≤ max_u64 }
+    ensures { result ≡ runs_on c r }
 {
     let same = signed::same(c.shift, r.shift);
     (c.source == r.source) & (c.first + c.count == r.first) & (c.flag == r.flag) & same
@@ -296,7 +296,7 @@ fn runs_on(c: Row, r: Row) -> bool
 
 // Row c with the frames of row r after its own.
 fn glued(c: Row, r: Row) -> Row
-    requires { c.count + r.count ≤ maxU64 }
+    requires { c.count + r.count ≤ max_u64 }
     ensures { result ≡ glue c r }
 {
     Row {
@@ -332,7 +332,7 @@ fn count_merge(u: &[u64], s: &[i64]) -> usize
 
 // The refusal of a merge, where nu words and ns shifts are lent. Its rows are counted only where all of the map's rows have no room.
 fn refuse_merge(u: &[u64], s: &[i64], nu: usize, ns: usize) -> Refusal
-    ensures { result ≡ mergeRefusal u.now s.now nu ns }
+    ensures { result ≡ merge_refusal u.now s.now nu ns }
 {
     match frames_of(u, s) {
         Frames::Refused(n, i) => Refusal::At(n, i),
@@ -354,7 +354,7 @@ fn refuse_merge(u: &[u64], s: &[i64], nu: usize, ns: usize) -> Refusal
 // The merged rows, written over the first rows of what is lent: how many.
 fn write_merge(u: &[u64], s: &[i64], ou: &mut [u64], os: &mut [i64]) -> usize
     requires { Sound u.now s.now × Room (length (merge (rows u.now s.now))) ou.old os.old }
-    ensures { (result ≡ length (merge (rows u.now s.now))) × (ou.new ≡ laid (words_of (merge (rows u.now s.now))) ou.old) × (os.new ≡ laid (shiftsOf (merge (rows u.now s.now))) os.old) }
+    ensures { (result ≡ length (merge (rows u.now s.now))) × (ou.new ≡ laid (words_of (merge (rows u.now s.now))) ou.old) × (os.new ≡ laid (shifts_of (merge (rows u.now s.now))) os.old) }
 {
     let mut c = row_at(u, s, 0);
     let mut w: usize = 0;
@@ -389,7 +389,7 @@ pub fn merge(u: &[u64], s: &[i64], ou: &mut [u64], os: &mut [i64]) -> Mapped
 
 // Row r, d output frames later.
 fn later(r: Row, d: u64) -> Row
-    requires { d + r.out ≤ maxU64 }
+    requires { d + r.out ≤ max_u64 }
     ensures { result ≡ moved d r }
 {
     Row {
@@ -404,8 +404,8 @@ fn later(r: Row, d: u64) -> Row
 
 // The words of a map's rows, d output frames later, written over the first of what is lent.
 fn write_moved(u: &[u64], s: &[i64], d: u64, ou: &mut [u64])
-    requires { Sound u.now s.now × (d + total (rows u.now s.now) ≤ maxU64) × (5 * length s.now ≤ length ou.old) }
-    ensures { ou.new ≡ laid (words_of (run (λ j. moved d (rowAt u.now s.now j)) 0 (length s.now))) ou.old }
+    requires { Sound u.now s.now × (d + total (rows u.now s.now) ≤ max_u64) × (5 * length s.now ≤ length ou.old) }
+    ensures { ou.new ≡ laid (words_of (run (λ j. moved d (row_at u.now s.now j)) 0 (length s.now))) ou.old }
 {
     let mut i: usize = 0;
     while i < s.len() {
@@ -417,7 +417,7 @@ fn write_moved(u: &[u64], s: &[i64], d: u64, ou: &mut [u64])
 
 // The first map's frames, where a join is accepted; or its refusal.
 fn plan_join(u: &[u64], s: &[i64], v: &[u64], t: &[i64], nu: usize, ns: usize) -> Frames
-    ensures { result ≡ counted (joinRefusal u.now s.now v.now t.now nu ns) (total (rows u.now s.now)) }
+    ensures { result ≡ counted (join_refusal u.now s.now v.now t.now nu ns) (total (rows u.now s.now)) }
 {
     match frames_of(u, s) {
         Frames::Refused(n, i) => Frames::Refused(n, i),
@@ -444,10 +444,10 @@ fn plan_join(u: &[u64], s: &[i64], v: &[u64], t: &[i64], nu: usize, ns: usize) -
 
 // Two maps, the first of d frames, written over the first rows of what is lent. What isn't moved is copied as it lies, a slice at a time.
 fn write_join(u: &[u64], s: &[i64], d: u64, v: &[u64], t: &[i64], ou: &mut [u64], os: &mut [i64])
-    requires { Sound u.now s.now × Sound v.now t.now × (d ≡ total (rows u.now s.now)) × (d + total (rows v.now t.now) ≤ maxU64) × Room (length s.now + length t.now) ou.old os.old }
-    ensures { (ou.new ≡ laid (words_of (join (rows u.now s.now) (rows v.now t.now))) ou.old) × (os.new ≡ laid (shiftsOf (join (rows u.now s.now) (rows v.now t.now))) os.old) }
+    requires { Sound u.now s.now × Sound v.now t.now × (d ≡ total (rows u.now s.now)) × (d + total (rows v.now t.now) ≤ max_u64) × Room (length s.now + length t.now) ou.old os.old }
+    ensures { (ou.new ≡ laid (words_of (join (rows u.now s.now) (rows v.now t.now))) ou.old) × (os.new ≡ laid (shifts_of (join (rows u.now s.now) (rows v.now t.now))) os.old) }
 {
-    slices::copy_words(u, ou);
+    slices::copy(u, ou);
     slices::copy(s, os);
     let n = s.len();
     let m = 5 * n;

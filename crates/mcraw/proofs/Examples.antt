@@ -4,11 +4,11 @@ use mathlib.Core.Path.{◌≡◌, refl}
 use mathlib.Core.List.{List, [], ◌∷◌, map}
 use lib.IntN.{ℤ, pos, negsuc}
 use Rattle.choice.specs.Choice.{when}
-use Rattle.choice.specs.Records.{firstRefused, orRefused}
+use Rattle.choice.specs.Records.{first_refused, or_refused}
 use Rattle.order.specs.Order.{insert, sorted}
 use Rattle.mcraw.specs.declared.RecordingTimes.{RecordingTimes}
 use Rattle.mcraw.specs.declared.RecordingTimes.TheVariants.{Timed, Refused}
-use Rattle.mcraw.specs.Mcraw.{gaps, startsOf, span, nominal, end, fallOf, refusalOf, timesUnless, mcrawTimes, startsWritten}
+use Rattle.mcraw.specs.Mcraw.{gaps, starts_of, span, nominal, end, fall_of, refusal_of, times_unless, mcraw_times, starts_written}
 
 -- timestamps, with room for so many in both slices; the answer, and the starts
 pub record Case : Type 0 where
@@ -38,10 +38,10 @@ cases =
     ∷ record { timestamps = negsuc 9223372036854775807 ∷ negsuc 0 ∷ []; room = 2; answer = Refused 33 0; starts = [] }
     ∷ []
 
-pub answers-hold : map (λ (c : Case). mcrawTimes c.timestamps c.room c.room) cases ≡ map (λ (c : Case). c.answer) cases
-unfolding mcrawTimes refusalOf timesUnless when orRefused firstRefused fallOf gaps span nominal end sorted insert
+pub answers-hold : map (λ (c : Case). mcraw_times c.timestamps c.room c.room) cases ≡ map (λ (c : Case). c.answer) cases
+unfolding mcraw_times refusal_of times_unless when or_refused first_refused fall_of gaps span nominal end sorted insert
 answers-hold = refl
 
-pub starts-hold : map (λ (c : Case). startsWritten c.answer c.timestamps) cases ≡ map (λ (c : Case). c.starts) cases
-unfolding startsWritten startsOf
+pub starts-hold : map (λ (c : Case). starts_written c.answer c.timestamps) cases ≡ map (λ (c : Case). c.starts) cases
+unfolding starts_written starts_of
 starts-hold = refl

@@ -15,11 +15,11 @@ use lib.Signed.{le_z, lt_z}
 use Rattle.choice.specs.declared.Refusal.{Refusal}
 use Rattle.choice.specs.declared.Refusal.TheVariants.{Never, At}
 use Rattle.choice.specs.Choice.{when}
-use Rattle.choice.specs.Records.{firstRefused}
+use Rattle.choice.specs.Records.{first_refused}
 use Rattle.choice.proofs.Tests.{decide}
 use Rattle.signed.proofs.Order.{not-lt-le}
-use Rattle.order.specs.Order.{Asc, countBy}
-use Rattle.order.specs.Steps.{countLt}
+use Rattle.order.specs.Order.{Asc, count_by}
+use Rattle.order.specs.Steps.{count_lt}
 use Rattle.order.proofs.Sorted.{least-lower}
 use Rattle.mcraw.specs.Mcraw.{falling, falls, gaps}
 
@@ -68,43 +68,43 @@ pub falls_at : (l : List ℤ) (i : ℕ) → 0 < i → i < length l → lt_z (get
 falls_at l i from h = ap (λ (g : ℤ). lt_z g (pos 0)) (gap_at l i from h) ∙ less-below (get_or l i (pos 0)) (get_or l (i - 1) (pos 0))
 
 -- where none is, nothing is refused
-pub none-falls : (l : List ℤ) (i : ℕ) → 0 ≡ countLt (pos 0) l → Never ≡ firstRefused falls i l
-unfolding countBy firstRefused when
+pub none-falls : (l : List ℤ) (i : ℕ) → 0 ≡ count_lt (pos 0) l → Never ≡ first_refused falls i l
+unfolding count_by first_refused when
 none-falls [] i e = refl
 none-falls (g ∷ l) i e =
     decide (lt_z g (pos 0))
-    (λ t. let some : 0 ≡ suc (countLt (pos 0) l) = rw t at e in absurd (omega arith))
+    (λ t. let some : 0 ≡ suc (count_lt (pos 0) l) = rw t at e in absurd (omega arith))
     (λ t. rw t (none-falls l (suc i) (rw t at e)))
 
--- ---- a loop over the timestamps: `firstRefused falls i (drop (i - 1) (gaps ts)) ≡ r`, with r the whole answer
+-- ---- a loop over the timestamps: `first_refused falls i (drop (i - 1) (gaps ts)) ≡ r`, with r the whole answer
 module _ (ts : List ℤ) (i : ℕ) (r : Refusal) where
-  pub fall-end : length ts ≤ i → firstRefused falls i (drop (i - 1) (gaps ts)) ≡ r → Never ≡ r
-  unfolding firstRefused
-  fall-end h e = sym (ap (firstRefused falls i) (drop_of_length-le (gaps ts) {i = i - 1} (omega (arith, length-gaps ts)))) ∙ e
+  pub fall-end : length ts ≤ i → first_refused falls i (drop (i - 1) (gaps ts)) ≡ r → Never ≡ r
+  unfolding first_refused
+  fall-end h e = sym (ap (first_refused falls i) (drop_of_length-le (gaps ts) {i = i - 1} (omega (arith, length-gaps ts)))) ∙ e
 
   module _ (from : 0 < i) (inside : i < length ts) where
-    rest : firstRefused falls i (drop (i - 1) (gaps ts))
-        ≡ firstRefused falls i ((get_or ts i (pos 0) -ℤ get_or ts (i - 1) (pos 0)) ∷ drop (i + 1 - 1) (gaps ts))
+    rest : first_refused falls i (drop (i - 1) (gaps ts))
+        ≡ first_refused falls i ((get_or ts i (pos 0) -ℤ get_or ts (i - 1) (pos 0)) ∷ drop (i + 1 - 1) (gaps ts))
     rest =
         let e : suc (i - 1) ≡ i + 1 - 1 = omega arith in
-        ap (firstRefused falls i) (drop-cons (gaps ts) (i - 1) (pos 0) (omega (arith, length-gaps ts)))
-        ∙ ap (λ g. firstRefused falls i (g ∷ drop (suc (i - 1)) (gaps ts))) (gap_at ts i from inside)
-        ∙ ap (λ n. firstRefused falls i ((get_or ts i (pos 0) -ℤ get_or ts (i - 1) (pos 0)) ∷ drop n (gaps ts))) e
+        ap (first_refused falls i) (drop-cons (gaps ts) (i - 1) (pos 0) (omega (arith, length-gaps ts)))
+        ∙ ap (λ g. first_refused falls i (g ∷ drop (suc (i - 1)) (gaps ts))) (gap_at ts i from inside)
+        ∙ ap (λ n. first_refused falls i ((get_or ts i (pos 0) -ℤ get_or ts (i - 1) (pos 0)) ∷ drop n (gaps ts))) e
 
-    pub fall-turn : lt_z (get_or ts i (pos 0)) (get_or ts (i - 1) (pos 0)) ≡ false → firstRefused falls i (drop (i - 1) (gaps ts)) ≡ r
-        → firstRefused falls (i + 1) (drop (i + 1 - 1) (gaps ts)) ≡ r
-    unfolding firstRefused when
+    pub fall-turn : lt_z (get_or ts i (pos 0)) (get_or ts (i - 1) (pos 0)) ≡ false → first_refused falls i (drop (i - 1) (gaps ts)) ≡ r
+        → first_refused falls (i + 1) (drop (i + 1 - 1) (gaps ts)) ≡ r
+    unfolding first_refused when
     fall-turn t e =
-        ap (λ n. firstRefused falls n (drop (i + 1 - 1) (gaps ts))) (add-one i)
+        ap (λ n. first_refused falls n (drop (i + 1 - 1) (gaps ts))) (add-one i)
         ∙ sym (rest ∙ rw (less-below (get_or ts i (pos 0)) (get_or ts (i - 1) (pos 0)), t)) ∙ e
 
-    pub fall-hit : lt_z (get_or ts i (pos 0)) (get_or ts (i - 1) (pos 0)) ≡ true → firstRefused falls i (drop (i - 1) (gaps ts)) ≡ r → At falling i ≡ r
-    unfolding firstRefused when
+    pub fall-hit : lt_z (get_or ts i (pos 0)) (get_or ts (i - 1) (pos 0)) ≡ true → first_refused falls i (drop (i - 1) (gaps ts)) ≡ r → At falling i ≡ r
+    unfolding first_refused when
     fall-hit t e = sym (rest ∙ rw (less-below (get_or ts i (pos 0)) (get_or ts (i - 1) (pos 0)), t)) ∙ e
 
 -- timestamps of which none falls ascend
-pub no-fall : (ts : List ℤ) (i : ℕ) → firstRefused falls i (gaps ts) ≡ Never → Asc ts
-unfolding gaps firstRefused when
+pub no-fall : (ts : List ℤ) (i : ℕ) → first_refused falls i (gaps ts) ≡ Never → Asc ts
+unfolding gaps first_refused when
 no-fall [] i e = tt
 no-fall (x ∷ []) i e = (tt, tt)
 no-fall (x ∷ (y ∷ l)) i e =

@@ -15,7 +15,7 @@ use Rattle.slices.proofs.Every.{all-at, all_of}
 use Rattle.slices.proofs.Lists.{map_at}
 use Rattle.order.specs.Order.{Asc}
 use Rattle.order.proofs.Sorted.{asc-le}
-use Rattle.mcraw.specs.Mcraw.{gaps, first, last, startsOf, span}
+use Rattle.mcraw.specs.Mcraw.{gaps, first, last, starts_of, span}
 use Rattle.mcraw.proofs.Gaps.{length-gaps, gap_at, less-below}
 
 -- a number that isn't below 0
@@ -44,16 +44,16 @@ inner a b c d x y z h =
     let f : n + (m + k) < 2 ^ 63 = subst I64 e h in
     subst I64 (sym (later b c y)) (omega arith)
 
-pub length-starts : (ts : List ℤ) → length (startsOf ts) ≡ length ts
-unfolding startsOf
+pub length-starts : (ts : List ℤ) → length (starts_of ts) ≡ length ts
+unfolding starts_of
 length-starts ts = length-map ts (λ t. t -ℤ first ts)
 
-pub start-at : (ts : List ℤ) (i : ℕ) → i < length ts → get_or (startsOf ts) i (pos 0) ≡ get_or ts i (pos 0) -ℤ first ts
-unfolding startsOf
+pub start-at : (ts : List ℤ) (i : ℕ) → i < length ts → get_or (starts_of ts) i (pos 0) ≡ get_or ts i (pos 0) -ℤ first ts
+unfolding starts_of
 start-at ts i h = map_at (λ t. t -ℤ first ts) ts i (pos 0) (pos 0) h
 
-pub start_fits : (ts : List ℤ) (i : ℕ) → i < length ts → All I64 (startsOf ts) → I64 (get_or ts i (pos 0) -ℤ first ts)
-start_fits ts i h all = rw (start-at ts i h) at (all-at I64 (startsOf ts) i (pos 0) all (omega (arith, length-starts ts)))
+pub start_fits : (ts : List ℤ) (i : ℕ) → i < length ts → All I64 (starts_of ts) → I64 (get_or ts i (pos 0) -ℤ first ts)
+start_fits ts i h all = rw (start-at ts i h) at (all-at I64 (starts_of ts) i (pos 0) all (omega (arith, length-starts ts)))
 
 module _ (ts : List ℤ) (asc : Asc ts) (h : I64 (span ts)) where
   -- from a timestamp to a later one
@@ -70,8 +70,8 @@ module _ (ts : List ℤ) (asc : Asc ts) (h : I64 (span ts)) where
       let g : get_or (gaps ts) k (pos 0) ≡ get_or ts (k + 1) (pos 0) -ℤ get_or ts k (pos 0) = rw e at (gap_at ts (k + 1) (omega arith) (omega arith)) in
       rw g (between k (k + 1) (omega arith) (omega arith)))
 
-  pub starts_fit : All I64 (startsOf ts)
-  starts_fit = all_of I64 (startsOf ts) (pos 0) (λ k b.
+  pub starts_fit : All I64 (starts_of ts)
+  starts_fit = all_of I64 (starts_of ts) (pos 0) (λ k b.
       let n = length-starts ts in
       let inside : k < length ts = omega arith in
       rw (start-at ts k inside) (between 0 k (omega arith) inside))

@@ -4,17 +4,17 @@ use Rattle.std.specs.Int.Signed.{lt_z}
 use Rattle.choice.specs.declared.Refusal.{Refusal}
 use Rattle.choice.specs.declared.Refusal.TheVariants.{Never, At}
 use Rattle.choice.specs.Choice.{when}
-use Rattle.choice.specs.Records.{firstRefused, orRefused}
-use Rattle.choice.specs.Numbers.{tooLong, noTimes, noRoom, outside}
-use Rattle.signed.specs.Signed.{eqZ, isOutside}
+use Rattle.choice.specs.Records.{first_refused, or_refused}
+use Rattle.choice.specs.Numbers.{too_long, no_times, no_room, outside}
+use Rattle.signed.specs.Signed.{eq_z, is_outside}
 use Rattle.slices.specs.Slices.{laid, zeros}
 use Rattle.order.specs.Order.{sorted}
 use Rattle.mcraw.specs.declared.RecordingTimes.{RecordingTimes}
 use Rattle.mcraw.specs.declared.RecordingTimes.TheVariants.{Timed, Refused}
 
 -- the most timestamps, and the timescale of a recording
-abbrev pub mostTimestamps : ℕ
-mostTimestamps = 16777216
+abbrev pub most_timestamps : ℕ
+most_timestamps = 16777216
 
 abbrev pub nanoseconds : ℕ
 nanoseconds = 1000000000
@@ -36,8 +36,8 @@ abbrev pub last : List ℤ → ℤ
 last ts = get_or ts (length ts - 1) (pos 0)
 
 -- starts count from the first timestamp
-unfoldable pub startsOf : List ℤ → List ℤ
-startsOf ts = map (λ t. t -ℤ first ts) ts
+unfoldable pub starts_of : List ℤ → List ℤ
+starts_of ts = map (λ t. t -ℤ first ts) ts
 
 unfoldable pub span : List ℤ → ℤ
 span ts = last ts -ℤ first ts
@@ -54,36 +54,36 @@ abbrev pub falls : ℤ → ℕ
 falls gap = when (lt_z gap (pos 0)) falling 0
 
 -- the first that is, at the index of its later timestamp
-unfoldable pub fallOf : List ℤ → Refusal
-fallOf ts = firstRefused falls 1 (gaps ts)
+unfoldable pub fall_of : List ℤ → Refusal
+fall_of ts = first_refused falls 1 (gaps ts)
 
 -- the refusals in testing order, with so much room in starts and in the working slice
-unfoldable pub refusalOf : List ℤ → ℕ → ℕ → Refusal
-refusalOf ts starts work =
-    when (ltb mostTimestamps (length ts)) (At tooLong 0)
-    (when (ltb (length ts) 2) (At noTimes 0)
-    (orRefused (fallOf ts)
-    (when (isOutside (span ts)) (At outside 0)
-    (when (ltb starts (length ts) || ltb work (length ts)) (At noRoom 0)
-    (when (eqZ (nominal ts) (pos 0)) (At noTimes 0)
-    (when (isOutside (end ts)) (At outside 0)
+unfoldable pub refusal_of : List ℤ → ℕ → ℕ → Refusal
+refusal_of ts starts work =
+    when (ltb most_timestamps (length ts)) (At too_long 0)
+    (when (ltb (length ts) 2) (At no_times 0)
+    (or_refused (fall_of ts)
+    (when (is_outside (span ts)) (At outside 0)
+    (when (ltb starts (length ts) || ltb work (length ts)) (At no_room 0)
+    (when (eq_z (nominal ts) (pos 0)) (At no_times 0)
+    (when (is_outside (end ts)) (At outside 0)
     Never))))))
 
 -- frames, scale, nominal and end of timestamps that nothing refuses
-unfoldable pub timesUnless : Refusal → List ℤ → RecordingTimes
-timesUnless Never ts = Timed (length ts) nanoseconds (nominal ts) (end ts)
-timesUnless (At n i) ts = Refused n i
+unfoldable pub times_unless : Refusal → List ℤ → RecordingTimes
+times_unless Never ts = Timed (length ts) nanoseconds (nominal ts) (end ts)
+times_unless (At n i) ts = Refused n i
 
-unfoldable pub mcrawTimes : List ℤ → ℕ → ℕ → RecordingTimes
-mcrawTimes ts starts work = timesUnless (refusalOf ts starts work) ts
+unfoldable pub mcraw_times : List ℤ → ℕ → ℕ → RecordingTimes
+mcraw_times ts starts work = times_unless (refusal_of ts starts work) ts
 
 -- what is written with an answer: the starts, or nothing
-unfoldable pub startsWritten : RecordingTimes → List ℤ → List ℤ
-startsWritten (Timed n scale m e) ts = startsOf ts
-startsWritten (Refused n i) ts = []
+unfoldable pub starts_written : RecordingTimes → List ℤ → List ℤ
+starts_written (Timed n scale m e) ts = starts_of ts
+starts_written (Refused n i) ts = []
 
 -- the answer, and both lent slices afterwards
 pub record McrawAnswers (ts starts work : List ℤ) (r : RecordingTimes) (starts' work' : List ℤ) : Type 0 where
-  pub answer : r ≡ mcrawTimes ts (length starts) (length work)
-  pub laid_out : starts' ≡ laid (startsWritten r ts) starts
+  pub answer : r ≡ mcraw_times ts (length starts) (length work)
+  pub laid_out : starts' ≡ laid (starts_written r ts) starts
   pub cleared : work' ≡ zeros work

@@ -4,8 +4,8 @@
 ghost use Rattle.std.specs.Prelude.{◌≡◌, ◌-◌, ◌≤◌, length, pos};
 ghost use Rattle.signed.specs.Steps.{I64};
 ghost use Rattle.slices.specs.Slices.{laid, All};
-ghost use Rattle.order.specs.Steps.{countLt};
-ghost use Rattle.mcraw.specs.Mcraw.{gaps, startsOf, nominal, fallOf, mcrawTimes, startsWritten, McrawAnswers};
+ghost use Rattle.order.specs.Steps.{count_lt};
+ghost use Rattle.mcraw.specs.Mcraw.{gaps, starts_of, nominal, fall_of, mcraw_times, starts_written, McrawAnswers};
 
 use choice::{NO_ROOM, NO_TIMES, OUTSIDE, Refusal, TOO_LONG};
 use signed::Held;
@@ -32,7 +32,7 @@ pub enum RecordingTimes {
 
 // How many timestamps lie below the one before them. It ends at none of them, so that several can be compared at a time.
 fn count_falls(ts: &[i64]) -> usize
-    ensures { result ≡ countLt (pos 0) (gaps ts.now) }
+    ensures { result ≡ count_lt (pos 0) (gaps ts.now) }
 {
     let mut n: usize = 0;
     let mut i: usize = 1;
@@ -49,7 +49,7 @@ fn count_falls(ts: &[i64]) -> usize
 
 // The first timestamp that lies below the one before it.
 fn first_fall(ts: &[i64]) -> Refusal
-    ensures { result ≡ fallOf ts.now }
+    ensures { result ≡ fall_of ts.now }
 {
     if count_falls(ts) == 0 {
         return Refusal::Never;
@@ -90,8 +90,8 @@ fn middle_interval(ts: &[i64], out: &mut [i64]) -> i64
 
 // Writes each timestamp less the first over the start of starts.
 fn write_starts(ts: &[i64], starts: &mut [i64])
-    requires { (length ts.now ≤ length starts.old) × All I64 (startsOf ts.now) }
-    ensures { starts.new ≡ laid (startsOf ts.now) starts.old }
+    requires { (length ts.now ≤ length starts.old) × All I64 (starts_of ts.now) }
+    ensures { starts.new ≡ laid (starts_of ts.now) starts.old }
 {
     let mut i: usize = 0;
     while i < ts.len() {
@@ -102,7 +102,7 @@ fn write_starts(ts: &[i64], starts: &mut [i64])
 
 // Answers with so much room in starts. What work holds afterwards isn't said.
 fn times_of(ts: &[i64], room: usize, work: &mut [i64]) -> RecordingTimes
-    ensures { result ≡ mcrawTimes ts.now room (length work.old) }
+    ensures { result ≡ mcraw_times ts.now room (length work.old) }
 {
     let n = ts.len();
     if MOST_TIMESTAMPS < n {
@@ -137,7 +137,7 @@ fn times_of(ts: &[i64], room: usize, work: &mut [i64]) -> RecordingTimes
 
 // The same, with the starts written where nothing is refused.
 fn write_times(ts: &[i64], starts: &mut [i64], work: &mut [i64]) -> RecordingTimes
-    ensures { (result ≡ mcrawTimes ts.now (length starts.old) (length work.old)) × (starts.new ≡ laid (startsWritten result ts.now) starts.old) }
+    ensures { (result ≡ mcraw_times ts.now (length starts.old) (length work.old)) × (starts.new ≡ laid (starts_written result ts.now) starts.old) }
 {
     let r = times_of(ts, starts.len(), work);
     if let RecordingTimes::Timed {

@@ -1,17 +1,17 @@
 -- Where the standard's reading of composition offsets and the Rust's are the same (document 02, d).
 use Rattle.std.specs.Prelude.{ℕ, ◌<◌, ◌^◌, ◌≡◌, List, get_or}
-use Rattle.choice.specs.Numbers.{noTimes}
+use Rattle.choice.specs.Numbers.{no_times}
 use Rattle.slices.specs.Slices.{All}
 use Rattle.boxes.specs.Bytes.{mdia}
-use Rattle.boxes.specs.Places.{placeOr, part_of, childOf}
-use Rattle.boxes.specs.Tracks.{videoTrack}
+use Rattle.boxes.specs.Places.{place_or, part_of, child_of}
+use Rattle.boxes.specs.Tracks.{video_track}
 use Rattle.tracks.specs.declared.Rows.TheVariants.{Whole}
-use Rattle.tracks.specs.Tables.{Entry, optionalRows, entriesOf}
+use Rattle.tracks.specs.Tables.{Entry, optional_rows, entries_of}
 use Rattle.frame_times.specs.Times.{minf, stbl, ctts}
 
 -- the ctts of a moov's first video track; empty where there is none
-abbrev pub cttsOf : List ℕ → List ℕ
-cttsOf moov = childOf ctts (childOf stbl (childOf minf (childOf mdia (part_of moov (placeOr noTimes (videoTrack moov))))))
+abbrev pub ctts_of : List ℕ → List ℕ
+ctts_of moov = child_of ctts (child_of stbl (child_of minf (child_of mdia (part_of moov (place_or no_times (video_track moov))))))
 
 -- four bytes whose top bit isn't set
 abbrev pub TopClear : ℕ → Type 0
@@ -19,4 +19,4 @@ TopClear x = x < 2 ^ 31
 
 -- no entry of a whole ctts of version 0 has an offset with its top bit set: those for no frames, and those past the last frame, count too
 abbrev pub NoTopBit : List ℕ → Type 0
-NoTopBit c = (n : ℕ) → optionalRows c ≡ Whole n → get_or c 0 0 ≡ 0 → All (λ (e : Entry). TopClear e.value) (entriesOf n c)
+NoTopBit c = (n : ℕ) → optional_rows c ≡ Whole n → get_or c 0 0 ≡ 0 → All (λ (e : Entry). TopClear e.value) (entries_of n c)

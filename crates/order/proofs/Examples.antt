@@ -2,11 +2,11 @@
 use mathlib.Core.Path.{◌≡◌, refl}
 use mathlib.Core.List.{[], ◌∷◌}
 use lib.IntN.{pos, negsuc}
-use Rattle.order.specs.Order.{insert, sorted, countBy, takenFirst, mode}
+use Rattle.order.specs.Order.{insert, sorted, count_by, taken_first, mode}
 
 -- document 01: durations 5, 7, 7, 5 have the nominal 5
 nominal : mode (pos 5 ∷ pos 7 ∷ pos 7 ∷ pos 5 ∷ []) ≡ pos 5
-unfolding mode takenFirst countBy
+unfolding mode taken_first count_by
 nominal = refl
 
 -- composition times of I P B B, and a number below 0

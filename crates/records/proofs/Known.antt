@@ -19,51 +19,51 @@ use Rattle.rules.specs.declared.Lookup.{Lookup}
 use Rattle.rules.specs.declared.Lookup.TheVariants.{Index}
 use Rattle.rules.specs.declared.Checked.{Checked}
 use Rattle.rules.specs.declared.Checked.TheVariants.{Refused}
-use Rattle.rules.specs.Records.{Segment, Table, outEnd}
-use Rattle.rules.specs.Rules.{start, ends, endsOf, frontRefusal, malformed, checkOf}
-use Rattle.rules.specs.Lookups.{countSuch, overBy, ended, lookedUp, segmentOfFrame}
-use Rattle.rules.specs.Steps.{turn_of, walked, passedOf}
+use Rattle.rules.specs.Records.{Segment, Table, out_end}
+use Rattle.rules.specs.Rules.{start, ends, ends_of, front_refusal, malformed, check_of}
+use Rattle.rules.specs.Lookups.{count_such, over_by, ended, looked_up, segment_of_frame}
+use Rattle.rules.specs.Steps.{turn_of, walked, passed_of}
 use Rattle.rules.proofs.Walks.{Walk, walk_start, walk-go, walk-stop, walk_end, turn-go, check-stops, check-goes}
-use Rattle.table.specs.Layout.{sourcesOf}
+use Rattle.table.specs.Layout.{sources_of}
 use Rattle.table.specs.Steps.{FineFront}
 use Rattle.records.specs.declared.TrimSegment.{TrimSegment}
 use Rattle.records.specs.declared.SoFar.{SoFar}
 use Rattle.records.specs.Records.{locate}
-use Rattle.records.specs.Steps.{segmentOf, recordAt, begun, turnedOf, next_of, after, stoppedAt, frontOf, frontOr, number_of, refusedOf, answer_of}
+use Rattle.records.specs.Steps.{segment_of, record_at, begun, turned_of, next_of, after, stopped_at, front_of, front_or, number_of, refused_of, answer_of}
 use Rattle.records.proofs.Laid.{segment, table, table_is, malformed-is}
 
 -- ---- one record more, by whether it has an end
 module _ (srcs : List Source) (s : SoFar) (r : TrimSegment) where
   abbrev turn : Turn
-  turn = turn_of srcs s.prev (segmentOf r)
+  turn = turn_of srcs s.prev (segment_of r)
 
   -- after one that was refused
   pub next-none : s.fine ≡ false → s ≡ next_of srcs s r
   unfolding next_of
-  next-none f = sym (ap (λ (b : Bool). if b then turnedOf s turn else s) f)
+  next-none f = sym (ap (λ (b : Bool). if b then turned_of s turn else s) f)
 
-  turned-is : s.fine ≡ true → turnedOf s turn ≡ next_of srcs s r
+  turned-is : s.fine ≡ true → turned_of s turn ≡ next_of srcs s r
   unfolding next_of
-  turned-is f = sym (ap (λ (b : Bool). if b then turnedOf s turn else s) f)
+  turned-is f = sym (ap (λ (b : Bool). if b then turned_of s turn else s) f)
 
-  pub next-stop : {to : Ends} → s.fine ≡ true → to ≡ passedOf turn → to.some ≡ false → record { frame = s.frame; prev = s.prev; ended = s.ended; n = s.n; fine = false } ≡ next_of srcs s r
-  unfolding passedOf turnedOf turn_of ends endsOf
+  pub next-stop : {to : Ends} → s.fine ≡ true → to ≡ passed_of turn → to.some ≡ false → record { frame = s.frame; prev = s.prev; ended = s.ended; n = s.n; fine = false } ≡ next_of srcs s r
+  unfolding passed_of turned_of turn_of ends ends_of
   next-stop f q h = by turn refl (sym (ap (λ x. x.some) q) ∙ h) ∙ turned-is f
     where
-      by : (t : Turn) → turn ≡ t → (passedOf t).some ≡ false → record { frame = s.frame; prev = s.prev; ended = s.ended; n = s.n; fine = false } ≡ turnedOf s t
+      by : (t : Turn) → turn ≡ t → (passed_of t).some ≡ false → record { frame = s.frame; prev = s.prev; ended = s.ended; n = s.n; fine = false } ≡ turned_of s t
       by (Stop n) e z = refl
       by (Go next) e z = tf (ap (λ x. x.some) (turn-go _ _ _ e).1 ∙ z)
 
-  pub next-go : {to : Ends} {ended n : ℕ} → s.fine ≡ true → to ≡ passedOf turn → to.some ≡ true → ended ≡ cond (leb to.frame s.frame) ((s.ended + 1) % 2 ^ 64) s.ended → n ≡ (s.n + 1) % 2 ^ 64
+  pub next-go : {to : Ends} {ended n : ℕ} → s.fine ≡ true → to ≡ passed_of turn → to.some ≡ true → ended ≡ cond (leb to.frame s.frame) ((s.ended + 1) % 2 ^ 64) s.ended → n ≡ (s.n + 1) % 2 ^ 64
       → record { frame = s.frame; prev = to; ended = ended; n = n; fine = true } ≡ next_of srcs s r
-  unfolding passedOf turnedOf start
+  unfolding passed_of turned_of start
   next-go {to} f q h e d =
       (λ i. record { frame = s.frame; prev = to; ended = e i; n = d i; fine = true })
       ∙ (λ i. record { frame = s.frame; prev = q i; ended = cond (leb (q i).frame s.frame) ((s.ended + 1) % 2 ^ 64) s.ended; n = (s.n + 1) % 2 ^ 64; fine = true })
       ∙ by turn (sym (ap (λ x. x.some) q) ∙ h) ∙ turned-is f
     where
-      by : (t : Turn) → (passedOf t).some ≡ true
-          → record { frame = s.frame; prev = passedOf t; ended = cond (leb (passedOf t).frame s.frame) ((s.ended + 1) % 2 ^ 64) s.ended; n = (s.n + 1) % 2 ^ 64; fine = true } ≡ turnedOf s t
+      by : (t : Turn) → (passed_of t).some ≡ true
+          → record { frame = s.frame; prev = passed_of t; ended = cond (leb (passed_of t).frame s.frame) ((s.ended + 1) % 2 ^ 64) s.ended; n = (s.n + 1) % 2 ^ 64; fine = true } ≡ turned_of s t
       by (Stop n) z = tf (sym z)
       by (Go next) z = refl
 
@@ -91,7 +91,7 @@ module _ (srcs : List Source) (frame : ℕ) (rs : List TrimSegment) where
   unfolding after
   after_none = refl
 
-  pub after_more : (k : ℕ) → next_of srcs (after srcs frame rs k) (recordAt rs k) ≡ after srcs frame rs (k + 1)
+  pub after_more : (k : ℕ) → next_of srcs (after srcs frame rs k) (record_at rs k) ≡ after srcs frame rs (k + 1)
   unfolding after
   after_more k = rw add-one
 
@@ -102,7 +102,7 @@ module _ (srcs : List Source) (frame : ℕ) (rs : List TrimSegment) where
     n-fits : s.n ≤ k
     count-is : s.fine ≡ true → s.n ≡ k
     going : s.fine ≡ true → Walk srcs f m k s.prev
-    ended_is : s.fine ≡ true → s.ended + countSuch (overBy frame) (run f k (m - k)) ≡ countSuch (overBy frame) (run f 0 m)
+    ended_is : s.fine ≡ true → s.ended + count_such (over_by frame) (run f k (m - k)) ≡ count_such (over_by frame) (run f 0 m)
     there : s.fine ≡ false → s.n < m
     refused : s.fine ≡ false → Refused (number_of (turn_of srcs s.prev (f s.n))) s.n ≡ walked srcs (run f 0 m)
 
@@ -121,12 +121,12 @@ module _ (srcs : List Source) (frame : ℕ) (rs : List TrimSegment) where
 
   module _ (room : m < 2 ^ 63) where
     -- where a segment that isn't refused ends
-    end_is : (s : SoFar) (k : ℕ) → {to : _} → turn_of srcs s.prev (f k) ≡ Go to → to.frame ≡ outEnd (f k)
-    unfolding turn_of ends endsOf
+    end_is : (s : SoFar) (k : ℕ) → {to : _} → turn_of srcs s.prev (f k) ≡ Go to → to.frame ≡ out_end (f k)
+    unfolding turn_of ends ends_of
     end_is s k e = ap (λ x. x.frame) (sym (turn-go _ _ _ e).1)
 
-    known-turn : (k : ℕ) (s : SoFar) (t : Turn) → k < m → Known k s → s.fine ≡ true → turn_of srcs s.prev (f k) ≡ t → Known (k + 1) (turnedOf s t)
-    unfolding turnedOf countSuch number_of
+    known-turn : (k : ℕ) (s : SoFar) (t : Turn) → k < m → Known k s → s.fine ≡ true → turn_of srcs s.prev (f k) ≡ t → Known (k + 1) (turned_of s t)
+    unfolding turned_of count_such number_of
     known-turn k s (Stop number) h g o e =
         let n = g.count-is o in record {
           frame_is = g.frame_is;
@@ -139,9 +139,9 @@ module _ (srcs : List Source) (frame : ℕ) (rs : List TrimSegment) where
           refused = λ _. rw (n, e) (walk-stop srcs f m (g.going o) h e);
         }
     known-turn k s (Go to) h g o e =
-        let c = countSuch (overBy frame) (run f (k + 1) (m - (k + 1))) in
-        let more : countSuch (overBy frame) (run f k (m - k)) ≡ when (overBy frame (f k)) (suc c) c = ap (countSuch (overBy frame)) (run-cons f k m h) in
-        let same : leb to.frame s.frame ≡ overBy frame (f k) = rw (end_is s k e, g.frame_is) in
+        let c = count_such (over_by frame) (run f (k + 1) (m - (k + 1))) in
+        let more : count_such (over_by frame) (run f k (m - k)) ≡ when (over_by frame (f k)) (suc c) c = ap (count_such (over_by frame)) (run-cons f k m h) in
+        let same : leb to.frame s.frame ≡ over_by frame (f k) = rw (end_is s k e, g.frame_is) in
         let n = g.count-is o in
         let w = no_wrap s.n (omega arith) in
         record {
@@ -150,12 +150,12 @@ module _ (srcs : List Source) (frame : ℕ) (rs : List TrimSegment) where
           n-fits = omega arith;
           count-is = λ _. omega arith;
           going = λ _. walk-go srcs f m (g.going o) h e;
-          ended_is = λ _. rw same (count-more (overBy frame (f k)) s.ended c (omega (arith, g.ended-fits)) ∙ rw (← more) (g.ended_is o));
+          ended_is = λ _. rw same (count-more (over_by frame (f k)) s.ended c (omega (arith, g.ended-fits)) ∙ rw (← more) (g.ended_is o));
           there = λ z. tf z;
           refused = λ z. tf z;
         }
 
-    known_next : (k : ℕ) (s : SoFar) → k < m → Known k s → Known (k + 1) (next_of srcs s (recordAt rs k))
+    known_next : (k : ℕ) (s : SoFar) → k < m → Known k s → Known (k + 1) (next_of srcs s (record_at rs k))
     unfolding next_of
     known_next k s h g =
         either (Known (k + 1)) s.fine (λ e. known-turn k s _ h g e refl)
@@ -176,7 +176,7 @@ module _ (srcs : List Source) (frame : ℕ) (rs : List TrimSegment) where
     known-after (suc k) h = rw (← add-one k) (known_next k (after srcs frame rs k) (omega arith) (known-after k (omega arith)))
 
 -- 1, of sources, and 2 to 8 refuse nothing
-pub front-fine : (sources text : List ℕ) (log : Bool) (n : ℕ) → FineFront sources log text n → frontOf sources text n log ≡ Never
+pub front-fine : (sources text : List ℕ) (log : Bool) (n : ℕ) → FineFront sources log text n → front_of sources text n log ≡ Never
 front-fine sources text log n f = rw (f.whole, f.words) f.none
 
 module _ (sources text : List ℕ) (rs : List TrimSegment) (log : Bool) (frame : ℕ) (room : length rs < 2 ^ 63) where
@@ -184,56 +184,56 @@ module _ (sources text : List ℕ) (rs : List TrimSegment) (log : Bool) (frame :
   t = table sources text rs log
 
   abbrev s : SoFar
-  s = after (sourcesOf sources) frame rs (length rs)
+  s = after (sources_of sources) frame rs (length rs)
 
-  abbrev g : Known (sourcesOf sources) frame rs (length rs) s
-  g = known-after (sourcesOf sources) frame rs room (length rs) (omega arith)
+  abbrev g : Known (sources_of sources) frame rs (length rs) s
+  g = known-after (sources_of sources) frame rs room (length rs) (omega arith)
 
   abbrev index : ℕ
-  index = ended (overBy frame) t.segments
+  index = ended (over_by frame) t.segments
 
   -- what is answered of a check of the table
   told : Checked → Lookup
-  told c = lookedUp c index
+  told c = looked_up c index
 
-  told_is : told (checkOf t) ≡ locate sources text rs log frame
-  unfolding told locate segmentOfFrame
+  told_is : told (check_of t) ≡ locate sources text rs log frame
+  unfolding told locate segment_of_frame
   told_is = rw (table_is sources text rs log)
 
-  front-is : frontRefusal log text (sourcesOf sources) (malformed t) (length t.segments) ≡ frontOf sources text (length rs) log
+  front-is : front_refusal log text (sources_of sources) (malformed t) (length t.segments) ≡ front_of sources text (length rs) log
   front-is = rw (malformed-is sources text rs log, length_run (segment rs) 0 (length rs))
 
   -- 1 to 8 refuse the table, or what the walk finds is answered
-  by_front : (x : Refusal) {rest : Lookup} {c : Checked} → frontOf sources text (length rs) log ≡ x → rest ≡ told c → c ≡ walked (sourcesOf sources) (run (segment rs) 0 (length rs)) → frontOr x rest ≡ told (checkOf t)
-  unfolding told lookedUp frontOr
+  by_front : (x : Refusal) {rest : Lookup} {c : Checked} → front_of sources text (length rs) log ≡ x → rest ≡ told c → c ≡ walked (sources_of sources) (run (segment rs) 0 (length rs)) → front_or x rest ≡ told (check_of t)
+  unfolding told looked_up front_or
   by_front (At n i) e r w = ap told (check-stops t (front-is ∙ e))
   by_front Never e r w = r ∙ ap told (w ∙ check-goes t (front-is ∙ e))
 
-  count_none : countSuch (overBy frame) (run (segment rs) (length rs) (length rs - length rs)) ≡ 0
-  unfolding countSuch
-  count_none = ap (countSuch (overBy frame)) (run-nil (segment rs) (length rs) (length rs) (omega arith))
+  count_none : count_such (over_by frame) (run (segment rs) (length rs) (length rs - length rs)) ≡ 0
+  unfolding count_such
+  count_none = ap (count_such (over_by frame)) (run-nil (segment rs) (length rs) (length rs) (omega arith))
 
-  at_none : s.fine ≡ true → stoppedAt s (length rs) ≡ length rs
-  unfolding stoppedAt
+  at_none : s.fine ≡ true → stopped_at s (length rs) ≡ length rs
+  unfolding stopped_at
   at_none e = rw e
 
-  at_one : s.fine ≡ false → stoppedAt s (length rs) ≡ s.n
-  unfolding stoppedAt
+  at_one : s.fine ≡ false → stopped_at s (length rs) ≡ s.n
+  unfolding stopped_at
   at_one e = rw e
 
-  pub stopped-answer : stoppedAt s (length rs) < length rs → refusedOf sources text s (recordAt rs (stoppedAt s (length rs))) (length rs) log ≡ locate sources text rs log frame
-  unfolding refusedOf told lookedUp
+  pub stopped-answer : stopped_at s (length rs) < length rs → refused_of sources text s (record_at rs (stopped_at s (length rs))) (length rs) log ≡ locate sources text rs log frame
+  unfolding refused_of told looked_up
   stopped-answer h =
       decide s.fine (λ e. let a = at_none e in absurd (omega arith))
       (λ e. rw (at_one e) (by_front _ refl refl (g.refused e) ∙ told_is))
 
-  pub whole-answer : length rs ≤ stoppedAt s (length rs) → answer_of sources text s (length rs) log ≡ locate sources text rs log frame
-  unfolding answer_of told lookedUp ended
+  pub whole-answer : length rs ≤ stopped_at s (length rs) → answer_of sources text s (length rs) log ≡ locate sources text rs log frame
+  unfolding answer_of told looked_up ended
   whole-answer h =
       decide s.fine
       (λ e.
       let c = count_none in
-      let k : s.ended ≡ countSuch (overBy frame) t.segments = omega (arith, g.ended_is e) in
+      let k : s.ended ≡ count_such (over_by frame) t.segments = omega (arith, g.ended_is e) in
       let w : min s.ended (length rs - 1) ≡ index = rw (k, length_run (segment rs) 0 (length rs)) in
-      by_front _ refl (ap Index w) (walk_end (sourcesOf sources) (segment rs) (length rs) (g.going e) (omega arith)) ∙ told_is)
+      by_front _ refl (ap Index w) (walk_end (sources_of sources) (segment rs) (length rs) (g.going e) (omega arith)) ∙ told_is)
       (λ e. let a = at_one e in let b = g.there e in absurd (omega arith))

@@ -1,7 +1,7 @@
 -- Segment records, the words of a lent table that say the same, and the lookup over them.
 use Rattle.std.specs.Prelude.{ℕ, Bool, cond, List, [], ◌∷◌, ◌++◌, ℤ}
 use Rattle.rules.specs.declared.Lookup.{Lookup}
-use Rattle.rules.specs.Lookups.{segmentOfFrame}
+use Rattle.rules.specs.Lookups.{segment_of_frame}
 use Rattle.table.specs.Layout.{table_of}
 use Rattle.records.specs.declared.TrimSegment.{TrimSegment}
 
@@ -13,14 +13,14 @@ abbrev pub signed : TrimSegment → List ℤ
 signed r = r.src_start_us ∷ r.out_start_us ∷ r.duration_us ∷ r.src_capture_start_us ∷ r.out_capture_start_us ∷ r.capture_duration_us ∷ r.clock_shift ∷ []
 
 -- the words of a list of records
-unfoldable pub allUnsigned : List TrimSegment → List ℕ
-allUnsigned [] = []
-allUnsigned (r ∷ rs) = unsigned r ++ allUnsigned rs
+unfoldable pub all_unsigned : List TrimSegment → List ℕ
+all_unsigned [] = []
+all_unsigned (r ∷ rs) = unsigned r ++ all_unsigned rs
 
-unfoldable pub allSigned : List TrimSegment → List ℤ
-allSigned [] = []
-allSigned (r ∷ rs) = signed r ++ allSigned rs
+unfoldable pub all_signed : List TrimSegment → List ℤ
+all_signed [] = []
+all_signed (r ∷ rs) = signed r ++ all_signed rs
 
 -- the lookup over words, of the words of the records
 unfoldable pub locate : List ℕ → List ℕ → List TrimSegment → Bool → ℕ → Lookup
-locate sources text rs log frame = segmentOfFrame (table_of sources (allUnsigned rs) (allSigned rs) log text) frame
+locate sources text rs log frame = segment_of_frame (table_of sources (all_unsigned rs) (all_signed rs) log text) frame

@@ -3,11 +3,11 @@
 #![tactic(auto)]
 
 ghost use Rattle.std.specs.Prelude.{◌≡◌, ◌+◌, ◌-◌, ◌%◌, ◌^◌, min, length, if◌then◌else◌};
-ghost use Rattle.rules.specs.Rules.{stampTimes};
-ghost use Rattle.rules.specs.Steps.{turn_of, passedOf};
-ghost use Rattle.table.specs.Layout.{sourcesOf};
+ghost use Rattle.rules.specs.Rules.{stamp_times};
+ghost use Rattle.rules.specs.Steps.{turn_of, passed_of};
+ghost use Rattle.table.specs.Layout.{sources_of};
 ghost use Rattle.records.specs.Records.{locate};
-ghost use Rattle.records.specs.Steps.{words_of, stampsOf, segmentOf, begun, next_of, after, stoppedAt, frontOf, number_of, refusedOf, answer_of};
+ghost use Rattle.records.specs.Steps.{words_of, stamps_of, segment_of, begun, next_of, after, stopped_at, front_of, number_of, refused_of, answer_of};
 
 use choice::Refusal;
 use rules::{Ends, Lookup, SixTimes, Turn, Words};
@@ -80,7 +80,7 @@ fn words_of(r: TrimSegment) -> Words
 
 // What the signed words of a record say.
 fn times_of(r: TrimSegment) -> SixTimes
-    ensures { result ≡ stampTimes (stampsOf r) }
+    ensures { result ≡ stamp_times (stamps_of r) }
 {
     let a = signed::negative(r.src_start_us) | signed::negative(r.out_start_us);
     let b = signed::negative(r.duration_us) | signed::negative(r.src_capture_start_us);
@@ -100,7 +100,7 @@ fn times_of(r: TrimSegment) -> SixTimes
 
 // Passes a record, after one that ends at prev: where it ends, or no end where one of 9 to 17 refuses it.
 fn pass_record(sources: &[u64], prev: Ends, r: TrimSegment) -> Ends
-    ensures { result ≡ passedOf (turn_of (sourcesOf sources.now) prev (segmentOf r)) }
+    ensures { result ≡ passed_of (turn_of (sources_of sources.now) prev (segment_of r)) }
 {
     let w = words_of(r);
     let from = w.source as usize;
@@ -148,7 +148,7 @@ fn one_more(ended: usize, last: bool) -> usize
 
 // One record more. Which number refuses it isn't asked, so that the loop is short; `refused` asks.
 fn next(sources: &[u64], s: SoFar, r: TrimSegment) -> SoFar
-    ensures { result ≡ next_of (sourcesOf sources.now) s r }
+    ensures { result ≡ next_of (sources_of sources.now) s r }
 {
     if !s.fine {
         return s;
@@ -175,7 +175,7 @@ fn next(sources: &[u64], s: SoFar, r: TrimSegment) -> SoFar
 
 // After all records.
 fn walk(sources: &[u64], records: &[TrimSegment], frame: u64) -> SoFar
-    ensures { result ≡ after (sourcesOf sources.now) frame records.now (length records.now) }
+    ensures { result ≡ after (sources_of sources.now) frame records.now (length records.now) }
 {
     let mut so_far = begin(frame);
     let mut k = 0;
@@ -187,9 +187,9 @@ fn walk(sources: &[u64], records: &[TrimSegment], frame: u64) -> SoFar
 }
 
 // The record at which the walk over n of them stopped; n where it didn't.
-#[tactic(auto, unfolding(crate::specs::Steps::stoppedAt))]
+#[tactic(auto, unfolding(crate::specs::Steps::stopped_at))]
 fn stopped_at(s: SoFar, n: usize) -> usize
-    ensures { result ≡ stoppedAt s n }
+    ensures { result ≡ stopped_at s n }
 {
     if s.fine {
         return n;
@@ -199,7 +199,7 @@ fn stopped_at(s: SoFar, n: usize) -> usize
 
 // 1 to 8, where n records are lent.
 fn front_of(sources: &[u64], text: &[u8], n: usize, log: bool) -> Refusal
-    ensures { result ≡ frontOf sources.now text.now n log }
+    ensures { result ≡ front_of sources.now text.now n log }
 {
     let bad = (sources.len() % SOURCE != 0) | table::bad_sources(sources, text.len() as u64);
     table::front(sources, log, text, bad, n)
@@ -207,7 +207,7 @@ fn front_of(sources: &[u64], text: &[u8], n: usize, log: bool) -> Refusal
 
 // 9 to 17 of a record, after one that ends at prev: a number, or 0.
 fn number_of(sources: &[u64], prev: Ends, r: TrimSegment) -> u64
-    ensures { result ≡ number_of (turn_of (sourcesOf sources.now) prev (segmentOf r)) }
+    ensures { result ≡ number_of (turn_of (sources_of sources.now) prev (segment_of r)) }
 {
     let w = words_of(r);
     let from = w.source as usize;
@@ -222,9 +222,9 @@ fn number_of(sources: &[u64], prev: Ends, r: TrimSegment) -> u64
 }
 
 // What the lookup answers where the walk over n records stopped at r: 1 to 8 first, then what refuses r.
-#[tactic(auto, unfolding(crate::specs::Steps::refusedOf, crate::specs::Steps::frontOr))]
+#[tactic(auto, unfolding(crate::specs::Steps::refused_of, crate::specs::Steps::front_or))]
 fn refused(sources: &[u64], text: &[u8], s: SoFar, r: TrimSegment, n: usize, log: bool) -> Lookup
-    ensures { result ≡ refusedOf sources.now text.now s r n log }
+    ensures { result ≡ refused_of sources.now text.now s r n log }
 {
     match front_of(sources, text, n, log) {
         Refusal::At(first, i) => Lookup::NoIndex(first, i),

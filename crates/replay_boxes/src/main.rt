@@ -27,8 +27,8 @@ fn say_place(rt: &impl Print, place: Place, kept: bool) {
     match place {
         Place::At { start, len } => {
             say::accepted(rt);
-            say::value(rt, start as u64);
-            say::value(rt, len as u64);
+            say::value(rt, start);
+            say::value(rt, len);
         }
         Place::Refused(number, index) => say::refused(rt, number, index),
     }
@@ -68,10 +68,10 @@ fn children(rt: &impl Print, line: &[u8], c: Cursor, bytes: &[u8]) {
             next,
         } => {
             say::accepted(rt);
-            say::value(rt, kind as u64);
-            say::value(rt, start as u64);
-            say::value(rt, len as u64);
-            say::value(rt, next as u64);
+            say::value(rt, kind);
+            say::value(rt, start);
+            say::value(rt, len);
+            say::value(rt, next);
         }
         Reached::Refused(number, index) => say::refused(rt, number, index),
     }
@@ -125,8 +125,7 @@ fn table_text(rt: &impl Print, line: &[u8], c: Cursor, bytes: &[u8]) {
 fn answer(rt: &impl Print, line: &[u8]) {
     let mut held = [0u8; 512];
     let c = read::bytes(line, read::start(line), &mut held);
-    let n = c.count;
-    let bytes = &held[..n];
+    let bytes = &held[..c.count];
     if read::is(line, b"box_size") {
         box_size(rt, line, c, bytes);
     } else if read::is(line, b"children") {

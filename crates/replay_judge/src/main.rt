@@ -78,7 +78,7 @@ fn validate_times(
 ) {
     let mut starts = [0i64; 64];
     let scale = read::number(line, c);
-    let s = read::longs(line, scale, &mut starts);
+    let s = read::list(line, scale, &mut starts);
     let end = read::signed(line, s);
     let nominal = read::signed(line, end);
     let video = Video::Times {
@@ -86,7 +86,6 @@ fn validate_times(
         end: end.signed,
         nominal: nominal.signed,
     };
-    let n = s.count;
     validate(
         rt,
         line,
@@ -97,7 +96,7 @@ fn validate_times(
         log,
         text,
         video,
-        &starts[..n],
+        &starts[..s.count],
     );
 }
 
@@ -137,8 +136,8 @@ fn recording_room(
     }
     let mut work_a = [0i64; 64];
     let mut work_b = [0i64; 64];
-    let m = lent::longs(&mut work_a, x.count);
-    let k = lent::longs(&mut work_b, y.count);
+    let m = lent::fill(&mut work_a, x.count);
+    let k = lent::fill(&mut work_b, y.count);
     recording_over(
         rt,
         sources,
@@ -164,9 +163,18 @@ fn check_mcraw(
     text: &[u8],
 ) {
     let mut timestamps = [0i64; 64];
-    let s = read::longs(line, c, &mut timestamps);
-    let n = s.count;
-    recording_room(rt, line, s, sources, u, t, log, text, &timestamps[..n]);
+    let s = read::list(line, c, &mut timestamps);
+    recording_room(
+        rt,
+        line,
+        s,
+        sources,
+        u,
+        t,
+        log,
+        text,
+        &timestamps[..s.count],
+    );
 }
 
 // The case of a table, with what follows the table in its line.
@@ -212,20 +220,15 @@ fn answer(rt: &impl Print, line: &[u8]) {
     let mut text = [0u8; 512];
     let c = read::start(line);
     let l = tables::read(line, c, &mut sources, &mut u, &mut t, &mut text);
-    let n = l.sources;
-    let m = l.segments;
-    let k = l.times;
-    let b = l.text;
-    let after = tables::after(l);
     answer_to(
         rt,
         line,
-        after,
-        &sources[..n],
-        &u[..m],
-        &t[..k],
+        tables::after(l),
+        &sources[..l.sources],
+        &u[..l.segments],
+        &t[..l.times],
         l.log,
-        &text[..b],
+        &text[..l.text],
     );
 }
 

@@ -41,7 +41,7 @@ fn say_rows(rt: &impl Print, answer: Mapped, ou: &[u64], os: &[i64]) {
     match answer {
         Mapped::Rows(n) => {
             say::accepted(rt);
-            say::value(rt, n as u64);
+            say::value(rt, n);
             say::end(rt, say::rows(rt, ou, os, n));
         }
         Mapped::Refused(number, index) => {
@@ -85,8 +85,8 @@ fn lend(
     }
     let mut ou = [0u64; 64];
     let mut os = [0i64; 64];
-    let m = lent::words(&mut ou, x.count);
-    let k = lent::longs(&mut os, y.count);
+    let m = lent::fill(&mut ou, x.count);
+    let k = lent::fill(&mut os, y.count);
     answer_over(rt, w, u, s, v, t, &mut ou[..m], &mut os[..k]);
 }
 
@@ -101,11 +101,18 @@ fn cut(rt: &impl Print, line: &[u8], c: Cursor, u: &[u64], s: &[i64]) {
 fn join(rt: &impl Print, line: &[u8], c: Cursor, u: &[u64], s: &[i64]) {
     let mut words = [0u64; 64];
     let mut shifts = [0i64; 64];
-    let v = read::words(line, c, &mut words);
-    let t = read::longs(line, v, &mut shifts);
-    let n = v.count;
-    let k = t.count;
-    lend(rt, line, t, Written::Join, u, s, &words[..n], &shifts[..k]);
+    let v = read::list(line, c, &mut words);
+    let t = read::list(line, v, &mut shifts);
+    lend(
+        rt,
+        line,
+        t,
+        Written::Join,
+        u,
+        s,
+        &words[..v.count],
+        &shifts[..t.count],
+    );
 }
 
 // origin MAP FRAME
@@ -121,7 +128,7 @@ fn origin(rt: &impl Print, line: &[u8], c: Cursor, u: &[u64], s: &[i64]) {
             say::value(rt, source);
             say::value(rt, at);
             say::value(rt, flag);
-            say::long(rt, shift);
+            say::value(rt, shift);
         }
         Traced::Refused(number, index) => say::refused(rt, number, index),
     }
@@ -149,11 +156,9 @@ fn answer_to(rt: &impl Print, line: &[u8], c: Cursor, u: &[u64], s: &[i64]) {
 fn answer(rt: &impl Print, line: &[u8]) {
     let mut words = [0u64; 64];
     let mut shifts = [0i64; 64];
-    let m = read::words(line, read::start(line), &mut words);
-    let c = read::longs(line, m, &mut shifts);
-    let n = m.count;
-    let k = c.count;
-    answer_to(rt, line, c, &words[..n], &shifts[..k]);
+    let m = read::list(line, read::start(line), &mut words);
+    let c = read::list(line, m, &mut shifts);
+    answer_to(rt, line, c, &words[..m.count], &shifts[..c.count]);
 }
 
 // All cases of standard input.

@@ -11,14 +11,14 @@ fn say_cuts(rt: &impl Print, answer: Mapped, n: usize, ou: &[u64], os: &[i64], c
     match answer {
         Mapped::Rows(k) => {
             say::accepted(rt);
-            say::value(rt, k as u64);
+            say::value(rt, k);
             let kept = say::rows(rt, ou, os, k);
-            say::words(rt, counts, n);
-            say::end(rt, kept & lent::kept_words(counts, n));
+            say::list(rt, counts, n);
+            say::end(rt, kept & lent::kept(counts, n));
         }
         Mapped::Refused(number, index) => {
             say::refused(rt, number, index);
-            say::end(rt, say::unwritten(ou, os, 0) & lent::kept_words(counts, 0));
+            say::end(rt, say::unwritten(ou, os, 0) & lent::kept(counts, 0));
         }
     }
 }
@@ -40,7 +40,7 @@ fn cuts_over(
 // cuts MAP RANGES ROOM ROOM ROOM
 pub fn cuts(rt: &impl Print, line: &[u8], c: Cursor, u: &[u64], s: &[i64]) {
     let mut ranges = [0u64; 64];
-    let r = read::words(line, c, &mut ranges);
+    let r = read::list(line, c, &mut ranges);
     let x = read::room(line, r, ROOM);
     let y = read::room(line, x, ROOM);
     let z = read::room(line, y, ROOM);
@@ -51,15 +51,14 @@ pub fn cuts(rt: &impl Print, line: &[u8], c: Cursor, u: &[u64], s: &[i64]) {
     let mut ou = [0u64; 64];
     let mut os = [0i64; 64];
     let mut counts = [0u64; 64];
-    let n = r.count;
-    let m = lent::words(&mut ou, x.count);
-    let k = lent::longs(&mut os, y.count);
-    let j = lent::words(&mut counts, z.count);
+    let m = lent::fill(&mut ou, x.count);
+    let k = lent::fill(&mut os, y.count);
+    let j = lent::fill(&mut counts, z.count);
     cuts_over(
         rt,
         u,
         s,
-        &ranges[..n],
+        &ranges[..r.count],
         &mut ou[..m],
         &mut os[..k],
         &mut counts[..j],

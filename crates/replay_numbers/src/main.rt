@@ -10,12 +10,11 @@ use ticks::Us;
 fn is_utc_second(rt: &impl Print, line: &[u8], c: Cursor) {
     let mut bytes = [0u8; 512];
     let b = read::bytes(line, c, &mut bytes);
-    let n = b.count;
     if !read::ended(line, b) {
         say::unreadable(rt);
         return;
     }
-    say::flag(rt, utc::is_utc_second(&bytes[..n]));
+    say::flag(rt, utc::is_utc_second(&bytes[..b.count]));
 }
 
 // ticks_to_us TICKS SCALE
@@ -29,7 +28,7 @@ fn ticks_to_us(rt: &impl Print, line: &[u8], c: Cursor) {
     match ticks::ticks_to_us(t.signed, s.number) {
         Us::At(us) => {
             say::accepted(rt);
-            say::long(rt, us);
+            say::value(rt, us);
         }
         Us::Refused(number, index) => say::refused(rt, number, index),
     }

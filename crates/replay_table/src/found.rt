@@ -7,7 +7,7 @@ pub fn say_found(rt: &impl Print, answer: Lookup) {
     match answer {
         Lookup::Index(k) => {
             say::accepted(rt);
-            say::value(rt, k as u64);
+            say::value(rt, k);
         }
         Lookup::NoIndex(number, index) => say::refused(rt, number, index),
     }

@@ -1,8 +1,8 @@
 // The lookup over records on stored cases: a case has the table's words, which are lent as a list of structs.
 ghost use Rattle.std.specs.Prelude.{◌≡◌, ◌+◌, ◌*◌, ◌≤◌, length, take};
-ghost use Rattle.table.specs.Layout.{segmentWords, segmentStamps, wordsAt, stampsAt};
+ghost use Rattle.table.specs.Layout.{segment_words, segment_stamps, words_at, stamps_at};
 ghost use Rattle.records.specs.Records.{locate};
-ghost use Rattle.records.specs.Steps.{stampsOf};
+ghost use Rattle.records.specs.Steps.{stamps_of};
 ghost use Rattle.replay_table.specs.Listed.{HasWords};
 
 use crate::found::say_found;
@@ -17,8 +17,8 @@ const MOST: usize = 9;
 
 // Record k of the words.
 fn record_at(u: &[u64], t: &[i64], k: usize) -> TrimSegment
-    requires { (k * segmentWords + segmentWords ≤ length u.now) × (k * segmentStamps + segmentStamps ≤ length t.now) }
-    ensures { HasWords result (wordsAt u.now k) × (stampsOf result ≡ stampsAt t.now k) }
+    requires { (k * segment_words + segment_words ≤ length u.now) × (k * segment_stamps + segment_stamps ≤ length t.now) }
+    ensures { HasWords result (words_at u.now k) × (stamps_of result ≡ stamps_at t.now k) }
 {
     let b = k * WORDS;
     let d = k * STAMPS;
@@ -58,20 +58,18 @@ fn no_record() -> TrimSegment {
 
 // The first n records of the words, at the front of the list.
 fn listed(u: &[u64], t: &[i64], n: usize) -> [TrimSegment; MOST]
-    requires { (n * segmentWords ≤ length u.now) × (n * segmentStamps ≤ length t.now) × (n ≤ 9) }
+    requires { (n * segment_words ≤ length u.now) × (n * segment_stamps ≤ length t.now) × (n ≤ 9) }
 {
     let mut list = [no_record(); MOST];
-    let mut k = 0;
-    while k < n {
+    for k in 0..n {
         list[k] = record_at(u, t, k);
-        k += 1;
     }
     list
 }
 
 // How many records the words are, 0 where they can't be a list of them.
 fn count(u: &[u64], t: &[i64]) -> usize
-    ensures { (result * segmentWords ≤ length u.now) × (result * segmentStamps ≤ length t.now) × (result ≤ 9) }
+    ensures { (result * segment_words ≤ length u.now) × (result * segment_stamps ≤ length t.now) × (result ≤ 9) }
 {
     let n = t.len() / STAMPS;
     if MOST < n {
@@ -93,14 +91,7 @@ fn whole(u: &[u64], t: &[i64], n: usize) -> bool
     if t.len() != n * STAMPS {
         return false;
     }
-    let mut k = 0;
-    while k < n {
-        if 1 < u[k * WORDS + 4] {
-            return false;
-        }
-        k += 1;
-    }
-    true
+    u.iter().skip(4).step_by(WORDS).all(|flag| *flag <= 1)
 }
 
 // The call itself, of the first n records of a list.

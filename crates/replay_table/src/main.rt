@@ -115,7 +115,7 @@ fn say_rows(rt: &impl Print, answer: Filled, ou: &[u64], os: &[i64]) {
     match answer {
         Filled::Rows(n) => {
             say::accepted(rt);
-            say::value(rt, n as u64);
+            say::value(rt, n);
             say::end(rt, say::rows(rt, ou, os, n));
         }
         Filled::NoRows(number, index) => {
@@ -159,8 +159,8 @@ fn rows_of_table(
     }
     let mut ou = [0u64; 64];
     let mut os = [0i64; 64];
-    let m = lent::words(&mut ou, x.count);
-    let k = lent::longs(&mut os, y.count);
+    let m = lent::fill(&mut ou, x.count);
+    let k = lent::fill(&mut os, y.count);
     rows_over(rt, sources, u, t, log, text, &mut ou[..m], &mut os[..k]);
 }
 
@@ -202,20 +202,15 @@ fn answer(rt: &impl Print, line: &[u8]) {
     let mut text = [0u8; 512];
     let c = read::start(line);
     let l = tables::read(line, c, &mut sources, &mut u, &mut t, &mut text);
-    let n = l.sources;
-    let m = l.segments;
-    let k = l.times;
-    let b = l.text;
-    let after = tables::after(l);
     answer_to(
         rt,
         line,
-        after,
-        &sources[..n],
-        &u[..m],
-        &t[..k],
+        tables::after(l),
+        &sources[..l.sources],
+        &u[..l.segments],
+        &t[..l.times],
         l.log,
-        &text[..b],
+        &text[..l.text],
     );
 }
 

@@ -11,13 +11,13 @@ fn say_indices(rt: &impl Print, answer: Indexed, out: &[u64]) {
     match answer {
         Indexed::Indices(n) => {
             say::accepted(rt);
-            say::value(rt, n as u64);
-            say::words(rt, out, n);
-            say::end(rt, lent::kept_words(out, n));
+            say::value(rt, n);
+            say::list(rt, out, n);
+            say::end(rt, lent::kept(out, n));
         }
         Indexed::NoIndices(number, index) => {
             say::refused(rt, number, index);
-            say::end(rt, lent::kept_words(out, 0));
+            say::end(rt, lent::kept(out, 0));
         }
     }
 }
@@ -49,14 +49,22 @@ pub fn segments_of_frames(
     text: &[u8],
 ) {
     let mut frames = [0u64; 64];
-    let f = read::words(line, c, &mut frames);
+    let f = read::list(line, c, &mut frames);
     let x = read::room(line, f, ROOM);
     if !read::ended(line, x) {
         say::unreadable(rt);
         return;
     }
     let mut out = [0u64; 64];
-    let n = f.count;
-    let m = lent::words(&mut out, x.count);
-    indices_over(rt, sources, u, t, log, text, &frames[..n], &mut out[..m]);
+    let m = lent::fill(&mut out, x.count);
+    indices_over(
+        rt,
+        sources,
+        u,
+        t,
+        log,
+        text,
+        &frames[..f.count],
+        &mut out[..m],
+    );
 }

@@ -20,18 +20,18 @@ fn say_times(
     starts: &[i64],
 ) -> bool {
     say::accepted(rt);
-    say::value(rt, frames as u64);
+    say::value(rt, frames);
     say::value(rt, scale);
-    say::long(rt, nominal);
-    say::long(rt, end);
-    say::longs(rt, starts, frames);
-    lent::kept_longs(starts, frames)
+    say::value(rt, nominal);
+    say::value(rt, end);
+    say::list(rt, starts, frames);
+    lent::kept(starts, frames)
 }
 
 // A refusal, up to the end of the line; whether the starts are as they were lent.
 fn say_refusal(rt: &impl Print, number: u64, index: usize, starts: &[i64]) -> bool {
     say::refused(rt, number, index);
-    lent::kept_longs(starts, 0)
+    lent::kept(starts, 0)
 }
 
 // The answer to a moov.
@@ -74,9 +74,9 @@ fn moov_room(rt: &impl Print, line: &[u8], c: Cursor, moov: &[u8]) {
     let mut starts = [0i64; 64];
     let mut work_a = [0i64; 64];
     let mut work_b = [0i64; 64];
-    let n = lent::longs(&mut starts, x.count);
-    let m = lent::longs(&mut work_a, y.count);
-    let k = lent::longs(&mut work_b, z.count);
+    let n = lent::fill(&mut starts, x.count);
+    let m = lent::fill(&mut work_a, y.count);
+    let k = lent::fill(&mut work_b, z.count);
     moov_over(
         rt,
         moov,
@@ -91,8 +91,7 @@ fn moov_room(rt: &impl Print, line: &[u8], c: Cursor, moov: &[u8]) {
 fn moov(rt: &impl Print, line: &[u8], c: Cursor) {
     let mut bytes = [0u8; 512];
     let b = read::bytes(line, c, &mut bytes);
-    let n = b.count;
-    moov_room(rt, line, b, &bytes[..n]);
+    moov_room(rt, line, b, &bytes[..b.count]);
 }
 
 // The answer to a recording.
@@ -125,17 +124,16 @@ fn recording_room(rt: &impl Print, line: &[u8], c: Cursor, timestamps: &[i64]) {
     }
     let mut starts = [0i64; 64];
     let mut work = [0i64; 64];
-    let n = lent::longs(&mut starts, x.count);
-    let m = lent::longs(&mut work, y.count);
+    let n = lent::fill(&mut starts, x.count);
+    let m = lent::fill(&mut work, y.count);
     recording_over(rt, timestamps, &mut starts[..n], &mut work[..m]);
 }
 
 // mcraw_times LONGS ROOM ROOM
 fn recording(rt: &impl Print, line: &[u8], c: Cursor) {
     let mut timestamps = [0i64; 64];
-    let t = read::longs(line, c, &mut timestamps);
-    let n = t.count;
-    recording_room(rt, line, t, &timestamps[..n]);
+    let t = read::list(line, c, &mut timestamps);
+    recording_room(rt, line, t, &timestamps[..t.count]);
 }
 
 // One case.

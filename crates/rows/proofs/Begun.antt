@@ -37,10 +37,6 @@ module _ {b : ℕ → ℕ} {n v : ℕ} where
       high = λ z. omega (arith, rising mid (lo + (left - left / 2)) (omega arith) z);
     }
 
-  -- one is left
-  pub halved-end : {lo left : ℕ} → Halved b n v lo left → left ≤ 1 → Halved b n v lo 1
-  halved-end {lo} h l = subst (λ (k : ℕ). Halved b n v lo k) (omega (arith, h.some)) h
-
 -- word `at` is the out first of the first of the rows that are left
 pub record Begun (u : List ℕ) (n frame at left : ℕ) : Type 0 where
   pub word : at % 5 ≡ 3
@@ -57,19 +53,5 @@ module _ {u : List ℕ} {n frame : ℕ} (o : OutsRise u n) where
     mid_row : at / 5 + left / 2 ≡ (at + 5 * (left / 2)) / 5
     mid_row = omega (arith, h.word)
 
-    pub begun-read : at + 5 * (left / 2) < length u
-    begun-read = omega (arith, h.word, h.rows.within, o.sizes)
-
-    pub begun-up : get_or u (at + 5 * (left / 2)) 0 ≤ frame → Begun u n frame (at + 5 * (left / 2)) (left - left / 2)
-    begun-up l = record { word = omega (arith, h.word); rows = halved-up h.rows few mid_row (omega (arith, mid-out)) }
-
     pub begun-down : frame < get_or u (at + 5 * (left / 2)) 0 → Begun u n frame at (left - left / 2)
     begun-down l = record { word = h.word; rows = halved-down h.rows few mid_row o.rising (omega (arith, mid-out)) }
-
-  pub begun-end : {at left : ℕ} → Begun u n frame at left → out_at u 0 ≤ frame → left ≤ 1 → LastBegun u n frame (at / 5)
-  begun-end {at} h f l =
-      let d = halved-end h.rows l in
-      record { within = omega (arith, d.within); low = low; high = d.high }
-    where
-      low : out_at u (at / 5) ≤ frame
-      low = ⊎_elim (λ (z : at / 5 ≤ 0). let e : 0 ≡ at / 5 = omega arith in subst (λ (k : ℕ). out_at u k ≤ frame) e f) (λ (z : 0 < at / 5). h.rows.low z) (le-or-lt (at / 5) 0)

@@ -12,12 +12,12 @@ use lib.ListN.{length}
 use borrow.Author.Tests.{lt-ltb, le-ltb, ltb-true, ltb-false}
 use Rattle.choice.proofs.Tests.{Test, was, wasnt, test, le-or-lt, same-ltb}
 use Rattle.rows.specs.declared.Row.{Row}
-use Rattle.rows.specs.Rows.{from, rowEnd, holds, originIn, origin, total, overlaps, clip, cut}
+use Rattle.rows.specs.Rows.{from, row_end, holds, origin_in, origin, total, overlaps, clip, cut}
 use Rattle.rows.specs.Demands.{Tiles}
 use Rattle.rows.proofs.Origins.{row-eq, holds-in, holds-before, holds_after, holds-lo, Place, inside, before, after, place}
 
 -- frame k of the cut has the origin of frame a + k
-clip-holds : (a b : ℕ) (r : Row) (k : ℕ) → k < b - a → max a r.out < min b (rowEnd r) → holds (clip a b r) k ≡ holds r (a + k)
+clip-holds : (a b : ℕ) (r : Row) (k : ℕ) → k < b - a → max a r.out < min b (row_end r) → holds (clip a b r) k ≡ holds r (a + k)
 clip-holds a b r k h o = go (place r (a + k))
   where
     go : Place r (a + k) → holds (clip a b r) k ≡ holds r (a + k)
@@ -25,10 +25,10 @@ clip-holds a b r k h o = go (place r (a + k))
     go (before u) = holds-before (clip a b r) k (omega arith) ∙ sym (holds-before r (a + k) u)
     go (after l) = holds_after (clip a b r) k (omega arith) ∙ sym (holds_after r (a + k) l)
 
-clip-origin : (a b : ℕ) (r : Row) (k : ℕ) → r.out ≤ a + k → originIn (clip a b r) k ≡ originIn r (a + k)
+clip-origin : (a b : ℕ) (r : Row) (k : ℕ) → r.out ≤ a + k → origin_in (clip a b r) k ≡ origin_in r (a + k)
 clip-origin a b r k h = let e : r.first + (a - r.out) + (k - (r.out - a)) ≡ r.first + (a + k - r.out) = omega arith in ap (λ (x : ℕ). from r.source x r.flag r.shift) e
 
-skip-holds : (a b : ℕ) (r : Row) (k : ℕ) → k < b - a → min b (rowEnd r) ≤ max a r.out → holds r (a + k) ≡ false
+skip-holds : (a b : ℕ) (r : Row) (k : ℕ) → k < b - a → min b (row_end r) ≤ max a r.out → holds r (a + k) ≡ false
 skip-holds a b r k h o = go (place r (a + k))
   where
     go : Place r (a + k) → holds r (a + k) ≡ false
@@ -40,8 +40,8 @@ pub cut-origin : (m : List Row) (a b k : ℕ) → k < b - a → origin (cut a b 
 cut-origin [] a b k h = refl
 cut-origin (r ∷ m) a b k h = go (test (overlaps a b r)) (cut-origin m a b k h)
   where
-    in_row : Test (holds r (a + k)) → max a r.out < min b (rowEnd r) → origin (cut a b m) k ≡ origin m (a + k)
-        → (if holds (clip a b r) k then originIn (clip a b r) k else origin (cut a b m) k) ≡ (if holds r (a + k) then originIn r (a + k) else origin m (a + k))
+    in_row : Test (holds r (a + k)) → max a r.out < min b (row_end r) → origin (cut a b m) k ≡ origin m (a + k)
+        → (if holds (clip a b r) k then origin_in (clip a b r) k else origin (cut a b m) k) ≡ (if holds r (a + k) then origin_in r (a + k) else origin m (a + k))
     in_row (was e) o ih = rw (clip-holds a b r k h o, e) (clip-origin a b r k (holds-lo r (a + k) e))
     in_row (wasnt e) o ih = rw (clip-holds a b r k h o, e) ih
 
@@ -89,24 +89,24 @@ module _ (a b c d o e : ℕ) (h : d ≤ b - a) where
   over-of p = omega arith
 
 module _ (a b c d : ℕ) (r : Row) (h : d ≤ b - a) where
-  clip-over : Over a b r.out (rowEnd r) → overlaps c d (clip a b r) ≡ overlaps (a + c) (a + d) r
+  clip-over : Over a b r.out (row_end r) → overlaps c d (clip a b r) ≡ overlaps (a + c) (a + d) r
   clip-over o =
-      rw (clip-end a b r.out (rowEnd r) o)
+      rw (clip-end a b r.out (row_end r) o)
       (ltb-same _ _ _ _
-      (λ p. over-lt _ _ _ _ (over-over a b c d r.out (rowEnd r) h o (over _ _ _ _ p)))
-      (λ p. over-lt _ _ _ _ (over-of a b c d r.out (rowEnd r) h (over _ _ _ _ p))))
+      (λ p. over-lt _ _ _ _ (over-over a b c d r.out (row_end r) h o (over _ _ _ _ p)))
+      (λ p. over-lt _ _ _ _ (over-of a b c d r.out (row_end r) h (over _ _ _ _ p))))
 
-  clip-none : min b (rowEnd r) ≤ max a r.out → overlaps (a + c) (a + d) r ≡ false
+  clip-none : min b (row_end r) ≤ max a r.out → overlaps (a + c) (a + d) r ≡ false
   clip-none o = go (test (overlaps (a + c) (a + d) r))
     where
       go : Test (overlaps (a + c) (a + d) r) → overlaps (a + c) (a + d) r ≡ false
-      go (was e) = let z = over-lt a b r.out (rowEnd r) (over-in a b c d r.out (rowEnd r) h (over _ _ _ _ (ltb-true _ _ e))) in absurd (omega arith)
+      go (was e) = let z = over-lt a b r.out (row_end r) (over-in a b c d r.out (row_end r) h (over _ _ _ _ (ltb-true _ _ e))) in absurd (omega arith)
       go (wasnt e) = e
 
-  clip-clip : Over a b r.out (rowEnd r) → clip c d (clip a b r) ≡ clip (a + c) (a + d) r
+  clip-clip : Over a b r.out (row_end r) → clip c d (clip a b r) ≡ clip (a + c) (a + d) r
   clip-clip o =
       row-eq (clip c d (clip a b r)) (clip (a + c) (a + d) r) refl (omega arith)
-      (rw (clip-end a b r.out (rowEnd r) o) (sub_same a _ _ _ _ (hi-same a b d (rowEnd r) o.ab o.ae h) (lo-same a c r.out)))
+      (rw (clip-end a b r.out (row_end r) o) (sub_same a _ _ _ _ (hi-same a b d (row_end r) o.ab o.ae h) (lo-same a c r.out)))
       (omega arith) refl refl
 
 pub cut-cut : (m : List Row) (a b c d : ℕ) → d ≤ b - a → cut c d (cut a b m) ≡ cut (a + c) (a + d) m
@@ -115,32 +115,32 @@ cut-cut (r ∷ m) a b c d h = go (test (overlaps a b r)) (cut-cut m a b c d h)
   where
     go : Test (overlaps a b r) → cut c d (cut a b m) ≡ cut (a + c) (a + d) m → cut c d (cut a b (r ∷ m)) ≡ cut (a + c) (a + d) (r ∷ m)
     go (was e) ih =
-        let o = over a b r.out (rowEnd r) (ltb-true _ _ e) in
+        let o = over a b r.out (row_end r) (ltb-true _ _ e) in
         rw (e, clip-over a b c d r h o, clip-clip a b c d r h o, ih)
     go (wasnt e) ih = rw (e, clip-none a b c d r h (ltb-false _ _ e)) ih
 
 -- no row from b on is kept
 pub cut-none : (m : List Row) (p a b : ℕ) → Tiles p m → b ≤ p → cut a b m ≡ []
 cut-none [] p a b t h = refl
-cut-none (r ∷ m) p a b t h = rw (le-ltb (max a r.out) (min b (rowEnd r)) (omega (arith, t.0))) (cut-none m (p + r.count) a b t.2 (omega arith))
+cut-none (r ∷ m) p a b t h = rw (le-ltb (max a r.out) (min b (row_end r)) (omega (arith, t.0))) (cut-none m (p + r.count) a b t.2 (omega arith))
 
 pub cut-tiles : (m : List Row) (p a b : ℕ) → Tiles p m → Tiles (p - a) (cut a b m)
 cut-tiles [] p a b t = tt
-cut-tiles (r ∷ m) p a b t = go (test (overlaps a b r)) (le-or-lt (rowEnd r) b) (cut-tiles m (p + r.count) a b t.2)
+cut-tiles (r ∷ m) p a b t = go (test (overlaps a b r)) (le-or-lt (row_end r) b) (cut-tiles m (p + r.count) a b t.2)
   where
-    none : b ≤ rowEnd r → cut a b m ≡ []
+    none : b ≤ row_end r → cut a b m ≡ []
     none h = cut-none m (p + r.count) a b t.2 (omega (arith, t.0))
 
-    go : Test (overlaps a b r) → (rowEnd r ≤ b) ⊎ (b < rowEnd r) → Tiles (p + r.count - a) (cut a b m) → Tiles (p - a) (cut a b (r ∷ m))
+    go : Test (overlaps a b r) → (row_end r ≤ b) ⊎ (b < row_end r) → Tiles (p + r.count - a) (cut a b m) → Tiles (p - a) (cut a b (r ∷ m))
     go (was e) (inl h) ih =
-        let o = over a b r.out (rowEnd r) (ltb-true _ _ e) in
-        let q : p + r.count - a ≡ p - a + (min b (rowEnd r) - max a r.out) = omega (arith, t.0, o.ae, o.oe) in
-        rw e (omega (arith, t.0), omega (arith, over-lt a b r.out (rowEnd r) o), rw q at ih)
+        let o = over a b r.out (row_end r) (ltb-true _ _ e) in
+        let q : p + r.count - a ≡ p - a + (min b (row_end r) - max a r.out) = omega (arith, t.0, o.ae, o.oe) in
+        rw e (omega (arith, t.0), omega (arith, over-lt a b r.out (row_end r) o), rw q at ih)
     go (was e) (inr h) ih =
-        let o = over a b r.out (rowEnd r) (ltb-true _ _ e) in
-        rw e (omega (arith, t.0), omega (arith, over-lt a b r.out (rowEnd r) o), rw (none (omega arith)) tt)
+        let o = over a b r.out (row_end r) (ltb-true _ _ e) in
+        rw e (omega (arith, t.0), omega (arith, over-lt a b r.out (row_end r) o), rw (none (omega arith)) tt)
     go (wasnt e) (inl h) ih =
-        let q : p + r.count - a ≡ p - a = omega (arith, t.0, t.1, ltb-false (max a r.out) (min b (rowEnd r)) e) in
+        let q : p + r.count - a ≡ p - a = omega (arith, t.0, t.1, ltb-false (max a r.out) (min b (row_end r)) e) in
         rw e (rw q at ih)
     go (wasnt e) (inr h) ih = rw (e, none (omega arith)) tt
 
@@ -162,10 +162,10 @@ cut-total-from (r ∷ m) p a b t = go (test (overlaps a b r)) (cut-total-from m 
   where
     go : Test (overlaps a b r) → total (cut a b m) ≡ min b (p + r.count + total m) - max a (p + r.count) → total (cut a b (r ∷ m)) ≡ min b (p + (r.count + total m)) - max a p
     go (was e) ih =
-        let o = over a b r.out (rowEnd r) (ltb-true _ _ e) in
+        let o = over a b r.out (row_end r) (ltb-true _ _ e) in
         rw (e, ih, t.0, ← (add_assoc p r.count (total m))) (sum-in a b p r.count (total m) (omega (arith, t.0, o.ae)) (omega (arith, t.0, o.ob)))
     go (wasnt e) ih =
-        let l : min b (p + r.count) ≤ max a p = rw t.0 at (ltb-false (max a r.out) (min b (rowEnd r)) e) in
+        let l : min b (p + r.count) ≤ max a p = rw t.0 at (ltb-false (max a r.out) (min b (row_end r)) e) in
         rw (e, ih, ← (add_assoc p r.count (total m))) (sum-out a b p r.count (total m) l t.1)
 
 pub cut-total : (m : List Row) (a b : ℕ) → Tiles 0 m → b ≤ total m → total (cut a b m) ≡ b - a
@@ -176,7 +176,7 @@ pub cut_all : (m : List Row) (p b : ℕ) → Tiles p m → p + total m ≤ b →
 cut_all [] p b t h = refl
 cut_all (r ∷ m) p b t h =
     let e : clip 0 b r ≡ r = row-eq (clip 0 b r) r refl (omega arith) (omega (arith, t.0)) (omega arith) refl refl in
-    rw (lt-ltb (max 0 r.out) (min b (rowEnd r)) (omega (arith, t.0, t.1)), e, cut_all m (p + r.count) b t.2 (omega arith))
+    rw (lt-ltb (max 0 r.out) (min b (row_end r)) (omega (arith, t.0, t.1)), e, cut_all m (p + r.count) b t.2 (omega arith))
 
 -- rows of cuts
 abbrev one : Bool → ℕ
@@ -206,30 +206,30 @@ cut_later (r ∷ m) p a b c t h l =
     length_cut b c r m ∙ rw (e, cut_later m (p + r.count) a b c t.2 h (omega arith)) (sym (length_cut a c r m))
 
 module _ (a b c : ℕ) (h : a ≤ b) (l : b ≤ c) (r : Row) where
-  ends-before : rowEnd r ≤ b → (overlaps b c r ≡ false) × (overlaps a b r ≡ overlaps a c r)
-  ends-before e = (le-ltb (max b r.out) (min c (rowEnd r)) (omega arith), ltb-same (max a r.out) (min b (rowEnd r)) (max a r.out) (min c (rowEnd r)) (λ x. omega arith) (λ x. omega arith))
+  ends-before : row_end r ≤ b → (overlaps b c r ≡ false) × (overlaps a b r ≡ overlaps a c r)
+  ends-before e = (le-ltb (max b r.out) (min c (row_end r)) (omega arith), ltb-same (max a r.out) (min b (row_end r)) (max a r.out) (min c (row_end r)) (λ x. omega arith) (λ x. omega arith))
 
   starts-after : b ≤ r.out → (overlaps a b r ≡ false) × (overlaps b c r ≡ overlaps a c r)
-  starts-after e = (le-ltb (max a r.out) (min b (rowEnd r)) (omega arith), ltb-same (max b r.out) (min c (rowEnd r)) (max a r.out) (min c (rowEnd r)) (λ x. omega arith) (λ x. omega arith))
+  starts-after e = (le-ltb (max a r.out) (min b (row_end r)) (omega arith), ltb-same (max b r.out) (min c (row_end r)) (max a r.out) (min c (row_end r)) (λ x. omega arith) (λ x. omega arith))
 
-  straddles : r.out < b → b < rowEnd r → one (overlaps a b r) + one (overlaps b c r) ≤ one (overlaps a c r) + 1
+  straddles : r.out < b → b < row_end r → one (overlaps a b r) + one (overlaps b c r) ≤ one (overlaps a c r) + 1
   straddles e f = go (test (overlaps a c r))
     where
       go : Test (overlaps a c r) → one (overlaps a b r) + one (overlaps b c r) ≤ one (overlaps a c r) + 1
       go (was x) = rw x (omega (arith, one-le (overlaps a b r), one-le (overlaps b c r)))
       go (wasnt x) =
-          let z = ltb-false (max a r.out) (min c (rowEnd r)) x in
-          let y : overlaps b c r ≡ false = le-ltb (max b r.out) (min c (rowEnd r)) (omega arith) in
+          let z = ltb-false (max a r.out) (min c (row_end r)) x in
+          let y : overlaps b c r ≡ false = le-ltb (max b r.out) (min c (row_end r)) (omega arith) in
           rw (x, y) (omega (arith, one-le (overlaps a b r)))
 
 pub cuts-rows : (m : List Row) (p a b c : ℕ) → Tiles p m → a ≤ b → b ≤ c → length (cut a b m) + length (cut b c m) ≤ length (cut a c m) + 1
 cuts-rows [] p a b c t h l = omega arith
-cuts-rows (r ∷ m) p a b c t h l = go (le-or-lt (rowEnd r) b) (le-or-lt b r.out) (cuts-rows m (p + r.count) a b c t.2 h l)
+cuts-rows (r ∷ m) p a b c t h l = go (le-or-lt (row_end r) b) (le-or-lt b r.out) (cuts-rows m (p + r.count) a b c t.2 h l)
   where
     sizes : (length (cut a b (r ∷ m)) ≡ one (overlaps a b r) + length (cut a b m)) × (length (cut b c (r ∷ m)) ≡ one (overlaps b c r) + length (cut b c m)) × (length (cut a c (r ∷ m)) ≡ one (overlaps a c r) + length (cut a c m))
     sizes = (length_cut a b r m, length_cut b c r m, length_cut a c r m)
 
-    go : (rowEnd r ≤ b) ⊎ (b < rowEnd r) → (b ≤ r.out) ⊎ (r.out < b) → length (cut a b m) + length (cut b c m) ≤ length (cut a c m) + 1
+    go : (row_end r ≤ b) ⊎ (b < row_end r) → (b ≤ r.out) ⊎ (r.out < b) → length (cut a b m) + length (cut b c m) ≤ length (cut a c m) + 1
         → length (cut a b (r ∷ m)) + length (cut b c (r ∷ m)) ≤ length (cut a c (r ∷ m)) + 1
     go (inl e) y ih =
         let x = ends-before a b c h l r e in

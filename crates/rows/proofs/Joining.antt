@@ -7,7 +7,7 @@ use mathlib.Core.Logic.{◌⊎◌, inl, inr}
 use mathlib.Core.Path.{◌≡◌, refl, sym, ◌∙◌, ap}
 use Rattle.choice.proofs.Tests.{le-or-lt}
 use Rattle.rows.specs.declared.Row.{Row}
-use Rattle.rows.specs.Rows.{rowEnd, holds, origin, total, cut, moved, join, merge}
+use Rattle.rows.specs.Rows.{row_end, holds, origin, total, cut, moved, join, merge}
 use Rattle.rows.specs.Demands.{Tiles}
 use Rattle.rows.proofs.Origins.{holds-in, holds-before, holds_after, Place, inside, before, after, place}
 use Rattle.rows.proofs.Cuts.{cut-origin, cut-tiles, cut-total}
@@ -37,9 +37,9 @@ join-tiles x y t v = append-tiles x (map (moved (total x)) y) 0 t (rw (zero-add 
 
 origin-left : (x y : List Row) (p k : ℕ) → Tiles p x → p ≤ k → k < p + total x → origin (x ++ y) k ≡ origin x k
 origin-left [] y p k t l h = absurd (omega arith)
-origin-left (r ∷ x) y p k t l h = go (le-or-lt (rowEnd r) k) (λ q. origin-left x y (p + r.count) k t.2 q (omega arith))
+origin-left (r ∷ x) y p k t l h = go (le-or-lt (row_end r) k) (λ q. origin-left x y (p + r.count) k t.2 q (omega arith))
   where
-    go : (rowEnd r ≤ k) ⊎ (k < rowEnd r) → (p + r.count ≤ k → origin (x ++ y) k ≡ origin x k) → origin (r ∷ x ++ y) k ≡ origin (r ∷ x) k
+    go : (row_end r ≤ k) ⊎ (k < row_end r) → (p + r.count ≤ k → origin (x ++ y) k ≡ origin x k) → origin (r ∷ x ++ y) k ≡ origin (r ∷ x) k
     go (inl u) f = rw (holds_after r k u) (f (omega (arith, t.0)))
     go (inr u) f = rw (holds-in r k (omega (arith, t.0)) u)
 

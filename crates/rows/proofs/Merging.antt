@@ -10,10 +10,10 @@ use lib.Dec.{eqb}
 use lib.ListN.{length}
 use borrow.Author.Tests.{eq-eqb, eqb-true}
 use Rattle.choice.proofs.Tests.{Test, was, wasnt, test, le-or-lt, and_left, and_right}
-use Rattle.signed.specs.Signed.{eqZ}
-use Rattle.signed.proofs.Order.{eqZ-true, eqZ-refl}
+use Rattle.signed.specs.Signed.{eq_z}
+use Rattle.signed.proofs.Order.{eq_z-true, eq_z-refl}
 use Rattle.rows.specs.declared.Row.{Row}
-use Rattle.rows.specs.Rows.{originIn, origin, total, runsOn, glue, mergeInto, merge}
+use Rattle.rows.specs.Rows.{origin_in, origin, total, runs_on, glue, merge_into, merge}
 use Rattle.rows.specs.Demands.{Tiles}
 use Rattle.rows.proofs.Origins.{row-eq, holds-in, holds-before, holds_after, Place, inside, before, after, place, origin-first, origin-rest}
 
@@ -24,28 +24,28 @@ pub record RunsOn (r s : Row) : Type 0 where
   pub flag : r.flag ≡ s.flag
   pub shift : r.shift ≡ s.shift
 
-pub runs_on : (r s : Row) → runsOn r s ≡ true → RunsOn r s
-runs_on r s e =
+pub runs_on-true : (r s : Row) → runs_on r s ≡ true → RunsOn r s
+runs_on-true r s e =
     let p = eqb r.source s.source in
     let q = eqb (r.first + r.count) s.first in
     let u = eqb r.flag s.flag in
-    let v = eqZ r.shift s.shift in
+    let v = eq_z r.shift s.shift in
     let e₁ = and_left (p && q && u) v e in
     let e₂ = and_left (p && q) u e₁ in
     record {
       source = eqb-true r.source s.source (and_left p q e₂);
       first = eqb-true (r.first + r.count) s.first (and_right p q e₂);
       flag = eqb-true r.flag s.flag (and_right (p && q) u e₁);
-      shift = eqZ-true r.shift s.shift (and_right (p && q && u) v e);
+      shift = eq_z-true r.shift s.shift (and_right (p && q && u) v e);
     }
 
-runs-on-yes : (r s : Row) → RunsOn r s → runsOn r s ≡ true
-runs-on-yes r s o = simp (eq-eqb r.source s.source o.source, eq-eqb (r.first + r.count) s.first o.first, eq-eqb r.flag s.flag o.flag, o.shift, eqZ-refl)
+runs-on-yes : (r s : Row) → RunsOn r s → runs_on r s ≡ true
+runs-on-yes r s o = simp (eq-eqb r.source s.source o.source, eq-eqb (r.first + r.count) s.first o.first, eq-eqb r.flag s.flag o.flag, o.shift, eq_z-refl)
 
 glue-origin : (c r : Row) (m : List Row) (p k : ℕ) → Tiles p (c ∷ r ∷ m) → RunsOn c r → origin (glue c r ∷ m) k ≡ origin (c ∷ r ∷ m) k
 glue-origin c r m p k t o = go (place c k) (place r k)
   where
-    same : c.out ≤ k → c.out + c.count ≤ k → originIn (glue c r) k ≡ originIn r k
+    same : c.out ≤ k → c.out + c.count ≤ k → origin_in (glue c r) k ≡ origin_in r k
     same l u =
         let e : c.first + (k - c.out) ≡ r.first + (k - r.out) = omega (arith, t.0, t.2.0, o.first) in
         cc (o.source, o.flag, o.shift)
@@ -62,38 +62,38 @@ glue-origin c r m p k t o = go (place c k) (place r k)
 glue-tiles : (c r : Row) (m : List Row) (p : ℕ) → Tiles p (c ∷ r ∷ m) → Tiles p (glue c r ∷ m)
 glue-tiles c r m p t = (t.0, omega (arith, t.1), rw (sym (add_assoc p c.count r.count)) t.2.2)
 
-pub mergeInto-origin : (m : List Row) (c : Row) (p k : ℕ) → Tiles p (c ∷ m) → origin (mergeInto c m) k ≡ origin (c ∷ m) k
-mergeInto-origin [] c p k t = refl
-mergeInto-origin (r ∷ m) c p k t = go (test (runsOn c r)) (mergeInto-origin m (glue c r) p k) (mergeInto-origin m r (p + c.count) k)
+pub merge_into-origin : (m : List Row) (c : Row) (p k : ℕ) → Tiles p (c ∷ m) → origin (merge_into c m) k ≡ origin (c ∷ m) k
+merge_into-origin [] c p k t = refl
+merge_into-origin (r ∷ m) c p k t = go (test (runs_on c r)) (merge_into-origin m (glue c r) p k) (merge_into-origin m r (p + c.count) k)
   where
-    go : Test (runsOn c r) → (Tiles p (glue c r ∷ m) → origin (mergeInto (glue c r) m) k ≡ origin (glue c r ∷ m) k)
-        → (Tiles (p + c.count) (r ∷ m) → origin (mergeInto r m) k ≡ origin (r ∷ m) k)
-        → origin (mergeInto c (r ∷ m)) k ≡ origin (c ∷ r ∷ m) k
-    go (was e) f g = rw e (f (glue-tiles c r m p t) ∙ glue-origin c r m p k t (runs_on c r e))
+    go : Test (runs_on c r) → (Tiles p (glue c r ∷ m) → origin (merge_into (glue c r) m) k ≡ origin (glue c r ∷ m) k)
+        → (Tiles (p + c.count) (r ∷ m) → origin (merge_into r m) k ≡ origin (r ∷ m) k)
+        → origin (merge_into c (r ∷ m)) k ≡ origin (c ∷ r ∷ m) k
+    go (was e) f g = rw e (f (glue-tiles c r m p t) ∙ glue-origin c r m p k t (runs_on-true c r e))
     go (wasnt e) f g = rw (e, g t.2)
 
-pub mergeInto-tiles : (m : List Row) (c : Row) (p : ℕ) → Tiles p (c ∷ m) → Tiles p (mergeInto c m)
-mergeInto-tiles [] c p t = t
-mergeInto-tiles (r ∷ m) c p t = go (test (runsOn c r)) (mergeInto-tiles m (glue c r) p) (mergeInto-tiles m r (p + c.count))
+pub merge_into-tiles : (m : List Row) (c : Row) (p : ℕ) → Tiles p (c ∷ m) → Tiles p (merge_into c m)
+merge_into-tiles [] c p t = t
+merge_into-tiles (r ∷ m) c p t = go (test (runs_on c r)) (merge_into-tiles m (glue c r) p) (merge_into-tiles m r (p + c.count))
   where
-    go : Test (runsOn c r) → (Tiles p (glue c r ∷ m) → Tiles p (mergeInto (glue c r) m)) → (Tiles (p + c.count) (r ∷ m) → Tiles (p + c.count) (mergeInto r m))
-        → Tiles p (mergeInto c (r ∷ m))
+    go : Test (runs_on c r) → (Tiles p (glue c r ∷ m) → Tiles p (merge_into (glue c r) m)) → (Tiles (p + c.count) (r ∷ m) → Tiles (p + c.count) (merge_into r m))
+        → Tiles p (merge_into c (r ∷ m))
     go (was e) f g = rw e (f (glue-tiles c r m p t))
     go (wasnt e) f g = rw e (t.0, t.1, g t.2)
 
-pub mergeInto-total : (m : List Row) (c : Row) → total (mergeInto c m) ≡ c.count + total m
-mergeInto-total [] c = refl
-mergeInto-total (r ∷ m) c = go (test (runsOn c r)) (mergeInto-total m (glue c r)) (mergeInto-total m r)
+pub merge_into-total : (m : List Row) (c : Row) → total (merge_into c m) ≡ c.count + total m
+merge_into-total [] c = refl
+merge_into-total (r ∷ m) c = go (test (runs_on c r)) (merge_into-total m (glue c r)) (merge_into-total m r)
   where
-    go : Test (runsOn c r) → total (mergeInto (glue c r) m) ≡ c.count + r.count + total m → total (mergeInto r m) ≡ r.count + total m
-        → total (mergeInto c (r ∷ m)) ≡ c.count + total (r ∷ m)
+    go : Test (runs_on c r) → total (merge_into (glue c r) m) ≡ c.count + r.count + total m → total (merge_into r m) ≡ r.count + total m
+        → total (merge_into c (r ∷ m)) ≡ c.count + total (r ∷ m)
     go (was e) f g = rw e (omega arith)
     go (wasnt e) f g = rw (e, g)
 
 -- no row of m continues the one before it, row c before the first
 abbrev Apart : Row → List Row → Type 0
 Apart c [] = Unit
-Apart c (r ∷ m) = (runsOn c r ≡ false) × Apart r m
+Apart c (r ∷ m) = (runs_on c r ≡ false) × Apart r m
 
 -- a merged list begins with the row that it grew from, and its rows are apart
 record Grown (c : Row) (l : List Row) : Type 0 where
@@ -106,16 +106,16 @@ record Grown (c : Row) (l : List Row) : Type 0 where
   shift : head.shift ≡ c.shift
   apart : Apart head tail
 
-grown : (m : List Row) (c : Row) → Grown c (mergeInto c m)
+grown : (m : List Row) (c : Row) → Grown c (merge_into c m)
 grown [] c = record { head = c; tail = []; is = refl; source = refl; first = refl; flag = refl; shift = refl; apart = tt }
-grown (r ∷ m) c = go (test (runsOn c r)) (grown m (glue c r)) (grown m r)
+grown (r ∷ m) c = go (test (runs_on c r)) (grown m (glue c r)) (grown m r)
   where
-    go : Test (runsOn c r) → Grown (glue c r) (mergeInto (glue c r) m) → Grown r (mergeInto r m) → Grown c (mergeInto c (r ∷ m))
+    go : Test (runs_on c r) → Grown (glue c r) (merge_into (glue c r) m) → Grown r (merge_into r m) → Grown c (merge_into c (r ∷ m))
     go (was e) f g = record { head = f.head; tail = f.tail; is = rw e f.is; source = f.source; first = f.first; flag = f.flag; shift = f.shift; apart = f.apart }
     go (wasnt e) f g =
         record {
           head = c;
-          tail = mergeInto r m;
+          tail = merge_into r m;
           is = rw e;
           source = refl;
           first = refl;
@@ -131,7 +131,7 @@ record Alike (c d : Row) (k : ℕ) : Type 0 where
   flag : c.flag ≡ d.flag
   shift : c.shift ≡ d.shift
 
-alike : (c d : Row) (k : ℕ) → originIn c k ≡ originIn d k → Alike c d k
+alike : (c d : Row) (k : ℕ) → origin_in c k ≡ origin_in d k → Alike c d k
 alike c d k e = record { source = cc; first = cc; flag = cc; shift = cc }
 
 SameFrom : ℕ → List Row → List Row → Type 0
@@ -144,7 +144,7 @@ unfolding SameFrom
 shorter [] l c d p t v a e f s h = omega arith
 shorter (r ∷ m) l c d p t v a e f s h =
     let k = p + c.count in
-    let o : originIn r k ≡ originIn d k =
+    let o : origin_in r k ≡ origin_in d k =
     sym (origin-first r m k k t.2 (omega arith) (omega (arith, t.2.1)))
     ∙ sym (origin-rest c (r ∷ m) k (omega (arith, t.0)))
     ∙ f k (omega arith) (omega (arith, t.2.1))
@@ -204,18 +204,18 @@ same-origins (c ∷ m) (d ∷ l) t v e f =
     let h = grown l d in
     let o : SameFrom 0 (g.head ∷ g.tail) (h.head ∷ h.tail) = λ k lo hi.
     ap (λ (x : List Row). origin x k) (sym g.is)
-    ∙ mergeInto-origin m c 0 k t
-    ∙ f k (omega (arith, ap total g.is, mergeInto-total m c))
-    ∙ sym (mergeInto-origin l d 0 k v)
+    ∙ merge_into-origin m c 0 k t
+    ∙ f k (omega (arith, ap total g.is, merge_into-total m c))
+    ∙ sym (merge_into-origin l d 0 k v)
     ∙ ap (λ (x : List Row). origin x k) h.is in
     g.is
-    ∙ merged-unique g.tail h.tail g.head h.head 0 (rw g.is at (mergeInto-tiles m c 0 t)) (rw h.is at (mergeInto-tiles l d 0 v)) g.apart h.apart
-    (omega (arith, ap total g.is, ap total h.is, mergeInto-total m c, mergeInto-total l d)) o
+    ∙ merged-unique g.tail h.tail g.head h.head 0 (rw g.is at (merge_into-tiles m c 0 t)) (rw h.is at (merge_into-tiles l d 0 v)) g.apart h.apart
+    (omega (arith, ap total g.is, ap total h.is, merge_into-total m c, merge_into-total l d)) o
     ∙ sym h.is
 
 pub merge-origin : (m : List Row) (k : ℕ) → Tiles 0 m → origin (merge m) k ≡ origin m k
 merge-origin [] k t = refl
-merge-origin (c ∷ m) k t = mergeInto-origin m c 0 k t
+merge-origin (c ∷ m) k t = merge_into-origin m c 0 k t
 
 pub merge-same : (m l : List Row) → Tiles 0 m → Tiles 0 l → total m ≡ total l
     → (merge m ≡ merge l) ↔ ((k : ℕ) → k < total m → origin m k ≡ origin l k)
@@ -225,7 +225,7 @@ merge-same m l t v e = (
 )
 
 -- rows that are apart are merged already
-merge-apart : (m : List Row) (c : Row) → Apart c m → mergeInto c m ≡ c ∷ m
+merge-apart : (m : List Row) (c : Row) → Apart c m → merge_into c m ≡ c ∷ m
 merge-apart [] c a = refl
 merge-apart (r ∷ m) c a = rw (a.0, merge-apart m r a.1)
 
@@ -233,30 +233,30 @@ pub merge-merge : (m : List Row) → merge (merge m) ≡ merge m
 merge-merge [] = refl
 merge-merge (c ∷ m) = let g = grown m c in ap merge g.is ∙ merge-apart g.tail g.head g.apart ∙ sym g.is
 
-mergeInto-rows : (m : List Row) (c : Row) → length (mergeInto c m) ≤ suc (length m)
-mergeInto-rows [] c = omega arith
-mergeInto-rows (r ∷ m) c = go (test (runsOn c r)) (mergeInto-rows m (glue c r)) (mergeInto-rows m r)
+merge_into-rows : (m : List Row) (c : Row) → length (merge_into c m) ≤ suc (length m)
+merge_into-rows [] c = omega arith
+merge_into-rows (r ∷ m) c = go (test (runs_on c r)) (merge_into-rows m (glue c r)) (merge_into-rows m r)
   where
-    go : Test (runsOn c r) → length (mergeInto (glue c r) m) ≤ suc (length m) → length (mergeInto r m) ≤ suc (length m) → length (mergeInto c (r ∷ m)) ≤ suc (suc (length m))
+    go : Test (runs_on c r) → length (merge_into (glue c r) m) ≤ suc (length m) → length (merge_into r m) ≤ suc (length m) → length (merge_into c (r ∷ m)) ≤ suc (suc (length m))
     go (was e) f g = rw e (omega arith)
     go (wasnt e) f g = rw e (omega arith)
 
 pub merge-rows : (m : List Row) → length (merge m) ≤ length m
 merge-rows [] = omega arith
-merge-rows (c ∷ m) = mergeInto-rows m c
+merge-rows (c ∷ m) = merge_into-rows m c
 
 pub merge-total : (m : List Row) → total (merge m) ≡ total m
 merge-total [] = refl
-merge-total (c ∷ m) = mergeInto-total m c
+merge-total (c ∷ m) = merge_into-total m c
 
 -- rows whose flags differ give different origins, and neither continues the other
-pub flags-differ : (r s : Row) (j k : ℕ) → (r.flag ≡ s.flag → ⊥) → (originIn r j ≡ originIn s k → ⊥) × (runsOn r s ≡ false) × (runsOn s r ≡ false)
+pub flags-differ : (r s : Row) (j k : ℕ) → (r.flag ≡ s.flag → ⊥) → (origin_in r j ≡ origin_in s k → ⊥) × (runs_on r s ≡ false) × (runs_on s r ≡ false)
 flags-differ r s j k d = (
   λ e. d (cc (e)),
-  go r s d (test (runsOn r s)),
-  go s r (λ e. d (sym e)) (test (runsOn s r)),
+  go r s d (test (runs_on r s)),
+  go s r (λ e. d (sym e)) (test (runs_on s r)),
 )
   where
-    go : (r s : Row) → (r.flag ≡ s.flag → ⊥) → Test (runsOn r s) → runsOn r s ≡ false
-    go r s d (was e) = absurd (d (runs_on r s e).flag)
+    go : (r s : Row) → (r.flag ≡ s.flag → ⊥) → Test (runs_on r s) → runs_on r s ≡ false
+    go r s d (was e) = absurd (d (runs_on-true r s e).flag)
     go r s d (wasnt e) = e

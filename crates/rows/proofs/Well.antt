@@ -8,52 +8,52 @@ use mathlib.Core.Path.{◌≡◌, sym, ◌∙◌, ap}
 use mathlib.Core.Logic.{◌⊎◌, inl, inr}
 use lib.Dec.{ltb, eqb}
 use borrow.Author.Tests.{lt-ltb, le-ltb, eq-eqb, ltb-true, ltb-false, eqb-true, not-true}
-use Rattle.choice.specs.Choice.{past, maxU64}
+use Rattle.choice.specs.Choice.{past, max_u64}
 use Rattle.choice.proofs.Chains.{past-not}
 use Rattle.choice.proofs.Tests.{Test, was, wasnt, test, le-or-lt, and_left, and_right}
 use Rattle.rows.specs.declared.Row.{Row}
-use Rattle.rows.specs.Rows.{rowEnd, total, okShift, okRow, WellFrom, WellFormed, overlaps, clip, cut, moved, join, runsOn, glue, mergeInto, merge}
+use Rattle.rows.specs.Rows.{row_end, total, ok_shift, ok_row, WellFrom, WellFormed, overlaps, clip, cut, moved, join, runs_on, glue, merge_into, merge}
 use Rattle.rows.specs.Demands.{Tiles}
 use Rattle.rows.proofs.Cuts.{Over, over, cut-none}
-use Rattle.rows.proofs.Merging.{RunsOn, runs_on}
+use Rattle.rows.proofs.Merging.{RunsOn, runs_on-true}
 
 -- a well-formed row but for its flag and shift, in numbers
 pub record Ok (p : ℕ) (r : Row) : Type 0 where
   pub some : 0 < r.count
-  pub source : r.first + r.count ≤ maxU64
-  pub last : rowEnd r ≤ maxU64
+  pub source : r.first + r.count ≤ max_u64
+  pub last : row_end r ≤ max_u64
   pub out : r.out ≡ p
 
 not-past : (a b m : ℕ) → a + b ≤ m → not (past a b m) ≡ true
 unfolding past
 not-past a b m h = ap not (le-ltb m (a + b) h)
 
-pub ok-shift : (p : ℕ) (r : Row) → Ok p r → okRow p r ≡ okShift r
+pub ok-shift : (p : ℕ) (r : Row) → Ok p r → ok_row p r ≡ ok_shift r
 ok-shift p r o =
     simp (
       lt-ltb 0 r.count o.some,
-      not-past r.first r.count maxU64 o.source,
-      not-past r.out r.count maxU64 o.last,
+      not-past r.first r.count max_u64 o.source,
+      not-past r.out r.count max_u64 o.last,
       eq-eqb r.out p o.out,
     )
 
-pub ok-facts : (p : ℕ) (r : Row) → okRow p r ≡ true → Ok p r
+pub ok-facts : (p : ℕ) (r : Row) → ok_row p r ≡ true → Ok p r
 ok-facts p r e =
     let a = ltb 0 r.count in
-    let b = not (past r.first r.count maxU64) in
-    let c = not (past r.out r.count maxU64) in
+    let b = not (past r.first r.count max_u64) in
+    let c = not (past r.out r.count max_u64) in
     let d = eqb r.out p in
-    let e₁ = and_left (a && b && c && d) (okShift r) e in
+    let e₁ = and_left (a && b && c && d) (ok_shift r) e in
     let e₂ = and_left (a && b && c) d e₁ in
     let e₃ = and_left (a && b) c e₂ in
     record {
       some = ltb-true 0 r.count (and_left a b e₃);
-      source = past-not r.first r.count maxU64 (not-true _ (and_right a b e₃));
-      last = past-not r.out r.count maxU64 (not-true _ (and_right (a && b) c e₂));
+      source = past-not r.first r.count max_u64 (not-true _ (and_right a b e₃));
+      last = past-not r.out r.count max_u64 (not-true _ (and_right (a && b) c e₂));
       out = eqb-true r.out p (and_right (a && b && c) d e₁);
     }
 
-pub ok-shifted : (p : ℕ) (r : Row) → okRow p r ≡ true → okShift r ≡ true
+pub ok-shifted : (p : ℕ) (r : Row) → ok_row p r ≡ true → ok_shift r ≡ true
 ok-shifted p r e = sym (ok-shift p r (ok-facts p r e)) ∙ e
 
 pub well-tiles : (m : List Row) (p : ℕ) → WellFrom p m → Tiles p m
@@ -61,12 +61,12 @@ well-tiles [] p w = tt
 well-tiles (r ∷ m) p w = let o = ok-facts p r w.0 in (o.out, o.some, well-tiles m (p + r.count) w.1)
 
 -- a map's frames are no more than the largest number
-pub well-total : (m : List Row) (p : ℕ) → WellFrom p m → p ≤ maxU64 → p + total m ≤ maxU64
+pub well-total : (m : List Row) (p : ℕ) → WellFrom p m → p ≤ max_u64 → p + total m ≤ max_u64
 well-total [] p w h = omega arith
 well-total (r ∷ m) p w h = let o = ok-facts p r w.0 in let i = well-total m (p + r.count) w.1 (omega (arith, o.last, o.out)) in omega arith
 
 -- a cut of a well-formed map is well formed
-clip-ok : (p a b : ℕ) (r : Row) → okRow p r ≡ true → Over a b r.out (rowEnd r) → okRow (p - a) (clip a b r) ≡ true
+clip-ok : (p a b : ℕ) (r : Row) → ok_row p r ≡ true → Over a b r.out (row_end r) → ok_row (p - a) (clip a b r) ≡ true
 clip-ok p a b r e v =
     let o = ok-facts p r e in
     let k : Ok (p - a) (clip a b r) = record {
@@ -79,56 +79,56 @@ clip-ok p a b r e v =
 
 pub cut-well : (m : List Row) (p a b : ℕ) → WellFrom p m → WellFrom (p - a) (cut a b m)
 cut-well [] p a b w = tt
-cut-well (r ∷ m) p a b w = go (test (overlaps a b r)) (le-or-lt (rowEnd r) b) (cut-well m (p + r.count) a b w.1)
+cut-well (r ∷ m) p a b w = go (test (overlaps a b r)) (le-or-lt (row_end r) b) (cut-well m (p + r.count) a b w.1)
   where
     o : Ok p r
     o = ok-facts p r w.0
 
-    none : b ≤ rowEnd r → cut a b m ≡ []
+    none : b ≤ row_end r → cut a b m ≡ []
     none h = cut-none m (p + r.count) a b (well-tiles m (p + r.count) w.1) (omega (arith, o.out))
 
-    go : Test (overlaps a b r) → (rowEnd r ≤ b) ⊎ (b < rowEnd r) → WellFrom (p + r.count - a) (cut a b m) → WellFrom (p - a) (cut a b (r ∷ m))
+    go : Test (overlaps a b r) → (row_end r ≤ b) ⊎ (b < row_end r) → WellFrom (p + r.count - a) (cut a b m) → WellFrom (p - a) (cut a b (r ∷ m))
     go (was e) (inl h) ih =
-        let v = over a b r.out (rowEnd r) (ltb-true _ _ e) in
-        let q : p + r.count - a ≡ p - a + (min b (rowEnd r) - max a r.out) = omega (arith, o.out, v.ae, v.oe) in
+        let v = over a b r.out (row_end r) (ltb-true _ _ e) in
+        let q : p + r.count - a ≡ p - a + (min b (row_end r) - max a r.out) = omega (arith, o.out, v.ae, v.oe) in
         rw e (clip-ok p a b r w.0 v, rw q at ih)
     go (was e) (inr h) ih =
-        let v = over a b r.out (rowEnd r) (ltb-true _ _ e) in
+        let v = over a b r.out (row_end r) (ltb-true _ _ e) in
         rw e (clip-ok p a b r w.0 v, rw (none (omega arith)) tt)
     go (wasnt e) (inl h) ih =
-        let q : p + r.count - a ≡ p - a = omega (arith, o.out, o.some, ltb-false (max a r.out) (min b (rowEnd r)) e) in
+        let q : p + r.count - a ≡ p - a = omega (arith, o.out, o.some, ltb-false (max a r.out) (min b (row_end r)) e) in
         rw e (rw q at ih)
     go (wasnt e) (inr h) ih = rw (e, none (omega arith)) tt
 
 -- a merge of a well-formed map is well formed
-glue-ok : (p : ℕ) (c r : Row) → okRow p c ≡ true → okRow (p + c.count) r ≡ true → RunsOn c r → okRow p (glue c r) ≡ true
+glue-ok : (p : ℕ) (c r : Row) → ok_row p c ≡ true → ok_row (p + c.count) r ≡ true → RunsOn c r → ok_row p (glue c r) ≡ true
 glue-ok p c r e f v =
     let o = ok-facts p c e in
     let q = ok-facts (p + c.count) r f in
     let k : Ok p (glue c r) = record { out = o.out; some = omega (arith, o.some); source = omega (arith, q.source, v.first); last = omega (arith, q.last, q.out, o.out) } in
     ok-shift p (glue c r) k ∙ ok-shifted p c e
 
-pub mergeInto-well : (m : List Row) (c : Row) (p : ℕ) → WellFrom p (c ∷ m) → WellFrom p (mergeInto c m)
-mergeInto-well [] c p w = w
-mergeInto-well (r ∷ m) c p w = go (test (runsOn c r)) (mergeInto-well m (glue c r) p) (mergeInto-well m r (p + c.count))
+pub merge_into-well : (m : List Row) (c : Row) (p : ℕ) → WellFrom p (c ∷ m) → WellFrom p (merge_into c m)
+merge_into-well [] c p w = w
+merge_into-well (r ∷ m) c p w = go (test (runs_on c r)) (merge_into-well m (glue c r) p) (merge_into-well m r (p + c.count))
   where
-    go : Test (runsOn c r) → (WellFrom p (glue c r ∷ m) → WellFrom p (mergeInto (glue c r) m)) → (WellFrom (p + c.count) (r ∷ m) → WellFrom (p + c.count) (mergeInto r m))
-        → WellFrom p (mergeInto c (r ∷ m))
-    go (was e) f g = rw e (f (glue-ok p c r w.0 w.1.0 (runs_on c r e), rw (sym (add_assoc p c.count r.count)) w.1.1))
+    go : Test (runs_on c r) → (WellFrom p (glue c r ∷ m) → WellFrom p (merge_into (glue c r) m)) → (WellFrom (p + c.count) (r ∷ m) → WellFrom (p + c.count) (merge_into r m))
+        → WellFrom p (merge_into c (r ∷ m))
+    go (was e) f g = rw e (f (glue-ok p c r w.0 w.1.0 (runs_on-true c r e), rw (sym (add_assoc p c.count r.count)) w.1.1))
     go (wasnt e) f g = rw e (w.0, g w.1)
 
 pub merge-well : (m : List Row) → WellFormed m → WellFormed (merge m)
 merge-well [] w = w
-merge-well (c ∷ m) w = mergeInto-well m c 0 w
+merge-well (c ∷ m) w = merge_into-well m c 0 w
 
 -- a join of two well-formed maps is well formed where its frames stay below 2^64
-moved_ok : (d p : ℕ) (r : Row) → okRow p r ≡ true → d + rowEnd r ≤ maxU64 → okRow (d + p) (moved d r) ≡ true
+moved_ok : (d p : ℕ) (r : Row) → ok_row p r ≡ true → d + row_end r ≤ max_u64 → ok_row (d + p) (moved d r) ≡ true
 moved_ok d p r e h =
     let o = ok-facts p r e in
     let k : Ok (d + p) (moved d r) = record { out = ap (λ (x : ℕ). d + x) o.out; some = o.some; source = o.source; last = omega arith } in
     ok-shift (d + p) (moved d r) k ∙ ok-shifted p r e
 
-moved-well : (y : List Row) (d q : ℕ) → WellFrom q y → d + (q + total y) ≤ maxU64 → WellFrom (d + q) (map (moved d) y)
+moved-well : (y : List Row) (d q : ℕ) → WellFrom q y → d + (q + total y) ≤ max_u64 → WellFrom (d + q) (map (moved d) y)
 moved-well [] d q w h = tt
 moved-well (r ∷ y) d q w h =
     let o = ok-facts q r w.0 in
@@ -138,7 +138,7 @@ append-well : (x y : List Row) (p : ℕ) → WellFrom p x → WellFrom (p + tota
 append-well [] y p w v = rw (add-zero p) at v
 append-well (r ∷ x) y p w v = (w.0, append-well x y (p + r.count) w.1 (rw (add_assoc p r.count (total x)) v))
 
-pub join-well : (x y : List Row) → WellFormed x → WellFormed y → total x + total y ≤ maxU64 → WellFormed (join x y)
+pub join-well : (x y : List Row) → WellFormed x → WellFormed y → total x + total y ≤ max_u64 → WellFormed (join x y)
 join-well x y w v h =
     let m : WellFrom (total x + 0) (map (moved (total x)) y) = moved-well y (total x) 0 v (omega arith) in
     let z : total x + 0 ≡ 0 + total x = omega arith in

@@ -1,8 +1,8 @@
 -- WHAT IS PROVED OF FRAME MAPS (demand 3), over the definitions of Rows. `demanded`, in proofs/Demanded.antt, proves every line.
 use Rattle.std.specs.Prelude.{ℕ, ◌+◌, ◌-◌, ◌≤◌, ◌<◌, true, false, List, [], ◌∷◌, ◌↔◌, ◌≡◌, pos, length, get_or}
-use Rattle.choice.specs.Choice.{maxU64}
+use Rattle.choice.specs.Choice.{max_u64}
 use Rattle.rows.specs.declared.Row.{Row}
-use Rattle.rows.specs.Rows.{total, WellFormed, nowhere, holds, originIn, origin, cut, join, runsOn, merge}
+use Rattle.rows.specs.Rows.{total, WellFormed, nowhere, holds, origin_in, origin, cut, join, runs_on, merge}
 
 -- what stands past the end of a map, which no row is
 abbrev pub no_row : Row
@@ -19,7 +19,7 @@ pub record OneRow (m : List Row) (k : ℕ) : Type 0 where
   pub within : index < length m
   pub here : holds (get_or m index no_row) k ≡ true
   pub only : (j : ℕ) → j < length m → holds (get_or m j no_row) k ≡ true → j ≡ index
-  pub gives : origin m k ≡ originIn (get_or m index no_row) k
+  pub gives : origin m k ≡ origin_in (get_or m index no_row) k
 
 -- two maps give every frame the same origin
 abbrev pub SameOrigins : List Row → List Row → Type 0
@@ -27,7 +27,7 @@ SameOrigins m l = (k : ℕ) → k < total m → origin m k ≡ origin l k
 
 pub record Demands : Type 0 where
   -- A well-formed map's rows tile 0..total, and it has at most 2^64 - 1 frames.
-  pub tiles : (m : List Row) → WellFormed m → Tiles 0 m × (total m ≤ maxU64)
+  pub tiles : (m : List Row) → WellFormed m → Tiles 0 m × (total m ≤ max_u64)
   -- Each of its frames lies in exactly one row, which gives its one origin; a frame past the map has none.
   pub one-row : (m : List Row) (k : ℕ) → WellFormed m → k < total m → OneRow m k
   pub past-map : (m : List Row) (k : ℕ) → WellFormed m → total m ≤ k → origin m k ≡ nowhere
@@ -40,7 +40,7 @@ pub record Demands : Type 0 where
   -- A cut of a cut is, row for row, the one cut of the combined range.
   pub cut-cut : (m : List Row) (a b c d : ℕ) → d ≤ b - a → cut c d (cut a b m) ≡ cut (a + c) (a + d) m
   -- A join is well formed with the sum of frames, where that is no more than 2^64 - 1; its origins are those of the first map, then of the second.
-  pub join-well : (x y : List Row) → WellFormed x → WellFormed y → total x + total y ≤ maxU64 → WellFormed (join x y)
+  pub join-well : (x y : List Row) → WellFormed x → WellFormed y → total x + total y ≤ max_u64 → WellFormed (join x y)
   pub join-total : (x y : List Row) → total (join x y) ≡ total x + total y
   pub join_first : (x y : List Row) (k : ℕ) → WellFormed x → k < total x → origin (join x y) k ≡ origin x k
   pub join-second : (x y : List Row) (k : ℕ) → WellFormed x → origin (join x y) (total x + k) ≡ origin y k
@@ -52,7 +52,7 @@ pub record Demands : Type 0 where
   -- Two maps of equally many frames merge to the same rows exactly when every frame has the same origin.
   pub merge-same : (m l : List Row) → WellFormed m → WellFormed l → total m ≡ total l → (merge m ≡ merge l) ↔ SameOrigins m l
   -- An absent shift isn't a shift of 0: where the flags differ so do the origins, and neither row continues the other, even where the shifts are equal.
-  pub absent : (r s : Row) (j k : ℕ) → r.flag ≡ 0 → s.flag ≡ 1 → (originIn r j ≡ originIn s k → ⊥) × (runsOn r s ≡ false) × (runsOn s r ≡ false)
+  pub absent : (r s : Row) (j k : ℕ) → r.flag ≡ 0 → s.flag ≡ 1 → (origin_in r j ≡ origin_in s k → ⊥) × (runs_on r s ≡ false) × (runs_on s r ≡ false)
   -- Two neighbouring cuts joined and merged are the merged cut of the whole; together they have at most one row more than it.
   pub join-cuts : (m : List Row) (a b c : ℕ) → WellFormed m → a ≤ b → b ≤ c → c ≤ total m → merge (join (cut a b m) (cut b c m)) ≡ merge (cut a c m)
   pub join-cuts-rows : (m : List Row) (a b c : ℕ) → WellFormed m → a ≤ b → b ≤ c → length (cut a b m) + length (cut b c m) ≤ length (cut a c m) + 1

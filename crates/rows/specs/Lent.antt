@@ -4,8 +4,8 @@ use Rattle.choice.specs.Records.{run}
 use Rattle.rows.specs.declared.Row.{Row}
 
 -- row i
-abbrev pub rowAt : List ℕ → List ℤ → ℕ → Row
-rowAt u s i =
+abbrev pub row_at : List ℕ → List ℤ → ℕ → Row
+row_at u s i =
     record {
       source = get_or u (5 * i) 0;
       first = get_or u (5 * i + 1) 0;
@@ -17,7 +17,7 @@ rowAt u s i =
 
 -- the rows of a lent map
 abbrev pub rows : List ℕ → List ℤ → List Row
-rows u s = run (rowAt u s) 0 (length s)
+rows u s = run (row_at u s) 0 (length s)
 
 -- a row's five words
 abbrev pub words : Row → List ℕ
@@ -28,6 +28,6 @@ abbrev pub words_of : List Row → List ℕ
 words_of [] = []
 words_of (r ∷ m) = words r ++ words_of m
 
-abbrev pub shiftsOf : List Row → List ℤ
-shiftsOf [] = []
-shiftsOf (r ∷ m) = r.shift ∷ shiftsOf m
+abbrev pub shifts_of : List Row → List ℤ
+shifts_of [] = []
+shifts_of (r ∷ m) = r.shift ∷ shifts_of m

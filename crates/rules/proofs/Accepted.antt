@@ -11,17 +11,17 @@ use lib.Dec.{ltb, leb}
 use lib.IntN.{ℤ, pos, negsuc, nat_abs, ◌+ℤ◌}
 use lib.Signed.{◌<ℤ◌, ◌≤ℤ◌}
 use borrow.Author.Tests.{ltb-false, leb-false}
-use Rattle.choice.specs.Choice.{maxU64}
+use Rattle.choice.specs.Choice.{max_u64}
 use Rattle.choice.proofs.Tests.{decide, tf}
-use Rattle.signed.specs.Signed.{eqZ}
-use Rattle.signed.proofs.Order.{eqZ-true, eqZ-yes}
-use Rattle.utc.specs.Utc.{utcSecond}
+use Rattle.signed.specs.Signed.{eq_z}
+use Rattle.signed.proofs.Order.{eq_z-true, eq_z-yes}
+use Rattle.utc.specs.Utc.{utc_second}
 use Rattle.rules.specs.declared.Source.{Source}
 use Rattle.rules.specs.declared.Checked.TheVariants.{Frames}
-use Rattle.rules.specs.Limits.{maxSources, maxSegments, maxI64}
-use Rattle.rules.specs.Records.{Segment, Table, noSegment, source, segment, source_of, outEnd, outEndUs, captureEndUs, frameTotal}
-use Rattle.rules.specs.Rules.{checkOf}
-use Rattle.rules.specs.Paper.{Test, ofSource, ofSegment, each, None}
+use Rattle.rules.specs.Limits.{max_sources, max_segments, max_i64}
+use Rattle.rules.specs.Records.{Segment, Table, no_segment, source, segment, source_of, out_end, out_end_us, capture_end_us, frame_total}
+use Rattle.rules.specs.Rules.{check_of}
+use Rattle.rules.specs.Paper.{Test, of_source, of_segment, each, None}
 use Rattle.rules.proofs.Says.{Says, equal, below, atmost}
 use Rattle.rules.proofs.Exact.{rightly}
 
@@ -30,14 +30,14 @@ pub record Timely (a b : ℤ) : Type 0 where
   pub start : a ≡ pos (nat_abs a)
   pub duration : b ≡ pos (nat_abs b)
   pub sum : a +ℤ b ≡ pos (nat_abs a + nat_abs b)
-  pub fits : nat_abs a + nat_abs b ≤ maxI64
+  pub fits : nat_abs a + nat_abs b ≤ max_i64
 
 -- a source that 4 to 7 don't refuse
 pub record SoundSource (log : Bool) (text : List ℕ) (s : Source) : Type 0 where
   pub frames : 0 < s.frames
   pub num : 0 < s.num
   pub den : 0 < s.den
-  pub date : s.dated ≡ 1 → utcSecond (take s.size (drop s.from text)) ≡ true
+  pub date : s.dated ≡ 1 → utc_second (take s.size (drop s.from text)) ≡ true
   pub ticks : (s.kind ≡ 0 → ⊥) → 0 < s.ticks
   pub per : (s.kind ≡ 0 → ⊥) → 0 < s.per
   pub modulus : s.kind ≡ 2 → 0 < s.modulus
@@ -47,8 +47,8 @@ pub record SoundSource (log : Bool) (text : List ℕ) (s : Source) : Type 0 wher
 pub record Sound (srcs : List Source) (e : Segment) : Type 0 where
   pub named : e.words.source < length srcs
   pub some : 0 < e.words.count
-  pub out-fits : outEnd e ≤ maxU64
-  pub src-fits : e.words.first + e.words.count ≤ maxU64
+  pub out-fits : out_end e ≤ max_u64
+  pub src-fits : e.words.first + e.words.count ≤ max_u64
   pub src-inside : e.words.first + e.words.count ≤ (source_of srcs e).frames
   pub src-time : Timely e.stamps.srcstart e.stamps.duration
   pub src-capture : Timely e.stamps.srccap e.stamps.capdur
@@ -61,24 +61,24 @@ pub record Sound (srcs : List Source) (e : Segment) : Type 0 where
 
 -- segment e begins where segment p ends
 pub record Follows (p e : Segment) : Type 0 where
-  pub frame : e.words.out ≡ outEnd p
-  pub time : e.stamps.outstart ≡ outEndUs p
-  pub capture : e.stamps.outcap ≡ captureEndUs p
+  pub frame : e.words.out ≡ out_end p
+  pub time : e.stamps.outstart ≡ out_end_us p
+  pub capture : e.stamps.outcap ≡ capture_end_us p
 
 -- an accepted table of N frames: its frames chain from 0 to N, and its times chain
 pub record Accepted (t : Table) (N : ℕ) : Type 0 where
   pub even : t.uneven ≡ false
   pub some-sources : 0 < length t.sources
-  pub few-sources : length t.sources ≤ maxSources
+  pub few-sources : length t.sources ≤ max_sources
   pub some-segments : 0 < length t.segments
-  pub few-segments : length t.segments ≤ maxSegments
+  pub few-segments : length t.segments ≤ max_segments
   pub sources : (k : ℕ) → k < length t.sources → SoundSource t.log t.text (source t k)
   pub segments : (k : ℕ) → k < length t.segments → Sound t.sources (segment t k)
   pub flags : (k : ℕ) → k < length t.segments → (segment t k).words.flag ≤ 1
   pub first : (segment t 0).words.out ≡ 0
   pub follows : (k : ℕ) → suc k < length t.segments → Follows (segment t k) (segment t (suc k))
-  pub sum : frameTotal t.segments ≡ N
-  pub last : outEnd (segment t (length t.segments - 1)) ≡ N
+  pub sum : frame_total t.segments ≡ N
+  pub last : out_end (segment t (length t.segments - 1)) ≡ N
 
 -- ---- from conditions that don't hold
 none_left : (l m : List Test) → None (l ++ m) → None l
@@ -100,13 +100,13 @@ holds : {b : Bool} {C : Type 0} → Says b C → ((C → ⊥) → ⊥) → C
 holds {b} {C} s f = decide b s.holds (λ e. absurd (f (s.fails e)))
 
 same : (a b : ℤ) → ((a ≡ b → ⊥) → ⊥) → a ≡ b
-same a b f = decide (eqZ a b) (eqZ-true a b) (λ e. absurd (f (λ q. tf (sym (eqZ-yes q) ∙ e))))
+same a b f = decide (eq_z a b) (eq_z-true a b) (λ e. absurd (f (λ q. tf (sym (eq_z-yes q) ∙ e))))
 
 within : (m n : ℕ) → ((pos m <ℤ pos n) → ⊥) → n ≤ m
 within m n f = decide (ltb m n) (λ e. absurd (f ((below (pos m) (pos n)).holds e))) (ltb-false m n)
 
-timely : (a b : ℤ) → ((a <ℤ pos 0) → ⊥) → ((b <ℤ pos 0) → ⊥) → ((pos maxI64 <ℤ (a +ℤ b)) → ⊥) → Timely a b
-timely (pos m) (pos n) p q r = record { start = refl; duration = refl; sum = refl; fits = within maxI64 (m + n) r }
+timely : (a b : ℤ) → ((a <ℤ pos 0) → ⊥) → ((b <ℤ pos 0) → ⊥) → ((pos max_i64 <ℤ (a +ℤ b)) → ⊥) → Timely a b
+timely (pos m) (pos n) p q r = record { start = refl; duration = refl; sum = refl; fits = within max_i64 (m + n) r }
 timely (pos m) (negsuc n) p q r = absurd (q (record { lt = tt }))
 timely (negsuc m) b p q r = absurd (p (record { lt = tt }))
 
@@ -128,7 +128,7 @@ utc-true : (b : Bool) → (b ≡ false → ⊥) → b ≡ true
 utc-true true f = refl
 utc-true false f = absurd (f refl)
 
-sound-source : (t : Table) (k : ℕ) → None (ofSource t k) → SoundSource t.log t.text (source t k)
+sound-source : (t : Table) (k : ℕ) → None (of_source t k) → SoundSource t.log t.text (source t k)
 sound-source t k x =
     let n4 = x.0 in
     let n5 = x.1.0 in
@@ -145,7 +145,7 @@ sound-source t k x =
       clock = λ l c. n7 (l, c);
     }
 
-sound-segment : (t : Table) (k : ℕ) → (segment t k).words.flag ≤ 1 → None (ofSegment t k) → Sound t.sources (segment t k)
+sound-segment : (t : Table) (k : ℕ) → (segment t k).words.flag ≤ 1 → None (of_segment t k) → Sound t.sources (segment t k)
 sound-segment t k flag x =
     let e = segment t k in
     let n11 = x.1.1.0 in
@@ -175,28 +175,28 @@ sound-segment t k flag x =
     one-flag n h f = omega arith
 
 -- a list's frames, where each segment follows the one before: its last segment ends past them
-ends_at : (p : ℕ) (l : List Segment) → 0 < length l → (get_or l 0 noSegment).words.out ≡ p
-    → ((k : ℕ) → suc k < length l → (get_or l (suc k) noSegment).words.out ≡ outEnd (get_or l k noSegment))
-    → outEnd (get_or l (length l - 1) noSegment) ≡ p + frameTotal l
-unfolding frameTotal
+ends_at : (p : ℕ) (l : List Segment) → 0 < length l → (get_or l 0 no_segment).words.out ≡ p
+    → ((k : ℕ) → suc k < length l → (get_or l (suc k) no_segment).words.out ≡ out_end (get_or l k no_segment))
+    → out_end (get_or l (length l - 1) no_segment) ≡ p + frame_total l
+unfolding frame_total
 ends_at p [] h z f = absurd (not-suc-le-zero h)
 ends_at p (e ∷ []) h z f = omega arith
 ends_at p (e ∷ d ∷ l) h z f =
     let n : suc (suc (length l)) - 1 ≡ suc (suc (length l) - 1) = omega arith in
-    ap (λ (j : ℕ). outEnd (get_or (e ∷ d ∷ l) j noSegment)) n
-    ∙ ends_at (outEnd e) (d ∷ l) (suc-le-suc zero-le) (f 0 (suc-le-suc (suc-le-suc zero-le))) (λ k b. f (suc k) (suc-le-suc b))
+    ap (λ (j : ℕ). out_end (get_or (e ∷ d ∷ l) j no_segment)) n
+    ∙ ends_at (out_end e) (d ∷ l) (suc-le-suc zero-le) (f 0 (suc-le-suc (suc-le-suc zero-le))) (λ k b. f (suc k) (suc-le-suc b))
     ∙ omega arith
 
-pub accepted : (t : Table) (N : ℕ) → checkOf t ≡ Frames N → Accepted t N
+pub accepted : (t : Table) (N : ℕ) → check_of t ≡ Frames N → Accepted t N
 accepted t N e =
     let r = ((rightly t).accepts N).0 e in
     let n1 = r.0.0 in
     let n2 = r.0.1.0 in
     let n3 = r.0.1.1.0 in
     let rest = r.0.1.1.1 in
-    let srcs = none_left (each (ofSource t) 0 (length t.sources)) _ rest in
-    let after = none_right (each (ofSource t) 0 (length t.sources)) _ rest in
-    let segs : (k : ℕ) → k < length t.segments → None (ofSegment t k) = λ k b. subst (λ (j : ℕ). None (ofSegment t j)) (zero-add k) (none_each (ofSegment t) 0 (length t.segments) after.1 k b) in
+    let srcs = none_left (each (of_source t) 0 (length t.sources)) _ rest in
+    let after = none_right (each (of_source t) 0 (length t.sources)) _ rest in
+    let segs : (k : ℕ) → k < length t.segments → None (of_segment t k) = λ k b. subst (λ (j : ℕ). None (of_segment t j)) (zero-add k) (none_each (of_segment t) 0 (length t.segments) after.1 k b) in
     let flag : (k : ℕ) → k < length t.segments → (segment t k).words.flag ≤ 1 = λ k b. at_most _ _ (λ h. n1 (inr (inr (k, b, h)))) in
     let some = nonzero _ after.0 in
     let begin = holds (equal _ _) (segs 0 some).1.1.1.1.1.1.0 in
@@ -213,11 +213,11 @@ accepted t N e =
       few-sources = at_most _ _ (λ h. n2 (inl h));
       some-segments = some;
       few-segments = at_most _ _ (λ h. n2 (inr h));
-      sources = λ k b. sound-source t k (subst (λ (j : ℕ). None (ofSource t j)) (zero-add k) (none_each (ofSource t) 0 (length t.sources) srcs k b));
+      sources = λ k b. sound-source t k (subst (λ (j : ℕ). None (of_source t j)) (zero-add k) (none_each (of_source t) 0 (length t.sources) srcs k b));
       segments = λ k b. sound-segment t k (flag k b) (segs k b);
       flags = flag;
       first = begin;
       follows = next;
       sum = sym r.1;
-      last = ends_at 0 t.segments some begin (λ k b. (next k b).frame) ∙ zero-add (frameTotal t.segments) ∙ sym r.1;
+      last = ends_at 0 t.segments some begin (λ k b. (next k b).frame) ∙ zero-add (frame_total t.segments) ∙ sym r.1;
     }

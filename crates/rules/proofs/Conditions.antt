@@ -12,9 +12,9 @@ use borrow.Author.Tests.{ne_eqb}
 use Rattle.choice.specs.declared.Refusal.{Refusal}
 use Rattle.choice.specs.declared.Refusal.TheVariants.{Never, At}
 use Rattle.choice.specs.Choice.{when}
-use Rattle.choice.specs.Records.{firstRefused, orRefused}
+use Rattle.choice.specs.Records.{first_refused, or_refused}
 use Rattle.rules.specs.declared.Checked.TheVariants.{Frames, Refused}
-use Rattle.rules.specs.Rules.{checkedOf}
+use Rattle.rules.specs.Rules.{checked_of}
 use Rattle.rules.specs.Paper.{Test, given, each, First, None, Rightly}
 use Rattle.rules.proofs.Says.{Says}
 
@@ -64,8 +64,8 @@ none-append (c ∷ l) m r x y = go r (none-append l m r x.1 y)
     go Never z = (x.0, z)
     go (At n i) z = inr (x.0, z)
 
-pub append : (r s : Refusal) (l m : List Test) → Agrees r l → Agrees s m → Agrees (orRefused r s) (l ++ m)
-unfolding orRefused Agrees
+pub append : (r s : Refusal) (l m : List Test) → Agrees r l → Agrees s m → Agrees (or_refused r s) (l ++ m)
+unfolding or_refused Agrees
 append Never s l m x y = none-append l m s x y
 append (At n i) s l m x y = first-append l m n i x
 
@@ -76,8 +76,8 @@ record-first zero i rest l m x y = none-append l m rest x (y refl)
 record-first (suc v) i rest l m x y = rw (ne_eqb (suc v) 0 (λ z. omega arith)) (first-append l m (suc v) i x)
 
 pub first-agrees : {A : Type 0} (g : A → ℕ) (d : A) (h : ℕ → List Test) (i : ℕ) (l : List A)
-    → ((k : ℕ) → k < length l → Number (i + k) (g (get_or l k d)) (h (i + k))) → Agrees (firstRefused g i l) (each h i (length l))
-unfolding firstRefused Agrees
+    → ((k : ℕ) → k < length l → Number (i + k) (g (get_or l k d)) (h (i + k))) → Agrees (first_refused g i l) (each h i (length l))
+unfolding first_refused Agrees
 first-agrees g d h i [] q = tt
 first-agrees g d h i (a ∷ l) q =
     record-first (g a) i _ (h i) (each h (suc i) (length l)) (subst (λ (j : ℕ). Number j (g a) (h j)) (add-zero i) (q 0 (suc-le-suc zero-le)))
@@ -96,17 +96,17 @@ none_first [] n i x y = y
 none_first (c ∷ l) n i x (inl y) = x.0 y.0
 none_first (c ∷ l) n i x (inr y) = none_first l n i x.1 y.1
 
-refuses : (r : Refusal) (l : List Test) (T : ℕ) → Agrees r l → (n i : ℕ) → (checkedOf r T ≡ Refused n i) ↔ First l n i
-unfolding checkedOf Agrees
+refuses : (r : Refusal) (l : List Test) (T : ℕ) → Agrees r l → (n i : ℕ) → (checked_of r T ≡ Refused n i) ↔ First l n i
+unfolding checked_of Agrees
 refuses Never l T a n i = (λ e. absurd (let z : ◌≡◌ {A = ℕ} 0 1 = cc in omega arith), λ x. absurd (none_first l n i a x))
 refuses (At m j) l T a n i =
     (λ e. let p : m ≡ n = cc in let q : j ≡ i = cc in rw p at (rw q at a), λ x. let o = first_one l m j n i a x in rw (o.0, o.1))
 
-accepts : (r : Refusal) (l : List Test) (T : ℕ) → Agrees r l → (N : ℕ) → (checkedOf r T ≡ Frames N) ↔ (None l × (N ≡ T))
-unfolding checkedOf Agrees
+accepts : (r : Refusal) (l : List Test) (T : ℕ) → Agrees r l → (N : ℕ) → (checked_of r T ≡ Frames N) ↔ (None l × (N ≡ T))
+unfolding checked_of Agrees
 accepts Never l T a N = (λ e. (a, cc), λ x. ap Frames (sym x.1))
 accepts (At m j) l T a N = (λ e. absurd (let z : ◌≡◌ {A = ℕ} 0 1 = cc in omega arith), λ x. absurd (none_first l m j x.0 a))
 
 -- an answer by such a refusal is right
-pub right : (r : Refusal) (l : List Test) (T : ℕ) → Agrees r l → Rightly (checkedOf r T) l T
+pub right : (r : Refusal) (l : List Test) (T : ℕ) → Agrees r l → Rightly (checked_of r T) l T
 right r l T a = record { refuses = refuses r l T a; accepts = accepts r l T a }

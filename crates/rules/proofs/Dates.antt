@@ -6,15 +6,9 @@ use mathlib.Core.Bool.{false}
 use mathlib.Core.List.{List}
 use lib.ListN.{length, take, drop, length-drop, drop_of_length-le}
 use lib.Seq.{take_all, take-nil}
-use Rattle.utc.specs.Utc.{utcSecond}
+use Rattle.utc.specs.Utc.{utc_second}
 
 -- it starts past the text's end: no bytes
-pub date-none : (text : List ℕ) (from size : ℕ) → length text < from → utcSecond (take size (drop from text)) ≡ false
-unfolding utcSecond
+pub date-none : (text : List ℕ) (from size : ℕ) → length text < from → utc_second (take size (drop from text)) ≡ false
+unfolding utc_second
 date-none text from size h = rw (drop_of_length-le text {i = from} (omega arith), take-nil size)
-
--- it ends past it: those up to the end
-pub date-cut : (text : List ℕ) (from size : ℕ) → length text - from < size → take (length text - from) (drop from text) ≡ take size (drop from text)
-date-cut text from size h =
-    let e = length-drop from text in
-    take_all (length text - from) (drop from text) (omega arith) ∙ sym (take_all size (drop from text) (omega arith))

@@ -11,14 +11,14 @@ use lib.IntN.{ℤ, pos, nat_abs}
 use lib.Signed.{◌<ℤ◌}
 use Rattle.choice.specs.declared.Refusal.TheVariants.{Never}
 use Rattle.choice.specs.Records.{run}
-use Rattle.choice.specs.Choice.{maxU64}
+use Rattle.choice.specs.Choice.{max_u64}
 use Rattle.choice.proofs.Tests.{tf, or-false}
-use Rattle.utc.specs.Utc.{utcSecond}
+use Rattle.utc.specs.Utc.{utc_second}
 use Rattle.rules.specs.declared.Ends.{Ends}
-use Rattle.rules.specs.Limits.{maxSources, maxSegments}
-use Rattle.rules.specs.Records.{Segment, Table, noSource, noSegment, source, segment, source_of, frameTotal}
-use Rattle.rules.specs.Rules.{negative, apart, badSource, badSegment, malformed, sourceRefusal, stampTimes, judged, segmentRefusal, start, endsOf, ends, segmentsFrom, frontRefusal, refusal, checkOf}
-use Rattle.rules.specs.Paper.{Test, given, Malformed, OverLimit, ofSource, ofSegment, each, tests, Rightly, FrameGap, TimeGap, Negative}
+use Rattle.rules.specs.Limits.{max_sources, max_segments}
+use Rattle.rules.specs.Records.{Segment, Table, no_source, no_segment, source, segment, source_of, frame_total}
+use Rattle.rules.specs.Rules.{negative, apart, bad_source, bad_segment, malformed, source_refusal, stamp_times, judged, segment_refusal, start, ends_of, ends, segments_from, front_refusal, refusal, check_of}
+use Rattle.rules.specs.Paper.{Test, given, Malformed, OverLimit, of_source, of_segment, each, tests, Rightly, FrameGap, TimeGap, Negative}
 use Rattle.rules.proofs.Turns.{judged-fit}
 use Rattle.rules.proofs.Walks.{not-refused}
 use Rattle.rules.proofs.Conditions.{Number, Agrees, link, front, append, record-first, first-agrees, right}
@@ -37,12 +37,12 @@ as-run {A} d l = go l 0 (λ k. get_or l k d) (λ k. ap (λ (j : ℕ). get_or l j
         head = ap f (sym (add-zero i)) ∙ q 0
 
 -- ---- a source
-source-number : (t : Table) (k : ℕ) → Number k (sourceRefusal t.log t.text (source t k)) (ofSource t k)
-unfolding sourceRefusal Number
+source-number : (t : Table) (k : ℕ) → Number k (source_refusal t.log t.text (source t k)) (of_source t k)
+unfolding source_refusal Number
 source-number t k =
     let s = source t k in
     link 3 k _ _ (three (either (either (equal s.frames 0) (equal s.num 0)) (equal s.den 0)))
-    λ _. link 4 k _ _ (both (equal s.dated 1) (isnt (utcSecond (take s.size (drop s.from t.text)))))
+    λ _. link 4 k _ _ (both (equal s.dated 1) (isnt (utc_second (take s.size (drop s.from t.text)))))
     λ _. link 5 k _ _ (both (unless (equal s.kind 0)) (three (either (either (equal s.ticks 0) (equal s.per 0)) (both (equal s.kind 2) (equal s.modulus 0)))))
     λ _. link 6 k _ _ (both (is t.log) (equal s.kind 0))
     λ _. tt
@@ -58,16 +58,16 @@ record Positive (e : Segment) : Type 0 where
   capdur : negative e.stamps.capdur ≡ false
 
 -- all its six tests, and 13
-negatives : (e : Segment) → Says (stampTimes e.stamps).negative (Negative e)
-unfolding stampTimes
+negatives : (e : Segment) → Says (stamp_times e.stamps).negative (Negative e)
+unfolding stamp_times
 negatives e =
     let n : (z : ℤ) → Says (negative z) (z <ℤ pos 0) = λ z. below z (pos 0) in
     three (either
     (either (either (n e.stamps.srcstart) (n e.stamps.outstart)) (either (n e.stamps.duration) (n e.stamps.srccap)))
     (either (n e.stamps.outcap) (n e.stamps.capdur)))
 
-positive : (e : Segment) → (stampTimes e.stamps).negative ≡ false → Positive e
-unfolding stampTimes
+positive : (e : Segment) → (stamp_times e.stamps).negative ≡ false → Positive e
+unfolding stamp_times
 positive e q =
     let a = or-false _ _ q in
     let b = or-false _ _ a.0 in
@@ -86,13 +86,13 @@ Prev t zero prev = prev ≡ start
 Prev t (suc k) prev = (prev ≡ ends (segment t k)) × Positive (segment t k)
 
 frame-gap : (t : Table) (k : ℕ) (prev : Ends) → Prev t k prev → Says (not (eqb (segment t k).words.out prev.frame)) (FrameGap t k)
-unfolding Prev start ends endsOf
+unfolding Prev start ends ends_of
 frame-gap t zero prev p = rw p (unless (equal (segment t 0).words.out 0))
 frame-gap t (suc k) prev p = rw p.0 (unless (equal (segment t (suc k)).words.out ((segment t k).words.out + (segment t k).words.count)))
 
 time-gap : (t : Table) (k : ℕ) (prev : Ends) → Prev t k prev → Positive (segment t k)
     → Says (apart prev.some prev.time prev.capture (nat_abs (segment t k).stamps.outstart) (nat_abs (segment t k).stamps.outcap)) (TimeGap t k)
-unfolding Prev start ends endsOf stampTimes
+unfolding Prev start ends ends_of stamp_times
 time-gap t zero prev p q = rw p (record { holds = λ e. tf (sym e); fails = λ e x. x })
 time-gap t (suc k) prev p q =
     rw p.0
@@ -100,15 +100,15 @@ time-gap t (suc k) prev p q =
     (gap (segment t k).stamps.outstart (segment t k).stamps.duration (segment t (suc k)).stamps.outstart p.1.outstart p.1.duration q.outstart)
     (gap (segment t k).stamps.outcap (segment t k).stamps.capdur (segment t (suc k)).stamps.outcap p.1.outcap p.1.capdur q.outcap))
 
-segment-number : (t : Table) (k : ℕ) (prev : Ends) → Prev t k prev → Number k (segmentRefusal t.sources prev (segment t k)) (ofSegment t k)
-unfolding segmentRefusal judged stampTimes Number
+segment-number : (t : Table) (k : ℕ) (prev : Ends) → Prev t k prev → Number k (segment_refusal t.sources prev (segment t k)) (of_segment t k)
+unfolding segment_refusal judged stamp_times Number
 segment-number t k prev v =
     let w = (segment t k).words in
     let e = (segment t k).stamps in
     let s = source_of t.sources (segment t k) in
     link 8 k _ _ (most (length t.sources) w.source)
     λ _. link 9 k _ _ (equal w.count 0)
-    λ _. link 10 k _ _ (either (passes w.out w.count maxU64) (passes w.first w.count maxU64))
+    λ _. link 10 k _ _ (either (passes w.out w.count max_u64) (passes w.first w.count max_u64))
     λ _. link 11 k _ _ (passes w.first w.count s.frames)
     λ _. link 12 k _ _ (negatives (segment t k))
     λ f. let p = positive (segment t k) (untrue _ (negatives (segment t k)) f) in
@@ -121,38 +121,38 @@ segment-number t k prev v =
     (both (equal s.kind 2) (outside e.shift s.modulus))))
     λ _. tt
 
-segments-agree : (t : Table) (m i : ℕ) (prev : Ends) → Prev t i prev → Agrees (segmentsFrom t.sources i prev (run (segment t) i m)) (each (ofSegment t) i m)
-unfolding segmentsFrom run Agrees Prev
+segments-agree : (t : Table) (m i : ℕ) (prev : Ends) → Prev t i prev → Agrees (segments_from t.sources i prev (run (segment t) i m)) (each (of_segment t) i m)
+unfolding segments_from run Agrees Prev
 segments-agree t zero i prev p = tt
 segments-agree t (suc m) i prev p =
-    record-first (segmentRefusal t.sources prev (segment t i)) i _ (ofSegment t i) (each (ofSegment t) (suc i) m) (segment-number t i prev p)
+    record-first (segment_refusal t.sources prev (segment t i)) i _ (of_segment t i) (each (of_segment t) (suc i) m) (segment-number t i prev p)
     (λ z. segments-agree t m (suc i) (ends (segment t i)) (refl, positive (segment t i) (judged-fit _ _ _ _ (not-refused _ _ _ z).1).positive))
 
 -- ---- the whole
 malformed-says : (t : Table) → Says (malformed t) (Malformed t)
-unfolding malformed badSource badSegment
+unfolding malformed bad_source bad_segment
 malformed-says t =
     three (either
-    (either (is t.uneven) (some _ _ noSource t.sources
+    (either (is t.uneven) (some _ _ no_source t.sources
     (λ s. three (either (either (less 1 s.dated) (less 2 s.kind)) (both (equal s.dated 1) (passes s.from s.size (length t.text)))))))
-    (some _ _ noSegment t.segments (λ e. less 1 e.words.flag)))
+    (some _ _ no_segment t.segments (λ e. less 1 e.words.flag)))
 
 pub agrees : (t : Table) → Agrees (refusal t) (tests t)
-unfolding refusal frontRefusal Prev Agrees
+unfolding refusal front_refusal Prev Agrees
 agrees t =
-    let segs = rw (as-run noSegment t.segments) at (segments-agree t (length t.segments) 0 start refl) in
+    let segs = rw (as-run no_segment t.segments) at (segments-agree t (length t.segments) 0 start refl) in
     let none : Agrees Never [] = tt in
-    let srcs = first-agrees (sourceRefusal t.log t.text) noSource (ofSource t) 0 t.sources (λ k b. subst (λ (j : ℕ). Number j (sourceRefusal t.log t.text (source t k)) (ofSource t j)) (sym (zero-add k)) (source-number t k)) in
+    let srcs = first-agrees (source_refusal t.log t.text) no_source (of_source t) 0 t.sources (λ k b. subst (λ (j : ℕ). Number j (source_refusal t.log t.text (source t k)) (of_source t j)) (sym (zero-add k)) (source-number t k)) in
     let eight = front 8 0 _ _ (equal (length t.segments) 0) none in
     let head = front 1 0 _ _ (malformed-says t)
-    (front 2 0 _ _ (either (less maxSources (length t.sources)) (less maxSegments (length t.segments)))
+    (front 2 0 _ _ (either (less max_sources (length t.sources)) (less max_segments (length t.segments)))
     (front 3 0 _ _ (equal (length t.sources) 0)
     (append _ _ _ _ srcs eight))) in
     subst (λ (l : List Test). Agrees (refusal t) (given (Malformed t) 1 0 ∷ given (OverLimit t) 2 0 ∷ given (length t.sources ≡ 0) 3 0 ∷ l))
-    (append_assoc (each (ofSource t) 0 (length t.sources)) (given (length t.segments ≡ 0) 8 0 ∷ []) (each (ofSegment t) 0 (length t.segments)))
+    (append_assoc (each (of_source t) 0 (length t.sources)) (given (length t.segments ≡ 0) 8 0 ∷ []) (each (of_segment t) 0 (length t.segments)))
     (append _ _ _ _ head segs)
 
 -- of every table
-pub rightly : (t : Table) → Rightly (checkOf t) (tests t) (frameTotal t.segments)
-unfolding checkOf
-rightly t = right (refusal t) (tests t) (frameTotal t.segments) (agrees t)
+pub rightly : (t : Table) → Rightly (check_of t) (tests t) (frame_total t.segments)
+unfolding check_of
+rightly t = right (refusal t) (tests t) (frame_total t.segments) (agrees t)

@@ -11,30 +11,30 @@ use mir.Syntax.{w64}
 use mir.Val.{SFits}
 use borrow.Author.Tests.{eq-eqb, ne_eqb, eqb-true, eqb-false, ltb-false, leb-false, lt-leb, not-true, not-false}
 use Rattle.choice.specs.declared.Refusal.TheVariants.{Never}
-use Rattle.choice.specs.Choice.{past, maxU64, when}
-use Rattle.choice.specs.Records.{firstRefused, orRefused}
+use Rattle.choice.specs.Choice.{past, max_u64, when}
+use Rattle.choice.specs.Records.{first_refused, or_refused}
 use Rattle.choice.proofs.Tests.{tf, or-false}
 use Rattle.choice.proofs.Chains.{not-past, past-not}
 use Rattle.rules.specs.declared.Source.{Source}
 use Rattle.rules.specs.declared.Words.{Words}
 use Rattle.rules.specs.declared.Ends.{Ends}
-use Rattle.rules.specs.Limits.{maxI64}
+use Rattle.rules.specs.Limits.{max_i64}
 use Rattle.rules.specs.Records.{Stamps}
-use Rattle.rules.specs.Rules.{badSource, sourceRefusal, overLimit, frontRefusal, negative, stampTimes, start, endsOf}
-use Rattle.rules.specs.Steps.{FineFrames, FineShift, outOfTime, Passes, Passing, FineSource}
+use Rattle.rules.specs.Rules.{bad_source, source_refusal, over_limit, front_refusal, negative, stamp_times, start, ends_of}
+use Rattle.rules.specs.Steps.{FineFrames, FineShift, out_of_time, Passes, Passing, FineSource}
 use Rattle.rules.proofs.Turns.{judged-fine, Tested, judged-tested}
 
-pub fine-frames : (frames first count out before : ℕ) → (count ≡ 0 → ⊥) → out ≡ before → out + count ≤ maxU64 → first + count ≤ maxU64 → first + count ≤ frames
+pub fine-frames : (frames first count out before : ℕ) → (count ≡ 0 → ⊥) → out ≡ before → out + count ≤ max_u64 → first + count ≤ max_u64 → first + count ≤ frames
     → FineFrames frames first count out before
 fine-frames frames first count out before a b c d e = record {
   some = ne_eqb count 0 a;
-  fits = rw (not-past out count maxU64 c) (not-past first count maxU64 d);
+  fits = rw (not-past out count max_u64 c) (not-past first count max_u64 d);
   inside = not-past first count frames e;
   next = ap not (eq-eqb out before b);
 }
 
-pub frames-fit : {frames first count out before : ℕ} → FineFrames frames first count out before → out + count ≤ maxU64
-frames-fit {frames} {first} {count} {out} f = past-not out count maxU64 (or-false (past out count maxU64) (past first count maxU64) f.fits).0
+pub frames-fit : {frames first count out before : ℕ} → FineFrames frames first count out before → out + count ≤ max_u64
+frames-fit {frames} {first} {count} {out} f = past-not out count max_u64 (or-false (past out count max_u64) (past first count max_u64) f.fits).0
 
 -- what each of the tests would find, where one doesn't hold
 module _ {frames first count out before : ℕ} (f : FineFrames frames first count out before) where
@@ -48,7 +48,7 @@ module _ {frames first count out before : ℕ} (f : FineFrames frames first coun
   in_source = past-not first count frames f.inside
 
 -- a number that isn't negative is at most 2^63 - 1
-pub short : (x : ℤ) → SFits w64 x → negative x ≡ false → nat_abs x ≤ maxI64
+pub short : (x : ℤ) → SFits w64 x → negative x ≡ false → nat_abs x ≤ max_i64
 short (pos n) f t = let h : n < 2 ^ 63 = f.sfits in omega arith
 short (negsuc n) f t = let z : ◌≡◌ {A = ℕ} 0 1 = cc in absurd (omega arith)
 
@@ -56,12 +56,6 @@ short (negsuc n) f t = let z : ◌≡◌ {A = ℕ} 0 1 = cc in absurd (omega ari
 module _ (kind modulus flag : ℕ) (shift : ℤ) where
   pub shift_none : kind ≡ 0 → eqb flag 0 ≡ true → FineShift kind modulus flag shift
   shift_none e z = let f : flag ≡ 0 = eqb-true flag 0 z in record { flagged = rw f; within = rw (e, f) }
-
-  pub shift-free : (kind ≡ 0 → ⊥) → flag ≡ 1 → (kind ≡ 2 → ⊥) → FineShift kind modulus flag shift
-  shift-free h f e = record { flagged = rw f; within = rw (ne_eqb kind 0 h, f, ne_eqb kind 2 e) }
-
-  pub shift-within : flag ≡ 1 → kind ≡ 2 → negative shift ≡ false → nat_abs shift < modulus → FineShift kind modulus flag shift
-  shift-within f e n l = record { flagged = rw f; within = rw (e, f, n, lt-leb modulus (nat_abs shift) l) }
 
 -- and what each of their tests would find
 module _ (kind modulus flag : ℕ) (shift : ℤ) (f : FineShift kind modulus flag shift) where
@@ -76,12 +70,6 @@ module _ (kind modulus flag : ℕ) (shift : ℤ) (f : FineShift kind modulus fla
 
   parts : (clocks ≡ false) × (outside ≡ false)
   parts = or-false clocks outside f.within
-
-  pub no-clock : kind ≡ 0 → eqb flag 0 ≡ true
-  no-clock e =
-      let x : eqb flag 1 ≡ false = rw e at (or-false (eqb kind 0 && eqb flag 1) (not (eqb kind 0) && eqb flag 0) parts.0).0 in
-      let n = eqb-false flag 1 x in
-      eq-eqb flag 0 (omega (arith, few))
 
   pub clocked : (kind ≡ 0 → ⊥) → flag ≡ 1
   clocked h =
@@ -106,20 +94,20 @@ not-passed e h = tf (sym h ∙ ap (λ (x : Ends). x.some) e)
 
 -- a segment whose tests all hold, of its times as numbers
 pub passes : (s : Source) (prev : Ends) (w : Words) (e : Stamps) (to : Ends) {a b c d f g : ℕ}
-    → FineFrames s.frames w.first w.count w.out prev.frame → FineShift s.kind s.modulus w.flag e.shift → (stampTimes e).negative ≡ false
+    → FineFrames s.frames w.first w.count w.out prev.frame → FineShift s.kind s.modulus w.flag e.shift → (stamp_times e).negative ≡ false
     → a ≡ nat_abs e.srcstart → b ≡ nat_abs e.outstart → c ≡ nat_abs e.duration → d ≡ nat_abs e.srccap → f ≡ nat_abs e.outcap → g ≡ nat_abs e.capdur
-    → outOfTime prev a b c d f g ≡ false → to ≡ record { some = true; frame = w.out + w.count; time = b + c; capture = f + g } → Passes s prev w e to
-unfolding stampTimes endsOf
+    → out_of_time prev a b c d f g ≡ false → to ≡ record { some = true; frame = w.out + w.count; time = b + c; capture = f + g } → Passes s prev w e to
+unfolding stamp_times ends_of
 passes s prev w e to h k n ea eb ec ed ef eg l r = record {
   flagged = k.flagged;
-  none = judged-fine s prev w (stampTimes e) h n (sym (λ i. outOfTime prev (ea i) (eb i) (ec i) (ed i) (ef i) (eg i)) ∙ l) k.within;
+  none = judged-fine s prev w (stamp_times e) h n (sym (λ i. out_of_time prev (ea i) (eb i) (ec i) (ed i) (ef i) (eg i)) ∙ l) k.within;
   end = r ∙ (λ i. record { some = true; frame = w.out + w.count; time = eb i + ec i; capture = ef i + eg i });
 }
 
 -- a segment that has no end, for one of its tests
 pub stops : (s : Source) (prev : Ends) (w : Words) (e : Stamps) {to : Ends} → to ≡ start
-    → (ltb 1 w.flag ≡ false → Tested s prev w (stampTimes e) → ⊥) → Passing s prev w e to
-stops s prev w e n h = (not-passed n, λ _. record { refused = λ f z. h f (judged-tested s prev w (stampTimes e) z); end = n })
+    → (ltb 1 w.flag ≡ false → Tested s prev w (stamp_times e) → ⊥) → Passing s prev w e to
+stops s prev w e n h = (not-passed n, λ _. record { refused = λ f z. h f (judged-tested s prev w (stamp_times e) z); end = n })
 
 -- what is equal passes alike
 pub passing-as : {s s' : Source} {prev : Ends} {w w' : Words} {e e' : Stamps} {to : Ends} → s ≡ s' → w ≡ w' → e ≡ e' → Passing s prev w e to → Passing s' prev w' e' to
@@ -128,7 +116,7 @@ passing-as a b c p = rw (a, b, c) at p
 -- a source without creation time and clock
 pub plain-source : (log : Bool) (text : List ℕ) (s : Source) → not (eqb s.dated 0) || not (eqb s.kind 0) ≡ false → log ≡ false
     → (s.frames ≡ 0 → ⊥) → (s.num ≡ 0 → ⊥) → not (eqb s.den 0) ≡ true → FineSource log text s
-unfolding badSource sourceRefusal when
+unfolding bad_source source_refusal when
 plain-source log text s e l a b c =
     let x = or-false (not (eqb s.dated 0)) (not (eqb s.kind 0)) e in
     let d : s.dated ≡ 0 = eqb-true s.dated 0 (not-false (eqb s.dated 0) x.0) in
@@ -139,9 +127,9 @@ plain-source log text s e l a b c =
     }
 
 -- none of 2 to 8 refuses
-pub front-none : (log : Bool) (text : List ℕ) (srcs : List Source) (n : ℕ) → overLimit (length srcs) n ≡ false → eqb (length srcs) 0 || eqb n 0 ≡ false
-    → Never ≡ firstRefused (sourceRefusal log text) 0 srcs → frontRefusal log text srcs false n ≡ Never
-unfolding frontRefusal when orRefused
+pub front-none : (log : Bool) (text : List ℕ) (srcs : List Source) (n : ℕ) → over_limit (length srcs) n ≡ false → eqb (length srcs) 0 || eqb n 0 ≡ false
+    → Never ≡ first_refused (source_refusal log text) 0 srcs → front_refusal log text srcs false n ≡ Never
+unfolding front_refusal when or_refused
 front-none log text srcs n o e f =
     let x = or-false (eqb (length srcs) 0) (eqb n 0) e in
     rw (o, x.0, ← f, x.1)

@@ -5,10 +5,10 @@ use mathlib.Core.Path.{◌≡◌, refl, sym, ap, ◌∙◌, subst}
 use lib.ListN.{length}
 use lib.Dec.{leb}
 use borrow.Author.Tests.{leb-true, leb-false}
-use Rattle.choice.specs.Choice.{maxU64}
+use Rattle.choice.specs.Choice.{max_u64}
 use Rattle.choice.proofs.Tests.{decide}
-use Rattle.rules.specs.Records.{Table, noSegment, segment, outEnd}
-use Rattle.rules.specs.Lookups.{countSuch, ended, overBy}
+use Rattle.rules.specs.Records.{Table, no_segment, segment, out_end}
+use Rattle.rules.specs.Lookups.{count_such, ended, over_by}
 use Rattle.rules.specs.Steps.{Ordered}
 use Rattle.rules.proofs.Accepted.{Accepted}
 use Rattle.rules.proofs.Exact.{as-run}
@@ -26,10 +26,10 @@ split e n top v o (suc j) h f =
 pub record Holds (t : Table) (frame k : ℕ) : Type 0 where
   pub exists : k < length t.segments
   pub from : (segment t k).words.out ≤ frame
-  pub to : frame < outEnd (segment t k)
+  pub to : frame < out_end (segment t k)
 
 -- a number that splits the ends is that of the holder
-holds : {t : Table} {N : ℕ} → Accepted t N → (frame c : ℕ) → c < length t.segments → Bracket (λ k. outEnd (segment t k)) (length t.segments) frame c c → Holds t frame c
+holds : {t : Table} {N : ℕ} → Accepted t N → (frame c : ℕ) → c < length t.segments → Bracket (λ k. out_end (segment t k)) (length t.segments) frame c c → Holds t frame c
 holds a frame zero h b = record { exists = h; from = omega (arith, a.first); to = b.above 0 (omega arith) h }
 holds a frame (suc c) h b = record {
   exists = h;
@@ -37,16 +37,16 @@ holds a frame (suc c) h b = record {
   to = b.above (suc c) (omega arith) h;
 }
 
-pub holder : {t : Table} {N : ℕ} → Accepted t N → (frame : ℕ) → frame < N → Holds t frame (ended (overBy frame) t.segments)
+pub holder : {t : Table} {N : ℕ} → Accepted t N → (frame : ℕ) → frame < N → Holds t frame (ended (over_by frame) t.segments)
 unfolding ended
 holder {t} {N} a frame inside =
     let n = length t.segments in
-    let s = split (λ k. outEnd (segment t k)) n maxU64 frame (frames-ordered a) n (omega arith) (λ k l q. absurd (omega arith)) in
+    let s = split (λ k. out_end (segment t k)) n max_u64 frame (frames-ordered a) n (omega arith) (λ k l q. absurd (omega arith)) in
     let some = a.some-segments in
     let within : s.0 < n = decide (leb n s.0) (λ q. absurd (omega (arith, leb-true n s.0 q, s.1.below (n - 1) (omega (arith, leb-true n s.0 q)), a.last))) (leb-false n s.0) in
-    let counted : countSuch (overBy frame) t.segments ≡ s.0 =
-    ap (countSuch (overBy frame)) (sym (as-run noSegment t.segments))
-    ∙ count-ended (overBy frame) (segment t) (λ k. outEnd (segment t k)) n frame (λ k h. refl)
-    ∙ sym (bracket-end (λ k. outEnd (segment t k)) n frame s.0 s.0 s.1 (omega arith)) in
-    let e : s.0 ≡ min (countSuch (overBy frame) t.segments) (n - 1) = omega arith in
+    let counted : count_such (over_by frame) t.segments ≡ s.0 =
+    ap (count_such (over_by frame)) (sym (as-run no_segment t.segments))
+    ∙ count-ended (over_by frame) (segment t) (λ k. out_end (segment t k)) n frame (λ k h. refl)
+    ∙ sym (bracket-end (λ k. out_end (segment t k)) n frame s.0 s.0 s.1 (omega arith)) in
+    let e : s.0 ≡ min (count_such (over_by frame) t.segments) (n - 1) = omega arith in
     subst (Holds t frame) e (holds a frame s.0 within s.1)

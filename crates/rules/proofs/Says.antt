@@ -14,7 +14,7 @@ use borrow.Author.Tests.{ltb-true, ltb-false, leb-true, leb-false, eqb-true, eqb
 use Rattle.choice.specs.Choice.{past}
 use Rattle.choice.specs.Records.{any}
 use Rattle.choice.proofs.Tests.{tf}
-use Rattle.rules.specs.Limits.{maxI64}
+use Rattle.rules.specs.Limits.{max_i64}
 use Rattle.rules.specs.Rules.{negative}
 use Rattle.rules.specs.Paper.{Some}
 
@@ -100,9 +100,9 @@ pub atmost : (a b : ℤ) → Says (le_z a b) (a ≤ℤ b)
 atmost a b = record { holds = λ e. record { le = truth e }; fails = λ e x. untruth e x.le }
 
 -- sums of times that are not negative
-pub late : (a b : ℤ) → negative a ≡ false → negative b ≡ false → Says (past (nat_abs a) (nat_abs b) maxI64) (pos maxI64 <ℤ (a +ℤ b))
+pub late : (a b : ℤ) → negative a ≡ false → negative b ≡ false → Says (past (nat_abs a) (nat_abs b) max_i64) (pos max_i64 <ℤ (a +ℤ b))
 unfolding past
-late (pos m) (pos n) p q = below (pos maxI64) (pos (m + n))
+late (pos m) (pos n) p q = below (pos max_i64) (pos (m + n))
 late (pos m) (negsuc n) p q = tf q
 late (negsuc m) b p q = tf p
 

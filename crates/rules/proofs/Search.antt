@@ -8,29 +8,29 @@ use lib.ListN.{length}
 use lib.Dec.{leb}
 use lib.IntN.{nat_abs}
 use borrow.Author.Tests.{le-leb, lt-leb}
-use Rattle.choice.specs.Choice.{when, maxU64}
+use Rattle.choice.specs.Choice.{when, max_u64}
 use Rattle.choice.specs.Records.{run}
-use Rattle.rules.specs.Limits.{maxI64}
-use Rattle.rules.specs.Records.{Table, segment, outEnd}
-use Rattle.rules.specs.Lookups.{countSuch}
-use Rattle.rules.specs.Steps.{endedBy, Ordered}
+use Rattle.rules.specs.Limits.{max_i64}
+use Rattle.rules.specs.Records.{Table, segment, out_end}
+use Rattle.rules.specs.Lookups.{count_such}
+use Rattle.rules.specs.Steps.{ended_by, Ordered}
 use Rattle.rules.proofs.Accepted.{Accepted}
 
 module _ {A : Type 0} (p : A → Bool) (f : ℕ → A) where
-  none_pass : (m i : ℕ) → ((k : ℕ) → k < m → p (f (i + k)) ≡ false) → countSuch p (run f i m) ≡ 0
-  unfolding when run countSuch
+  none_pass : (m i : ℕ) → ((k : ℕ) → k < m → p (f (i + k)) ≡ false) → count_such p (run f i m) ≡ 0
+  unfolding when run count_such
   none_pass zero i h = refl
   none_pass (suc m) i h =
       let e : p (f i) ≡ false = subst (λ (j : ℕ). p (f j) ≡ false) (add-zero i) (h 0 (suc-le-suc zero-le)) in
       rw e (none_pass m (suc i) (λ k l. subst (λ (j : ℕ). p (f j) ≡ false) (omega arith) (h (suc k) (suc-le-suc l))))
 
   -- none passes
-  pub count_none : (n : ℕ) → ((k : ℕ) → k < n → p (f k) ≡ false) → countSuch p (run f 0 n) ≡ 0
+  pub count_none : (n : ℕ) → ((k : ℕ) → k < n → p (f k) ≡ false) → count_such p (run f 0 n) ≡ 0
   count_none n h = none_pass n 0 (λ k l. subst (λ (j : ℕ). p (f j) ≡ false) (sym (zero-add k)) (h k l))
 
   -- all before n pass, none from n on: n pass
-  count-split : (n m i : ℕ) → n ≤ m → ((k : ℕ) → k < n → p (f (i + k)) ≡ true) → ((k : ℕ) → n ≤ k → k < m → p (f (i + k)) ≡ false) → countSuch p (run f i m) ≡ n
-  unfolding when run countSuch
+  count-split : (n m i : ℕ) → n ≤ m → ((k : ℕ) → k < n → p (f (i + k)) ≡ true) → ((k : ℕ) → n ≤ k → k < m → p (f (i + k)) ≡ false) → count_such p (run f i m) ≡ n
+  unfolding when run count_such
   count-split zero m i l h g = none_pass m i (λ k q. g k zero-le q)
   count-split (suc n) zero i l h g = absurd (not-suc-le-zero l)
   count-split (suc n) (suc m) i l h g =
@@ -40,17 +40,17 @@ module _ {A : Type 0} (p : A → Bool) (f : ℕ → A) where
       (λ k q r. subst (λ (j : ℕ). p (f j) ≡ false) (omega arith) (g (suc k) (suc-le-suc q) (suc-le-suc r)))))
 
 -- two counts of as many records, where each passes as its twin does
-count_same : {A B : Type 0} (p : A → Bool) (f : ℕ → A) (q : B → Bool) (g : ℕ → B) (m i : ℕ) → ((k : ℕ) → k < m → p (f (i + k)) ≡ q (g (i + k))) → countSuch p (run f i m) ≡ countSuch q (run g i m)
-unfolding when run countSuch
+count_same : {A B : Type 0} (p : A → Bool) (f : ℕ → A) (q : B → Bool) (g : ℕ → B) (m i : ℕ) → ((k : ℕ) → k < m → p (f (i + k)) ≡ q (g (i + k))) → count_such p (run f i m) ≡ count_such q (run g i m)
+unfolding when run count_such
 count_same p f q g zero i h = refl
 count_same p f q g (suc m) i h =
     let e : p (f i) ≡ q (g i) = subst (λ (j : ℕ). p (f j) ≡ q (g j)) (add-zero i) (h 0 (suc-le-suc zero-le)) in
-    let r : countSuch p (run f (suc i) m) ≡ countSuch q (run g (suc i) m) = count_same p f q g m (suc i) (λ k l. subst (λ (j : ℕ). p (f j) ≡ q (g j)) (omega arith) (h (suc k) (suc-le-suc l))) in
+    let r : count_such p (run f (suc i) m) ≡ count_such q (run g (suc i) m) = count_same p f q g m (suc i) (λ k l. subst (λ (j : ℕ). p (f j) ≡ q (g j)) (omega arith) (h (suc k) (suc-le-suc l))) in
     rw (e, r)
 
 -- records that pass exactly where their end is at most v
-pub count-ended : {A : Type 0} (p : A → Bool) (f : ℕ → A) (e : ℕ → ℕ) (n v : ℕ) → ((k : ℕ) → k < n → p (f k) ≡ leb (e k) v) → countSuch p (run f 0 n) ≡ endedBy e n v
-unfolding endedBy
+pub count-ended : {A : Type 0} (p : A → Bool) (f : ℕ → A) (e : ℕ → ℕ) (n v : ℕ) → ((k : ℕ) → k < n → p (f k) ≡ leb (e k) v) → count_such p (run f 0 n) ≡ ended_by e n v
+unfolding ended_by
 count-ended p f e n v h = count_same p f (λ k. leb (e k) v) (λ k. k) n 0 (λ k l. subst (λ (j : ℕ). p (f j) ≡ leb (e j) v) (sym (zero-add k)) (h k l))
 
 -- lo and hi bracket the number of ends that are at most v
@@ -61,8 +61,8 @@ pub record Bracket (e : ℕ → ℕ) (n v lo hi : ℕ) : Type 0 where
   pub above : (k : ℕ) → hi ≤ k → k < n → v < e k
 
 -- lo and hi have met
-pub bracket-end : (e : ℕ → ℕ) (n v lo hi : ℕ) → Bracket e n v lo hi → hi ≤ lo → lo ≡ endedBy e n v
-unfolding endedBy
+pub bracket-end : (e : ℕ → ℕ) (n v lo hi : ℕ) → Bracket e n v lo hi → hi ≤ lo → lo ≡ ended_by e n v
+unfolding ended_by
 bracket-end e n v lo hi b h =
     sym (count-split (λ k. leb (e k) v) (λ k. k) lo n 0 (omega (arith, b.lo-le, b.hi-le))
     (λ k l. rw zero-add (le-leb (e k) v (b.below k l)))
@@ -86,21 +86,21 @@ steps e n h i j q l = subst (λ (x : ℕ). e i ≤ e x) (omega arith) (go (j - i
         rw s (omega (arith, go d (omega arith), h (i + d) (omega arith)))
 
 -- where segment k ends, as a number: its times are not negative
-abbrev pub endUs : Table → ℕ → ℕ
-endUs t k = nat_abs (segment t k).stamps.outstart + nat_abs (segment t k).stamps.duration
+abbrev pub end_us : Table → ℕ → ℕ
+end_us t k = nat_abs (segment t k).stamps.outstart + nat_abs (segment t k).stamps.duration
 
 module _ {t : Table} {N : ℕ} (a : Accepted t N) where
-  pub frames-ordered : Ordered (λ k. outEnd (segment t k)) (length t.segments) maxU64
+  pub frames-ordered : Ordered (λ k. out_end (segment t k)) (length t.segments) max_u64
   frames-ordered = record {
     fits = λ k l. (a.segments k l).out-fits;
-    rising = steps (λ k. outEnd (segment t k)) _ (λ k l. omega (arith, (a.follows k l).frame));
+    rising = steps (λ k. out_end (segment t k)) _ (λ k l. omega (arith, (a.follows k l).frame));
   }
 
-  pub times-ordered : Ordered (endUs t) (length t.segments) maxI64
+  pub times-ordered : Ordered (end_us t) (length t.segments) max_i64
   times-ordered = record {
     fits = λ k l. (a.segments k l).out-time.fits;
-    rising = steps (endUs t) _ (λ k l. omega (arith, begins k l));
+    rising = steps (end_us t) _ (λ k l. omega (arith, begins k l));
   }
     where
-      begins : (k : ℕ) → suc k < length t.segments → nat_abs (segment t (suc k)).stamps.outstart ≡ endUs t k
+      begins : (k : ℕ) → suc k < length t.segments → nat_abs (segment t (suc k)).stamps.outstart ≡ end_us t k
       begins k l = ap nat_abs ((a.follows k l).time ∙ (a.segments k (omega arith)).out-time.sum)

@@ -3,7 +3,7 @@ use mathlib.Core.Path.{◌≡◌}
 use mathlib.Core.Bool.{false}
 use Rattle.choice.proofs.Tests.{or-false}
 use Rattle.rules.specs.Records.{Stamps}
-use Rattle.rules.specs.Rules.{negative, stampTimes}
+use Rattle.rules.specs.Rules.{negative, stamp_times}
 
 pub record Plain (e : Stamps) : Type 0 where
   pub srcstart : negative e.srcstart ≡ false
@@ -13,8 +13,8 @@ pub record Plain (e : Stamps) : Type 0 where
   pub outcap : negative e.outcap ≡ false
   pub capdur : negative e.capdur ≡ false
 
-pub plain : (e : Stamps) → (stampTimes e).negative ≡ false → Plain e
-unfolding stampTimes
+pub plain : (e : Stamps) → (stamp_times e).negative ≡ false → Plain e
+unfolding stamp_times
 plain e h =
     let x = or-false _ _ h in
     let y = or-false _ _ x.0 in

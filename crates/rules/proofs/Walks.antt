@@ -11,59 +11,59 @@ use lib.Dec.{eqb}
 use borrow.Author.Tests.{eq-eqb, ne_eqb, le-leb, lt-leb, leb-false}
 use Rattle.choice.specs.declared.Refusal.TheVariants.{Never, At}
 use Rattle.choice.specs.Choice.{when}
-use Rattle.choice.specs.Records.{run, orRefused}
+use Rattle.choice.specs.Records.{run, or_refused}
 use Rattle.choice.proofs.Tests.{decide}
 use Rattle.choice.proofs.Chains.{when-zero}
-use Rattle.choice.proofs.Runs.{run-cons, run-nil, length_run, getD-run}
+use Rattle.choice.proofs.Runs.{run-cons, run-nil, length_run, get_d-run}
 use Rattle.rules.specs.declared.Source.{Source}
 use Rattle.rules.specs.declared.Ends.{Ends}
 use Rattle.rules.specs.declared.Turn.TheVariants.{Stop, Go}
 use Rattle.rules.specs.declared.Checked.TheVariants.{Frames, Refused}
-use Rattle.rules.specs.Records.{Segment, Table, noSource, source_of, frameTotal}
-use Rattle.rules.specs.Rules.{badSegment, stampTimes, judged, segmentRefusal, start, endsOf, ends, segmentsFrom, malformed, frontRefusal, refusal, checkedOf, checkOf}
-use Rattle.rules.specs.Steps.{stopOr, turned, turn_of, walked, Passes, Passing, PassesOf, passedOf}
+use Rattle.rules.specs.Records.{Segment, Table, no_source, source_of, frame_total}
+use Rattle.rules.specs.Rules.{bad_segment, stamp_times, judged, segment_refusal, start, ends_of, ends, segments_from, malformed, front_refusal, refusal, checked_of, check_of}
+use Rattle.rules.specs.Steps.{stop_or, turned, turn_of, walked, Passes, Passing, PassesOf, passed_of}
 use Rattle.rules.proofs.Turns.{judged-fit}
 
 -- a turn's answer says whether a refusal was found, and where the walk goes on
-pub turn-go : (n : ℕ) (x next : Ends) → stopOr n x ≡ Go next → (n ≡ 0) × (x ≡ next)
-unfolding stopOr
+pub turn-go : (n : ℕ) (x next : Ends) → stop_or n x ≡ Go next → (n ≡ 0) × (x ≡ next)
+unfolding stop_or
 turn-go zero x next e = (refl, cc)
 turn-go (suc n) x next e = absurd (let z : ◌≡◌ {A = ℕ} 0 1 = cc in omega arith)
 
-turn-stop : (m n : ℕ) (x : Ends) → stopOr m x ≡ Stop n → (m ≡ n) × (m ≡ 0 → ⊥)
-unfolding stopOr
+turn-stop : (m n : ℕ) (x : Ends) → stop_or m x ≡ Stop n → (m ≡ n) × (m ≡ 0 → ⊥)
+unfolding stop_or
 turn-stop zero n x e = absurd (let z : ◌≡◌ {A = ℕ} 0 1 = cc in omega arith)
 turn-stop (suc m) n x e = (cc, λ z. omega arith)
 
 -- where a turn stops it has no end
-no_end : (n : ℕ) (x : Ends) → (n ≡ 0 → ⊥) → start ≡ passedOf (stopOr n x)
-unfolding passedOf stopOr
+no_end : (n : ℕ) (x : Ends) → (n ≡ 0 → ⊥) → start ≡ passed_of (stop_or n x)
+unfolding passed_of stop_or
 no_end zero x h = absurd (h refl)
 no_end (suc n) x h = refl
 
 -- no refusal of 9 to 17: the source is there, and 10 to 17 don't refuse
-pub not-refused : (srcs : List Source) (prev : Ends) (e : Segment) → segmentRefusal srcs prev e ≡ 0
-    → (e.words.source < length srcs) × (judged (source_of srcs e) prev e.words (stampTimes e.stamps) ≡ 0)
-unfolding segmentRefusal
+pub not-refused : (srcs : List Source) (prev : Ends) (e : Segment) → segment_refusal srcs prev e ≡ 0
+    → (e.words.source < length srcs) × (judged (source_of srcs e) prev e.words (stamp_times e.stamps) ≡ 0)
+unfolding segment_refusal
 not-refused srcs prev e q =
     let s = when-zero _ _ _ (λ z. let y : ◌≡◌ {A = ℕ} 9 0 = z in omega arith) q in
     (leb-false (length srcs) e.words.source s.0, s.1)
 
 -- a segment that nothing refuses goes on from its end
 pub turn_on : (srcs : List Source) (prev : Ends) (e : Segment) {next : Ends} → PassesOf srcs prev e next → turn_of srcs prev e ≡ Go next
-unfolding turn_of stopOr
+unfolding turn_of stop_or
 turn_on srcs prev e p = rw (p.none, p.end)
 
 -- the segment begins where the one before ends
-next-frame : (srcs : List Source) (prev : Ends) (e : Segment) → segmentRefusal srcs prev e ≡ 0 → (ends e).frame ≡ prev.frame + e.words.count
-unfolding ends endsOf
+next-frame : (srcs : List Source) (prev : Ends) (e : Segment) → segment_refusal srcs prev e ≡ 0 → (ends e).frame ≡ prev.frame + e.words.count
+unfolding ends ends_of
 next-frame srcs prev e q = ap (λ (n : ℕ). n + e.words.count) (judged-fit _ _ _ _ (not-refused srcs prev e q).1).chained
 
 -- after k of m segments: what is left to walk gives the whole answer, and has the frames that are missing
 pub record Walk (srcs : List Source) (f : ℕ → Segment) (m k : ℕ) (prev : Ends) : Type 0 where
   pub inside : k ≤ m
-  pub same : segmentsFrom srcs k prev (run f k (m - k)) ≡ segmentsFrom srcs 0 start (run f 0 m)
-  pub frames : prev.frame + frameTotal (run f k (m - k)) ≡ frameTotal (run f 0 m)
+  pub same : segments_from srcs k prev (run f k (m - k)) ≡ segments_from srcs 0 start (run f 0 m)
+  pub frames : prev.frame + frame_total (run f k (m - k)) ≡ frame_total (run f 0 m)
 
 module _ (srcs : List Source) (f : ℕ → Segment) (m : ℕ) where
   pub walk_start : Walk srcs f m 0 start
@@ -71,14 +71,14 @@ module _ (srcs : List Source) (f : ℕ → Segment) (m : ℕ) where
   walk_start = record { inside = zero-le; same = rw sub-zero; frames = rw (sub-zero, zero-add) }
 
   module _ {k : ℕ} {prev : Ends} (w : Walk srcs f m k prev) where
-    walk-cons : k < m → segmentsFrom srcs k prev (run f k (m - k))
-        ≡ when (eqb (segmentRefusal srcs prev (f k)) 0) (segmentsFrom srcs (k + 1) (ends (f k)) (run f (k + 1) (m - (k + 1)))) (At (segmentRefusal srcs prev (f k)) k)
-    unfolding segmentsFrom
-    walk-cons h = ap (segmentsFrom srcs k prev) (run-cons f k m h) ∙ rw add-one
+    walk-cons : k < m → segments_from srcs k prev (run f k (m - k))
+        ≡ when (eqb (segment_refusal srcs prev (f k)) 0) (segments_from srcs (k + 1) (ends (f k)) (run f (k + 1) (m - (k + 1)))) (At (segment_refusal srcs prev (f k)) k)
+    unfolding segments_from
+    walk-cons h = ap (segments_from srcs k prev) (run-cons f k m h) ∙ rw add-one
 
-    total-cons : k < m → frameTotal (run f k (m - k)) ≡ (f k).words.count + frameTotal (run f (k + 1) (m - (k + 1)))
-    unfolding frameTotal
-    total-cons h = ap frameTotal (run-cons f k m h)
+    total-cons : k < m → frame_total (run f k (m - k)) ≡ (f k).words.count + frame_total (run f (k + 1) (m - (k + 1)))
+    unfolding frame_total
+    total-cons h = ap frame_total (run-cons f k m h)
 
     pub walk-go : {next : Ends} → k < m → turn_of srcs prev (f k) ≡ Go next → Walk srcs f m (k + 1) next
     unfolding turn_of when
@@ -88,58 +88,58 @@ module _ (srcs : List Source) (f : ℕ → Segment) (m : ℕ) where
         let c = total-cons h in
         let w' : Walk srcs f m (k + 1) (ends (f k)) = record {
           inside = omega arith;
-          same = sym (walk-cons h ∙ rw (eq-eqb (segmentRefusal srcs prev (f k)) 0 z.0)) ∙ w.same;
+          same = sym (walk-cons h ∙ rw (eq-eqb (segment_refusal srcs prev (f k)) 0 z.0)) ∙ w.same;
           frames = omega (arith, w.frames);
         } in
         rw z.1 at w'
 
     pub walk-stop : {n : ℕ} → k < m → turn_of srcs prev (f k) ≡ Stop n → Refused n k ≡ walked srcs (run f 0 m)
-    unfolding turn_of walked checkedOf when
+    unfolding turn_of walked checked_of when
     walk-stop {n} h e =
         let z = turn-stop _ _ _ e in
-        let q : segmentsFrom srcs 0 start (run f 0 m) ≡ At n k = sym w.same ∙ walk-cons h ∙ rw (ne_eqb (segmentRefusal srcs prev (f k)) 0 z.1, z.0) in
+        let q : segments_from srcs 0 start (run f 0 m) ≡ At n k = sym w.same ∙ walk-cons h ∙ rw (ne_eqb (segment_refusal srcs prev (f k)) 0 z.1, z.0) in
         rw q
 
     pub walk_end : m ≤ k → Frames prev.frame ≡ walked srcs (run f 0 m)
-    unfolding walked checkedOf segmentsFrom frameTotal
+    unfolding walked checked_of segments_from frame_total
     walk_end h =
-        let q : segmentsFrom srcs 0 start (run f 0 m) ≡ Never = sym w.same ∙ ap (segmentsFrom srcs k prev) (run-nil f k m h) in
-        let c : frameTotal (run f k (m - k)) ≡ 0 = ap frameTotal (run-nil f k m h) in
+        let q : segments_from srcs 0 start (run f 0 m) ≡ Never = sym w.same ∙ ap (segments_from srcs k prev) (run-nil f k m h) in
+        let c : frame_total (run f k (m - k)) ≡ 0 = ap frame_total (run-nil f k m h) in
         rw q (ap Frames (omega (arith, w.frames)))
 
 -- the source that a segment names, of n sources g 0, g 1, ..
 module _ (g : ℕ → Source) (n : ℕ) (prev : Ends) (e : Segment) where
   -- what nothing refuses of a source that is there, nothing refuses
   pub passes_of : {to : Ends} → e.words.source < n → Passes (g e.words.source) prev e.words e.stamps to → PassesOf (run g 0 n) prev e to
-  unfolding badSegment segmentRefusal ends when
+  unfolding bad_segment segment_refusal ends when
   passes_of h p = record {
     flagged = p.flagged;
-    none = rw (length_run g 0 n, lt-leb n e.words.source h, getD-run g 0 n e.words.source noSource h, zero-add) p.none;
+    none = rw (length_run g 0 n, lt-leb n e.words.source h, get_d-run g 0 n e.words.source no_source h, zero-add) p.none;
     end = p.end;
   }
 
   pub turn-none : n ≤ e.words.source → Stop 9 ≡ turn_of (run g 0 n) prev e
-  unfolding turn_of stopOr segmentRefusal when
+  unfolding turn_of stop_or segment_refusal when
   turn-none h = rw (length_run g 0 n, le-leb n e.words.source h)
 
-  pub turn-some : e.words.source < n → turned (g e.words.source) prev e.words (stampTimes e.stamps) ≡ turn_of (run g 0 n) prev e
-  unfolding turn_of turned segmentRefusal ends when
-  turn-some h = rw (length_run g 0 n, lt-leb n e.words.source h, getD-run g 0 n e.words.source noSource h, zero-add)
+  pub turn-some : e.words.source < n → turned (g e.words.source) prev e.words (stamp_times e.stamps) ≡ turn_of (run g 0 n) prev e
+  unfolding turn_of turned segment_refusal ends when
+  turn-some h = rw (length_run g 0 n, lt-leb n e.words.source h, get_d-run g 0 n e.words.source no_source h, zero-add)
 
   -- what the walk that only asks whether nothing refuses finds of a segment whose flag 1 doesn't refuse
-  pub passed : {to : Ends} → e.words.source < n → badSegment e ≡ false → Passing (g e.words.source) prev e.words e.stamps to → to ≡ passedOf (turn_of (run g 0 n) prev e)
-  unfolding passedOf badSegment turned
+  pub passed : {to : Ends} → e.words.source < n → bad_segment e ≡ false → Passing (g e.words.source) prev e.words e.stamps to → to ≡ passed_of (turn_of (run g 0 n) prev e)
+  unfolding passed_of bad_segment turned
   passed {to} h f p =
       decide to.some
-      (λ z. sym (ap passedOf (turn_on (run g 0 n) prev e (passes_of h (p.0 z)))))
-      (λ z. let q = p.1 z in q.end ∙ no_end (judged (g e.words.source) prev e.words (stampTimes e.stamps)) _ (q.refused f) ∙ ap passedOf (turn-some h))
+      (λ z. sym (ap passed_of (turn_on (run g 0 n) prev e (passes_of h (p.0 z)))))
+      (λ z. let q = p.1 z in q.end ∙ no_end (judged (g e.words.source) prev e.words (stamp_times e.stamps)) _ (q.refused f) ∙ ap passed_of (turn-some h))
 
 -- 1 to 8 decide whether the segments are walked
 module _ (t : Table) where
-  pub check-stops : {n i : ℕ} → frontRefusal t.log t.text t.sources (malformed t) (length t.segments) ≡ At n i → Refused n i ≡ checkOf t
-  unfolding checkOf refusal orRefused checkedOf
+  pub check-stops : {n i : ℕ} → front_refusal t.log t.text t.sources (malformed t) (length t.segments) ≡ At n i → Refused n i ≡ check_of t
+  unfolding check_of refusal or_refused checked_of
   check-stops e = rw e
 
-  pub check-goes : frontRefusal t.log t.text t.sources (malformed t) (length t.segments) ≡ Never → walked t.sources t.segments ≡ checkOf t
-  unfolding checkOf refusal orRefused walked
+  pub check-goes : front_refusal t.log t.text t.sources (malformed t) (length t.segments) ≡ Never → walked t.sources t.segments ≡ check_of t
+  unfolding check_of refusal or_refused walked
   check-goes e = rw e

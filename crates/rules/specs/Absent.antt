@@ -5,8 +5,8 @@ use Rattle.rules.specs.declared.Source.{Source}
 use Rattle.rules.specs.Records.{Segment, Table}
 
 -- offset and length of an absent creation time; clock numbers of kind 0; modulus of kinds 0 and 1
-unfoldable pub strippedSource : Source → Source
-strippedSource s = record {
+unfoldable pub stripped_source : Source → Source
+stripped_source s = record {
   frames = s.frames;
   num = s.num;
   den = s.den;
@@ -20,8 +20,8 @@ strippedSource s = record {
 }
 
 -- the shift of an absent shift
-unfoldable pub strippedSegment : Segment → Segment
-strippedSegment e = record {
+unfoldable pub stripped_segment : Segment → Segment
+stripped_segment e = record {
   words = e.words;
   stamps = record {
     srcstart = e.stamps.srcstart;
@@ -40,6 +40,6 @@ stripped t = record {
   uneven = t.uneven;
   log = t.log;
   text = t.text;
-  sources = map strippedSource t.sources;
-  segments = map strippedSegment t.segments;
+  sources = map stripped_source t.sources;
+  segments = map stripped_segment t.segments;
 }

@@ -2,54 +2,54 @@
 use Rattle.std.specs.Prelude.{ℕ, suc, ◌+◌, ◌-◌, min, Bool, ◌&&◌, ◌||◌, List, [], ◌∷◌, length, leb, ltb, eqb, ℤ}
 use Rattle.std.specs.Int.Signed.{le_z}
 use Rattle.choice.specs.Choice.{when}
-use Rattle.signed.specs.Signed.{eqZ}
+use Rattle.signed.specs.Signed.{eq_z}
 use Rattle.rules.specs.declared.Checked.{Checked}
 use Rattle.rules.specs.declared.Checked.TheVariants.{Frames, Refused}
 use Rattle.rules.specs.declared.Lookup.{Lookup}
 use Rattle.rules.specs.declared.Lookup.TheVariants.{Index, NoIndex}
 use Rattle.rules.specs.declared.Continued.{Continued}
 use Rattle.rules.specs.declared.Continued.TheVariants.{Answer, NoAnswer}
-use Rattle.rules.specs.Records.{Segment, Table, segment, outEnd, outEndUs}
-use Rattle.rules.specs.Rules.{checkOf}
+use Rattle.rules.specs.Records.{Segment, Table, segment, out_end, out_end_us}
+use Rattle.rules.specs.Rules.{check_of}
 
 -- how many records pass
-unfoldable pub countSuch : {A : Type 0} → (A → Bool) → List A → ℕ
-countSuch p [] = 0
-countSuch p (a ∷ l) = when (p a) (suc (countSuch p l)) (countSuch p l)
+unfoldable pub count_such : {A : Type 0} → (A → Bool) → List A → ℕ
+count_such p [] = 0
+count_such p (a ∷ l) = when (p a) (suc (count_such p l)) (count_such p l)
 
 -- the number of segments that have ended, at most the last index
 unfoldable pub ended : (Segment → Bool) → List Segment → ℕ
-ended p l = min (countSuch p l) (length l - 1)
+ended p l = min (count_such p l) (length l - 1)
 
 -- a segment has ended where a frame is reached, and where a time is
-abbrev pub overBy : ℕ → Segment → Bool
-overBy frame e = leb (outEnd e) frame
+abbrev pub over_by : ℕ → Segment → Bool
+over_by frame e = leb (out_end e) frame
 
-abbrev pub overByUs : ℤ → Segment → Bool
-overByUs time e = le_z (outEndUs e) time
+abbrev pub over_by_us : ℤ → Segment → Bool
+over_by_us time e = le_z (out_end_us e) time
 
 -- segment k, where the table is accepted
-unfoldable pub lookedUp : Checked → ℕ → Lookup
-lookedUp (Frames n) k = Index k
-lookedUp (Refused n i) k = NoIndex n i
+unfoldable pub looked_up : Checked → ℕ → Lookup
+looked_up (Frames n) k = Index k
+looked_up (Refused n i) k = NoIndex n i
 
 -- the Rust's segment_of_frame: the number of segments whose end is at most the frame
-unfoldable pub segmentOfFrame : Table → ℕ → Lookup
-segmentOfFrame t frame = lookedUp (checkOf t) (ended (overBy frame) t.segments)
+unfoldable pub segment_of_frame : Table → ℕ → Lookup
+segment_of_frame t frame = looked_up (check_of t) (ended (over_by frame) t.segments)
 
 -- its segment_of_time_us: the same with end times
-unfoldable pub segmentOfTime : Table → ℤ → Lookup
-segmentOfTime t time = lookedUp (checkOf t) (ended (overByUs time) t.segments)
+unfoldable pub segment_of_time : Table → ℤ → Lookup
+segment_of_time t time = looked_up (check_of t) (ended (over_by_us time) t.segments)
 
 -- shifts are equal: both absent, or both present and the same
-abbrev pub sameShift : ℕ → ℤ → ℕ → ℤ → Bool
-sameShift flag shift flag' shift' = eqb flag flag' && (eqb flag 0 || eqZ shift shift')
+abbrev pub same_shift : ℕ → ℤ → ℕ → ℤ → Bool
+same_shift flag shift flag' shift' = eqb flag flag' && (eqb flag 0 || eq_z shift shift')
 
 -- segment e continues segment p: the same source, source frames that run on, equal shift
-unfoldable pub segmentRunsOn : Segment → Segment → Bool
-segmentRunsOn p e =
+unfoldable pub segment_runs_on : Segment → Segment → Bool
+segment_runs_on p e =
     (eqb p.words.source e.words.source && eqb (p.words.first + p.words.count) e.words.first)
-    && sameShift p.words.flag p.stamps.shift e.words.flag e.stamps.shift
+    && same_shift p.words.flag p.stamps.shift e.words.flag e.stamps.shift
 
 -- b, where the table is accepted
 unfoldable pub continued : Checked → Bool → Continued
@@ -57,5 +57,5 @@ continued (Frames n) b = Answer b
 continued (Refused n i) b = NoAnswer n i
 
 -- the Rust's continues at r: r >= 1, r exists, and it continues the one before
-unfoldable pub continuesAt : Table → ℕ → Continued
-continuesAt t r = continued (checkOf t) ((leb 1 r && ltb r (length t.segments)) && segmentRunsOn (segment t (r - 1)) (segment t r))
+unfoldable pub continues_at : Table → ℕ → Continued
+continues_at t r = continued (check_of t) ((leb 1 r && ltb r (length t.segments)) && segment_runs_on (segment t (r - 1)) (segment t r))

@@ -1,13 +1,13 @@
 -- DOCUMENT 01'S TABLE OF REFUSALS, 1 to 17, in its own words: what each condition says of the records, and the order in which they are tested.
 -- `rightly`, in proofs/Exact.antt, proves of every table that what `check` answers is right by them. Sums of times are integers here, without bounds.
 use Rattle.std.specs.Prelude.{ℕ, zero, suc, ◌+◌, ◌≤◌, ◌<◌, ◌≡◌, Bool, true, false, List, [], ◌∷◌, ◌++◌, ◌⊎◌, ◌↔◌, length, get_or, take, drop, pos, ◌+ℤ◌, ◌<ℤ◌, ◌≤ℤ◌}
-use Rattle.choice.specs.Choice.{maxU64}
-use Rattle.utc.specs.Utc.{utcSecond}
+use Rattle.choice.specs.Choice.{max_u64}
+use Rattle.utc.specs.Utc.{utc_second}
 use Rattle.rules.specs.declared.Source.{Source}
 use Rattle.rules.specs.declared.Checked.{Checked}
 use Rattle.rules.specs.declared.Checked.TheVariants.{Frames, Refused}
-use Rattle.rules.specs.Limits.{maxSources, maxSegments, maxI64}
-use Rattle.rules.specs.Records.{Segment, Table, noSource, noSegment, source, segment, source_of, outEnd, outEndUs, captureEndUs}
+use Rattle.rules.specs.Limits.{max_sources, max_segments, max_i64}
+use Rattle.rules.specs.Records.{Segment, Table, no_source, no_segment, source, segment, source_of, out_end, out_end_us, capture_end_us}
 
 -- some record of a list has it
 abbrev pub Some : {A : Type 0} → A → (A → Type 0) → List A → Type 0
@@ -18,12 +18,12 @@ Some none P l = (k : ℕ) × (k < length l) × P (get_or l k none)
 abbrev pub Malformed : Table → Type 0
 Malformed t =
     (t.uneven ≡ true)
-    ⊎ Some noSource (λ s. (1 < s.dated) ⊎ (2 < s.kind) ⊎ ((s.dated ≡ 1) × (length t.text < s.from + s.size))) t.sources
-    ⊎ Some noSegment (λ e. 1 < e.words.flag) t.segments
+    ⊎ Some no_source (λ s. (1 < s.dated) ⊎ (2 < s.kind) ⊎ ((s.dated ≡ 1) × (length t.text < s.from + s.size))) t.sources
+    ⊎ Some no_segment (λ e. 1 < e.words.flag) t.segments
 
 -- 2: over 64 sources or 512 segments
 abbrev pub OverLimit : Table → Type 0
-OverLimit t = (maxSources < length t.sources) ⊎ (maxSegments < length t.segments)
+OverLimit t = (max_sources < length t.sources) ⊎ (max_segments < length t.segments)
 
 -- 4: frames, or either fps number, is 0
 abbrev pub NoRate : Source → Type 0
@@ -31,7 +31,7 @@ NoRate s = (s.frames ≡ 0) ⊎ (s.num ≡ 0) ⊎ (s.den ≡ 0)
 
 -- 5: its creation time fails the UTC rule
 abbrev pub NotUtc : List ℕ → Source → Type 0
-NotUtc text s = (s.dated ≡ 1) × (utcSecond (take s.size (drop s.from text)) ≡ false)
+NotUtc text s = (s.dated ≡ 1) × (utc_second (take s.size (drop s.from text)) ≡ false)
 
 -- 6: its clock rate has a 0, or its modulus is 0
 abbrev pub BadClock : Source → Type 0
@@ -43,7 +43,7 @@ NoClock log s = (log ≡ true) × (s.kind ≡ 0)
 
 -- 11: out or src first frame plus count passes 2^64 - 1
 abbrev pub Wraps : Segment → Type 0
-Wraps e = (maxU64 < outEnd e) ⊎ (maxU64 < e.words.first + e.words.count)
+Wraps e = (max_u64 < out_end e) ⊎ (max_u64 < e.words.first + e.words.count)
 
 -- 13: any of the six times negative
 abbrev pub Negative : Segment → Type 0
@@ -55,23 +55,23 @@ Negative e =
 -- 14: src_start + duration, or the capture pair, passes 2^63 - 1
 abbrev pub SourceLate : Segment → Type 0
 SourceLate e =
-    (pos maxI64 <ℤ (e.stamps.srcstart +ℤ e.stamps.duration)) ⊎ (pos maxI64 <ℤ (e.stamps.srccap +ℤ e.stamps.capdur))
+    (pos max_i64 <ℤ (e.stamps.srcstart +ℤ e.stamps.duration)) ⊎ (pos max_i64 <ℤ (e.stamps.srccap +ℤ e.stamps.capdur))
 
 -- 14 again: also out_start + duration or its capture pair, tested after 16
 abbrev pub OutLate : Segment → Type 0
-OutLate e = (pos maxI64 <ℤ outEndUs e) ⊎ (pos maxI64 <ℤ captureEndUs e)
+OutLate e = (pos max_i64 <ℤ out_end_us e) ⊎ (pos max_i64 <ℤ capture_end_us e)
 
 -- 15: out_first_frame isn't the end before (0 for the first)
 abbrev pub FrameGap : Table → ℕ → Type 0
 FrameGap t zero = (segment t 0).words.out ≡ 0 → ⊥
-FrameGap t (suc k) = (segment t (suc k)).words.out ≡ outEnd (segment t k) → ⊥
+FrameGap t (suc k) = (segment t (suc k)).words.out ≡ out_end (segment t k) → ⊥
 
 -- 16: out_start or out_capture_start isn't the end before; the first is free
 abbrev pub TimeGap : Table → ℕ → Type 0
 TimeGap t zero = ⊥
 TimeGap t (suc k) =
-    ((segment t (suc k)).stamps.outstart ≡ outEndUs (segment t k) → ⊥)
-    ⊎ ((segment t (suc k)).stamps.outcap ≡ captureEndUs (segment t k) → ⊥)
+    ((segment t (suc k)).stamps.outstart ≡ out_end_us (segment t k) → ⊥)
+    ⊎ ((segment t (suc k)).stamps.outcap ≡ capture_end_us (segment t k) → ⊥)
 
 -- 17: shift without clock, clock without shift, or a modulus with shift outside 0..modulus
 abbrev pub BadShift : Source → Segment → Type 0
@@ -91,8 +91,8 @@ abbrev pub given : Type 0 → ℕ → ℕ → Test
 given C n i = record { holds = C; number = n; index = i }
 
 -- 4 to 7 of source k
-abbrev pub ofSource : Table → ℕ → List Test
-ofSource t k =
+abbrev pub of_source : Table → ℕ → List Test
+of_source t k =
     given (NoRate (source t k)) 4 k
     ∷ given (NotUtc t.text (source t k)) 5 k
     ∷ given (BadClock (source t k)) 6 k
@@ -100,8 +100,8 @@ ofSource t k =
     ∷ []
 
 -- 9 to 17 of segment k; 9: no such source, 10: frame_count 0, 12: source end past the source's frames
-abbrev pub ofSegment : Table → ℕ → List Test
-ofSegment t k =
+abbrev pub of_segment : Table → ℕ → List Test
+of_segment t k =
     given (length t.sources ≤ (segment t k).words.source) 9 k
     ∷ given ((segment t k).words.count ≡ 0) 10 k
     ∷ given (Wraps (segment t k)) 11 k
@@ -125,9 +125,9 @@ tests t =
     given (Malformed t) 1 0
     ∷ given (OverLimit t) 2 0
     ∷ given (length t.sources ≡ 0) 3 0
-    ∷ (each (ofSource t) 0 (length t.sources)
+    ∷ (each (of_source t) 0 (length t.sources)
     ++ (given (length t.segments ≡ 0) 8 0
-    ∷ each (ofSegment t) 0 (length t.segments)))
+    ∷ each (of_segment t) 0 (length t.segments)))
 
 -- condition n holds at i, and none that is tested before it does
 abbrev pub First : List Test → ℕ → ℕ → Type 0

@@ -31,38 +31,38 @@ pub record Table : Type 0 where
   pub segments : List Segment
 
 -- what a number past the last names, which no answer rests on
-unfoldable pub noSource : Source
-noSource = record { frames = 0; num = 0; den = 0; dated = 0; from = 0; size = 0; kind = 0; ticks = 0; per = 0; modulus = 0 }
+unfoldable pub no_source : Source
+no_source = record { frames = 0; num = 0; den = 0; dated = 0; from = 0; size = 0; kind = 0; ticks = 0; per = 0; modulus = 0 }
 
-unfoldable pub noSegment : Segment
-noSegment = record {
+unfoldable pub no_segment : Segment
+no_segment = record {
   words = record { source = 0; first = 0; count = 0; out = 0; flag = 0 };
   stamps = record { srcstart = pos 0; outstart = pos 0; duration = pos 0; srccap = pos 0; outcap = pos 0; capdur = pos 0; shift = pos 0 };
 }
 
 -- source number k, and segment number k
 abbrev pub source : Table → ℕ → Source
-source t k = get_or t.sources k noSource
+source t k = get_or t.sources k no_source
 
 abbrev pub segment : Table → ℕ → Segment
-segment t k = get_or t.segments k noSegment
+segment t k = get_or t.segments k no_segment
 
 -- the source that a segment names
 abbrev pub source_of : List Source → Segment → Source
-source_of srcs e = get_or srcs e.words.source noSource
+source_of srcs e = get_or srcs e.words.source no_source
 
 -- the output frame after its last; out_end_frame
-abbrev pub outEnd : Segment → ℕ
-outEnd e = e.words.out + e.words.count
+abbrev pub out_end : Segment → ℕ
+out_end e = e.words.out + e.words.count
 
 -- where it ends in the output; out_end_us, and the same of its capture times
-abbrev pub outEndUs : Segment → ℤ
-outEndUs e = e.stamps.outstart +ℤ e.stamps.duration
+abbrev pub out_end_us : Segment → ℤ
+out_end_us e = e.stamps.outstart +ℤ e.stamps.duration
 
-abbrev pub captureEndUs : Segment → ℤ
-captureEndUs e = e.stamps.outcap +ℤ e.stamps.capdur
+abbrev pub capture_end_us : Segment → ℤ
+capture_end_us e = e.stamps.outcap +ℤ e.stamps.capdur
 
 -- how many frames some segments have
-unfoldable pub frameTotal : List Segment → ℕ
-frameTotal [] = 0
-frameTotal (e ∷ l) = e.words.count + frameTotal l
+unfoldable pub frame_total : List Segment → ℕ
+frame_total [] = 0
+frame_total (e ∷ l) = e.words.count + frame_total l

@@ -4,55 +4,55 @@ use Rattle.std.specs.Prelude.{ℕ, suc, ◌+◌, List, [], ◌∷◌, Bool, true
 use Rattle.std.specs.Int.Signed.{lt_z}
 use Rattle.choice.specs.declared.Refusal.{Refusal}
 use Rattle.choice.specs.declared.Refusal.TheVariants.{Never, At}
-use Rattle.choice.specs.Choice.{when, past, maxU64}
-use Rattle.choice.specs.Records.{any, firstRefused, orRefused}
-use Rattle.utc.specs.Utc.{utcSecond}
+use Rattle.choice.specs.Choice.{when, past, max_u64}
+use Rattle.choice.specs.Records.{any, first_refused, or_refused}
+use Rattle.utc.specs.Utc.{utc_second}
 use Rattle.rules.specs.declared.Source.{Source}
 use Rattle.rules.specs.declared.Words.{Words}
 use Rattle.rules.specs.declared.SixTimes.{SixTimes}
 use Rattle.rules.specs.declared.Ends.{Ends}
 use Rattle.rules.specs.declared.Checked.{Checked}
 use Rattle.rules.specs.declared.Checked.TheVariants.{Frames, Refused}
-use Rattle.rules.specs.Limits.{maxSources, maxSegments, maxI64}
-use Rattle.rules.specs.Records.{Stamps, Segment, Table, source_of, frameTotal}
+use Rattle.rules.specs.Limits.{max_sources, max_segments, max_i64}
+use Rattle.rules.specs.Records.{Stamps, Segment, Table, source_of, frame_total}
 
 -- 1: a flag or kind outside its set, or a present creation time whose range leaves the text of n bytes
-abbrev pub badWords : ℕ → ℕ → ℕ → ℕ → ℕ → Bool
-badWords n dated from size kind = (ltb 1 dated || ltb 2 kind) || (eqb dated 1 && past from size n)
+abbrev pub bad_words : ℕ → ℕ → ℕ → ℕ → ℕ → Bool
+bad_words n dated from size kind = (ltb 1 dated || ltb 2 kind) || (eqb dated 1 && past from size n)
 
 -- 1 of a source, and of a segment
-unfoldable pub badSource : ℕ → Source → Bool
-badSource n s = badWords n s.dated s.from s.size s.kind
+unfoldable pub bad_source : ℕ → Source → Bool
+bad_source n s = bad_words n s.dated s.from s.size s.kind
 
-unfoldable pub badSegment : Segment → Bool
-badSegment e = ltb 1 e.words.flag
+unfoldable pub bad_segment : Segment → Bool
+bad_segment e = ltb 1 e.words.flag
 
 -- 1, whole: also where lengths don't fit
 unfoldable pub malformed : Table → Bool
-malformed t = (t.uneven || any (badSource (length t.text)) t.sources) || any badSegment t.segments
+malformed t = (t.uneven || any (bad_source (length t.text)) t.sources) || any bad_segment t.segments
 
 -- 2: over 64 sources or 512 segments
-abbrev pub overLimit : ℕ → ℕ → Bool
-overLimit srcs segs = ltb maxSources srcs || ltb maxSegments segs
+abbrev pub over_limit : ℕ → ℕ → Bool
+over_limit srcs segs = ltb max_sources srcs || ltb max_segments segs
 
 -- 4: frames, or either fps number, is 0
-abbrev pub noRate : ℕ → ℕ → ℕ → Bool
-noRate frames num den = (eqb frames 0 || eqb num 0) || eqb den 0
+abbrev pub no_rate : ℕ → ℕ → ℕ → Bool
+no_rate frames num den = (eqb frames 0 || eqb num 0) || eqb den 0
 
 -- 5: its creation time fails the UTC rule
-abbrev pub badDate : List ℕ → ℕ → ℕ → ℕ → Bool
-badDate text dated from size = eqb dated 1 && not (utcSecond (take size (drop from text)))
+abbrev pub bad_date : List ℕ → ℕ → ℕ → ℕ → Bool
+bad_date text dated from size = eqb dated 1 && not (utc_second (take size (drop from text)))
 
 -- 6: its clock rate has a 0, or its modulus is 0
-abbrev pub badClock : ℕ → ℕ → ℕ → ℕ → Bool
-badClock kind ticks per modulus = not (eqb kind 0) && ((eqb ticks 0 || eqb per 0) || (eqb kind 2 && eqb modulus 0))
+abbrev pub bad_clock : ℕ → ℕ → ℕ → ℕ → Bool
+bad_clock kind ticks per modulus = not (eqb kind 0) && ((eqb ticks 0 || eqb per 0) || (eqb kind 2 && eqb modulus 0))
 
 -- 4 to 7 of a source; 7: a log is named and it has no clock
-unfoldable pub sourceRefusal : Bool → List ℕ → Source → ℕ
-sourceRefusal log text s =
-    when (noRate s.frames s.num s.den) 4
-    (when (badDate text s.dated s.from s.size) 5
-    (when (badClock s.kind s.ticks s.per s.modulus) 6
+unfoldable pub source_refusal : Bool → List ℕ → Source → ℕ
+source_refusal log text s =
+    when (no_rate s.frames s.num s.den) 4
+    (when (bad_date text s.dated s.from s.size) 5
+    (when (bad_clock s.kind s.ticks s.per s.modulus) 6
     (when (log && eqb s.kind 0) 7
     0)))
 
@@ -61,8 +61,8 @@ abbrev pub negative : ℤ → Bool
 negative z = lt_z z (pos 0)
 
 -- a segment's times as numbers; the magnitudes are used only after 13, where none is negative
-unfoldable pub stampTimes : Stamps → SixTimes
-stampTimes e = record {
+unfoldable pub stamp_times : Stamps → SixTimes
+stamp_times e = record {
   negative =
       ((negative e.srcstart || negative e.outstart) || (negative e.duration || negative e.srccap))
       || (negative e.outcap || negative e.capdur);
@@ -77,16 +77,16 @@ stampTimes e = record {
 }
 
 -- 14: a start plus its duration, or the capture pair, passes 2^63 - 1
-abbrev pub tooLate : ℕ → ℕ → ℕ → ℕ → Bool
-tooLate start duration cap capdur = past start duration maxI64 || past cap capdur maxI64
+abbrev pub too_late : ℕ → ℕ → ℕ → ℕ → Bool
+too_late start duration cap capdur = past start duration max_i64 || past cap capdur max_i64
 
 -- 16: out_start or out_capture_start isn't the end before; the first is free
 abbrev pub apart : Bool → ℕ → ℕ → ℕ → ℕ → Bool
 apart some time capture outstart outcap = some && (not (eqb outstart time) || not (eqb outcap capture))
 
 -- 17: a shift without clock, a clock without shift, or a modulus with the shift outside 0..modulus
-abbrev pub badShift : ℕ → ℕ → ℕ → Bool → ℕ → Bool
-badShift kind modulus flag back shift =
+abbrev pub bad_shift : ℕ → ℕ → ℕ → Bool → ℕ → Bool
+bad_shift kind modulus flag back shift =
     ((eqb kind 0 && eqb flag 1) || (not (eqb kind 0) && eqb flag 0)) || (eqb kind 2 && (back || leb modulus shift))
 
 -- 10 to 17 of a segment of the source s, after one that ends at prev
@@ -95,61 +95,61 @@ badShift kind modulus flag back shift =
 unfoldable pub judged : Source → Ends → Words → SixTimes → ℕ
 judged s prev w t =
     when (eqb w.count 0) 10
-    (when (past w.out w.count maxU64 || past w.first w.count maxU64) 11
+    (when (past w.out w.count max_u64 || past w.first w.count max_u64) 11
     (when (past w.first w.count s.frames) 12
     (when t.negative 13
-    (when (tooLate t.srcstart t.duration t.srccap t.capdur) 14
+    (when (too_late t.srcstart t.duration t.srccap t.capdur) 14
     (when (not (eqb w.out prev.frame)) 15
     (when (apart prev.some prev.time prev.capture t.outstart t.outcap) 16
-    (when (tooLate t.outstart t.duration t.outcap t.capdur) 14
-    (when (badShift s.kind s.modulus w.flag t.back t.shift) 17
+    (when (too_late t.outstart t.duration t.outcap t.capdur) 14
+    (when (bad_shift s.kind s.modulus w.flag t.back t.shift) 17
     0))))))))
 
 -- 9 to 17 of a segment; 9: no such source
-unfoldable pub segmentRefusal : List Source → Ends → Segment → ℕ
-segmentRefusal srcs prev e =
+unfoldable pub segment_refusal : List Source → Ends → Segment → ℕ
+segment_refusal srcs prev e =
     when (leb (length srcs) e.words.source) 9
-    (judged (source_of srcs e) prev e.words (stampTimes e.stamps))
+    (judged (source_of srcs e) prev e.words (stamp_times e.stamps))
 
 -- before the first segment: frame 0, and no times
 unfoldable pub start : Ends
 start = record { some = false; frame = 0; time = 0; capture = 0 }
 
 -- where a segment with these words and times ends
-unfoldable pub endsOf : Words → SixTimes → Ends
-endsOf w t = record { some = true; frame = w.out + w.count; time = t.outstart + t.duration; capture = t.outcap + t.capdur }
+unfoldable pub ends_of : Words → SixTimes → Ends
+ends_of w t = record { some = true; frame = w.out + w.count; time = t.outstart + t.duration; capture = t.outcap + t.capdur }
 
 -- where a segment ends
 unfoldable pub ends : Segment → Ends
-ends e = endsOf e.words (stampTimes e.stamps)
+ends e = ends_of e.words (stamp_times e.stamps)
 
 -- 9 to 17, segment by segment from the i-th on, after one that ends at prev
-unfoldable pub segmentsFrom : List Source → ℕ → Ends → List Segment → Refusal
-segmentsFrom srcs i prev [] = Never
-segmentsFrom srcs i prev (e ∷ es) =
-    when (eqb (segmentRefusal srcs prev e) 0) (segmentsFrom srcs (suc i) (ends e) es) (At (segmentRefusal srcs prev e) i)
+unfoldable pub segments_from : List Source → ℕ → Ends → List Segment → Refusal
+segments_from srcs i prev [] = Never
+segments_from srcs i prev (e ∷ es) =
+    when (eqb (segment_refusal srcs prev e) 0) (segments_from srcs (suc i) (ends e) es) (At (segment_refusal srcs prev e) i)
 
 -- 1 to 8, where `bad` says whether 1 holds and n segments are lent; 3: no sources; 8: no segments
-unfoldable pub frontRefusal : Bool → List ℕ → List Source → Bool → ℕ → Refusal
-frontRefusal log text srcs bad n =
+unfoldable pub front_refusal : Bool → List ℕ → List Source → Bool → ℕ → Refusal
+front_refusal log text srcs bad n =
     when bad (At 1 0)
-    (when (overLimit (length srcs) n) (At 2 0)
+    (when (over_limit (length srcs) n) (At 2 0)
     (when (eqb (length srcs) 0) (At 3 0)
-    (orRefused (firstRefused (sourceRefusal log text) 0 srcs)
+    (or_refused (first_refused (source_refusal log text) 0 srcs)
     (when (eqb n 0) (At 8 0)
     Never))))
 
 -- 1 to 17
 unfoldable pub refusal : Table → Refusal
 refusal t =
-    orRefused (frontRefusal t.log t.text t.sources (malformed t) (length t.segments))
-    (segmentsFrom t.sources 0 start t.segments)
+    or_refused (front_refusal t.log t.text t.sources (malformed t) (length t.segments))
+    (segments_from t.sources 0 start t.segments)
 
 -- a refusal, or the n frames of a table that has none
-unfoldable pub checkedOf : Refusal → ℕ → Checked
-checkedOf Never n = Frames n
-checkedOf (At n i) _ = Refused n i
+unfoldable pub checked_of : Refusal → ℕ → Checked
+checked_of Never n = Frames n
+checked_of (At n i) _ = Refused n i
 
 -- the check of a table: a refusal, or the frame total
-unfoldable pub checkOf : Table → Checked
-checkOf t = checkedOf (refusal t) (frameTotal t.segments)
+unfoldable pub check_of : Table → Checked
+check_of t = checked_of (refusal t) (frame_total t.segments)

@@ -2,9 +2,9 @@
 #![tactic(auto)]
 
 ghost use Rattle.std.specs.Prelude.{◌≡◌, true, false, not, ◌||◌, ◌↔◌, ◌≤◌, nat_abs};
-ghost use Rattle.rules.specs.Limits.{maxI64};
-ghost use Rattle.rules.specs.Rules.{badWords, noRate, badDate, badClock, sourceRefusal, negative, tooLate, apart, badShift, overLimit, judged, start};
-ghost use Rattle.rules.specs.Steps.{framesOr, timesOr, turned, FineFrames, FineShift, outOfTime, sevenStamps, Passing};
+ghost use Rattle.rules.specs.Limits.{max_i64};
+ghost use Rattle.rules.specs.Rules.{bad_words, no_rate, bad_date, bad_clock, source_refusal, negative, too_late, apart, bad_shift, over_limit, judged, start};
+ghost use Rattle.rules.specs.Steps.{frames_or, times_or, turned, FineFrames, FineShift, out_of_time, seven_stamps, Passing};
 
 use choice::MAX_U64;
 
@@ -112,7 +112,7 @@ pub enum Continued {
 
 // 1, of a source's words, where n bytes of text are lent.
 pub fn bad_words(n: u64, dated: u64, from: u64, size: u64, kind: u64) -> bool
-    ensures { result ≡ badWords n dated from size kind }
+    ensures { result ≡ bad_words n dated from size kind }
 {
     let leaves = choice::is_past(from, size, n);
     ((dated > 1) | (kind > 2)) | ((dated == 1) & leaves)
@@ -120,21 +120,21 @@ pub fn bad_words(n: u64, dated: u64, from: u64, size: u64, kind: u64) -> bool
 
 // 2.
 pub fn over_limit(sources: usize, segments: usize) -> bool
-    ensures { result ≡ overLimit sources segments }
+    ensures { result ≡ over_limit sources segments }
 {
     (sources > MAX_SOURCES) | (segments > MAX_SEGMENTS)
 }
 
 // 4.
 fn no_rate(frames: u64, num: u64, den: u64) -> bool
-    ensures { result ≡ noRate frames num den }
+    ensures { result ≡ no_rate frames num den }
 {
     ((frames == 0) | (num == 0)) | (den == 0)
 }
 
 // 5. A range that leaves the text, which 1 has refused, is taken as far as the text goes.
 fn bad_date(text: &[u8], dated: u64, from: u64, size: u64) -> bool
-    ensures { result ≡ badDate text.now dated from size }
+    ensures { result ≡ bad_date text.now dated from size }
 {
     let at = from as usize;
     let len = size as usize;
@@ -153,15 +153,15 @@ fn bad_date(text: &[u8], dated: u64, from: u64, size: u64) -> bool
 
 // 6.
 fn bad_clock(kind: u64, ticks: u64, per: u64, modulus: u64) -> bool
-    ensures { result ≡ badClock kind ticks per modulus }
+    ensures { result ≡ bad_clock kind ticks per modulus }
 {
     (kind != 0) & (((ticks == 0) | (per == 0)) | ((kind == 2) & (modulus == 0)))
 }
 
 // 4 to 7 of a source: a number, or 0 where none refuses it.
-#[tactic(auto, unfolding(choice::specs::Choice::when, crate::specs::Rules::sourceRefusal))]
+#[tactic(auto, unfolding(choice::specs::Choice::when, crate::specs::Rules::source_refusal))]
 pub fn source_refusal(log: bool, text: &[u8], s: Source) -> u64
-    ensures { result ≡ sourceRefusal log text.now s }
+    ensures { result ≡ source_refusal log text.now s }
 {
     if no_rate(s.frames, s.num, s.den) {
         return 4;
@@ -180,7 +180,7 @@ pub fn source_refusal(log: bool, text: &[u8], s: Source) -> u64
 
 // 14, of a start with its duration and of the capture pair.
 fn too_late(start: u64, duration: u64, cap: u64, capdur: u64) -> bool
-    ensures { result ≡ tooLate start duration cap capdur }
+    ensures { result ≡ too_late start duration cap capdur }
 {
     if choice::is_past(start, duration, MAX_I64) {
         return true;
@@ -197,7 +197,7 @@ fn is_apart(some: bool, time: u64, capture: u64, outstart: u64, outcap: u64) -> 
 
 // 17.
 fn bad_shift(kind: u64, modulus: u64, flag: u64, back: bool, shift: u64) -> bool
-    ensures { result ≡ badShift kind modulus flag back shift }
+    ensures { result ≡ bad_shift kind modulus flag back shift }
 {
     (((kind == 0) & (flag == 1)) | ((kind != 0) & (flag == 0)))
         | ((kind == 2) & (back | (modulus <= shift)))
@@ -206,7 +206,7 @@ fn bad_shift(kind: u64, modulus: u64, flag: u64, back: bool, shift: u64) -> bool
 // 10 to 12: a number, or 0. Each test leaves at once, since most segments pass all and a walk of many is long.
 #[tactic(auto, unfolding(choice::specs::Choice::when))]
 fn frames_refusal(frames: u64, first: u64, count: u64, out: u64) -> u64
-    ensures { result ≡ framesOr frames first count out 0 }
+    ensures { result ≡ frames_or frames first count out 0 }
 {
     if count == 0 {
         return 10;
@@ -226,7 +226,7 @@ fn frames_refusal(frames: u64, first: u64, count: u64, out: u64) -> u64
 // 13 to 16, and 14 of the out pairs: a number, or 0.
 #[tactic(auto, unfolding(choice::specs::Choice::when))]
 fn times_refusal(prev: Ends, out: u64, t: SixTimes) -> u64
-    ensures { result ≡ timesOr prev out t 0 }
+    ensures { result ≡ times_or prev out t 0 }
 {
     if t.negative {
         return 13;
@@ -296,7 +296,7 @@ pub fn no_end() -> Ends
 // A number that isn't negative.
 pub fn plain(x: i64) -> u64
     requires { negative x ≡ false }
-    ensures { (result ≡ nat_abs x) × (result ≤ maxI64) }
+    ensures { (result ≡ nat_abs x) × (result ≤ max_i64) }
 {
     x as u64
 }
@@ -352,8 +352,8 @@ fn fine_shift(kind: u64, modulus: u64, flag: u64, shift: i64) -> bool
 // 14 of numbers that aren't negative: their sums fit.
 #[tactic(auto, unfolding(choice::specs::Choice::past))]
 fn late(start: u64, duration: u64, cap: u64, capdur: u64) -> bool
-    requires { (start ≤ maxI64) × (duration ≤ maxI64) × (cap ≤ maxI64) × (capdur ≤ maxI64) }
-    ensures { result ≡ tooLate start duration cap capdur }
+    requires { (start ≤ max_i64) × (duration ≤ max_i64) × (cap ≤ max_i64) × (capdur ≤ max_i64) }
+    ensures { result ≡ too_late start duration cap capdur }
 {
     (start + duration > MAX_I64) | (cap + capdur > MAX_I64)
 }
@@ -368,8 +368,8 @@ fn fine_times(
     outcap: u64,
     capdur: u64,
 ) -> bool
-    requires { (srcstart ≤ maxI64) × (outstart ≤ maxI64) × (duration ≤ maxI64) × (srccap ≤ maxI64) × (outcap ≤ maxI64) × (capdur ≤ maxI64) }
-    ensures { result ≡ not (outOfTime prev srcstart outstart duration srccap outcap capdur) }
+    requires { (srcstart ≤ max_i64) × (outstart ≤ max_i64) × (duration ≤ max_i64) × (srccap ≤ max_i64) × (outcap ≤ max_i64) × (capdur ≤ max_i64) }
+    ensures { result ≡ not (out_of_time prev srcstart outstart duration srccap outcap capdur) }
 {
     let gap = is_apart(prev.some, prev.time, prev.capture, outstart, outcap);
     let a = late(srcstart, duration, srccap, capdur);
@@ -391,7 +391,7 @@ pub fn pass(
     capdur: i64,
     shift: i64,
 ) -> Ends
-    ensures { Passing s prev w (sevenStamps srcstart outstart duration srccap outcap capdur shift) result }
+    ensures { Passing s prev w (seven_stamps srcstart outstart duration srccap outcap capdur shift) result }
 {
     if !fine_frames(s.frames, w.first, w.count, w.out, prev.frame) {
         return no_end();

@@ -1,6 +1,6 @@
 // Maps: cut, many cuts, join, merge, and the origin of a frame.
 ghost use Rattle.std.specs.Prelude.{◌≡◌};
-ghost use Rattle.told.specs.Told.{tracedTold};
+ghost use Rattle.told.specs.Told.{traced_told};
 ghost use Rattle.segment_table.specs.Written.{CutTold, CutsTold, JoinTold, MergeTold, origin_of};
 
 // The frames a..b of a map as a map: each row's overlap, counted from a.
@@ -99,7 +99,7 @@ pub extern "C" fn st_origin(
     shift: &mut i64,
     index: &mut u64,
 ) -> u64
-    ensures { (result, source.new, source_frame.new, flag.new, shift.new, index.new) ≡ tracedTold (origin_of words.now shifts.now frame) source.old source_frame.old flag.old shift.old }
+    ensures { (result, source.new, source_frame.new, flag.new, shift.new, index.new) ≡ traced_told (origin_of words.now shifts.now frame) source.old source_frame.old flag.old shift.old }
 {
     let traced = maps::origin(words, shifts, frame);
     told::cutting::tell_traced(traced, source, source_frame, flag, shift, index)

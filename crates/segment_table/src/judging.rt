@@ -2,15 +2,15 @@
 ghost use Rattle.std.specs.Prelude.{◌≡◌};
 ghost use Rattle.table.specs.Layout.{table_of};
 ghost use Rattle.judge.specs.Video.{nothing, constant, timed};
-ghost use Rattle.judge.specs.Judge.{validateOf};
-ghost use Rattle.told.specs.Told.{checkedTold, refusalTold};
+ghost use Rattle.judge.specs.Judge.{validate_of};
+ghost use Rattle.told.specs.Told.{checked_told, refusal_told};
 ghost use Rattle.segment_table.specs.Written.{JudgedTold};
 
 use judge::Video;
 
 // Judges a table where its file has no video: it is always refused.
 // Lent: a table. Writes index. Refuses: 1 to 17, 21.
-#[tactic(auto, unfolding(judge::specs::Video::shownBy))]
+#[tactic(auto, unfolding(judge::specs::Video::shown_by))]
 #[unsafe(no_mangle)]
 pub extern "C" fn st_validate_no_video(
     sources: &[u64],
@@ -20,7 +20,7 @@ pub extern "C" fn st_validate_no_video(
     text: &[u8],
     index: &mut u64,
 ) -> u64
-    ensures { (result, index.new) ≡ refusalTold (validateOf (table_of sources.now segments.now times.now log text.now) nothing) }
+    ensures { (result, index.new) ≡ refusal_told (validate_of (table_of sources.now segments.now times.now log text.now) nothing) }
 {
     let judged = judge::validate(
         sources,
@@ -36,7 +36,7 @@ pub extern "C" fn st_validate_no_video(
 
 // Judges a table by a video of video_frames frames at num / den a second: its frame total.
 // Lent: a table. Writes frames, index. Refuses: 1 to 17, 20, 22, 23 with 24, 25.
-#[tactic(auto, unfolding(judge::specs::Video::shownBy))]
+#[tactic(auto, unfolding(judge::specs::Video::shown_by))]
 #[unsafe(no_mangle)]
 pub extern "C" fn st_validate_constant(
     sources: &[u64],
@@ -50,7 +50,7 @@ pub extern "C" fn st_validate_constant(
     frames: &mut u64,
     index: &mut u64,
 ) -> u64
-    ensures { (result, frames.new, index.new) ≡ checkedTold (validateOf (table_of sources.now segments.now times.now log text.now) (constant video_frames num den)) frames.old }
+    ensures { (result, frames.new, index.new) ≡ checked_told (validate_of (table_of sources.now segments.now times.now log text.now) (constant video_frames num den)) frames.old }
 {
     let video = Video::Constant {
         frames: video_frames,
@@ -63,7 +63,7 @@ pub extern "C" fn st_validate_constant(
 
 // Judges a table by a video's frame times, in ticks of scale a second: its frame total. The last frame ends at end.
 // Lent: a table, the starts. Writes frames, index. Refuses: 1 to 17, 20, 22, 23 with 24, 25.
-#[tactic(auto, unfolding(judge::specs::Video::shownBy))]
+#[tactic(auto, unfolding(judge::specs::Video::shown_by))]
 #[unsafe(no_mangle)]
 pub extern "C" fn st_validate_times(
     sources: &[u64],
@@ -78,7 +78,7 @@ pub extern "C" fn st_validate_times(
     frames: &mut u64,
     index: &mut u64,
 ) -> u64
-    ensures { (result, frames.new, index.new) ≡ checkedTold (validateOf (table_of sources.now segments.now times.now log text.now) (timed starts.now scale end nominal)) frames.old }
+    ensures { (result, frames.new, index.new) ≡ checked_told (validate_of (table_of sources.now segments.now times.now log text.now) (timed starts.now scale end nominal)) frames.old }
 {
     let video = Video::Times {
         scale,

@@ -1,9 +1,9 @@
 // Tables: the check, both lookups and those of a list of frames, whether a segment continues the one before, the rows of its map.
 ghost use Rattle.std.specs.Prelude.{◌≡◌};
-ghost use Rattle.rules.specs.Rules.{checkOf};
-ghost use Rattle.rules.specs.Lookups.{segmentOfFrame, segmentOfTime, continuesAt};
+ghost use Rattle.rules.specs.Rules.{check_of};
+ghost use Rattle.rules.specs.Lookups.{segment_of_frame, segment_of_time, continues_at};
 ghost use Rattle.table.specs.Layout.{table_of};
-ghost use Rattle.told.specs.Told.{checkedTold, lookupTold, continuedTold};
+ghost use Rattle.told.specs.Told.{checked_told, lookup_told, continued_told};
 ghost use Rattle.segment_table.specs.Written.{RowedTold, IndexingTold};
 
 // Checks a table: its frame total.
@@ -18,7 +18,7 @@ pub extern "C" fn st_check(
     frames: &mut u64,
     index: &mut u64,
 ) -> u64
-    ensures { (result, frames.new, index.new) ≡ checkedTold (checkOf (table_of sources.now segments.now times.now log text.now)) frames.old }
+    ensures { (result, frames.new, index.new) ≡ checked_told (check_of (table_of sources.now segments.now times.now log text.now)) frames.old }
 {
     told::tables::tell_checked(
         table::check(sources, segments, times, log, text),
@@ -40,7 +40,7 @@ pub extern "C" fn st_segment_of_frame(
     segment: &mut u64,
     index: &mut u64,
 ) -> u64
-    ensures { (result, segment.new, index.new) ≡ lookupTold (segmentOfFrame (table_of sources.now segments.now times.now log text.now) frame) segment.old }
+    ensures { (result, segment.new, index.new) ≡ lookup_told (segment_of_frame (table_of sources.now segments.now times.now log text.now) frame) segment.old }
 {
     let found = lookup::segment_of_frame(sources, segments, times, log, text, frame);
     told::tables::tell_lookup(found, segment, index)
@@ -89,7 +89,7 @@ pub extern "C" fn st_segment_of_time_us(
     segment: &mut u64,
     index: &mut u64,
 ) -> u64
-    ensures { (result, segment.new, index.new) ≡ lookupTold (segmentOfTime (table_of sources.now segments.now times.now log text.now) time) segment.old }
+    ensures { (result, segment.new, index.new) ≡ lookup_told (segment_of_time (table_of sources.now segments.now times.now log text.now) time) segment.old }
 {
     let found = lookup::segment_of_time_us(sources, segments, times, log, text, time);
     told::tables::tell_lookup(found, segment, index)
@@ -109,7 +109,7 @@ pub extern "C" fn st_continues(
     answer: &mut u64,
     index: &mut u64,
 ) -> u64
-    ensures { (result, answer.new, index.new) ≡ continuedTold (continuesAt (table_of sources.now segments.now times.now log text.now) segment) answer.old }
+    ensures { (result, answer.new, index.new) ≡ continued_told (continues_at (table_of sources.now segments.now times.now log text.now) segment) answer.old }
 {
     let continued = lookup::continues(sources, segments, times, log, text, segment as usize);
     told::tables::tell_continued(continued, answer, index)

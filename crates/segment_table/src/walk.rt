@@ -1,8 +1,8 @@
 // Boxes: sizes, the walk, the child of a type, the search in a range, the table's text.
 ghost use Rattle.std.specs.Prelude.{◌≡◌};
-ghost use Rattle.boxes.specs.Boxes.{boxSize, childrenAt};
-ghost use Rattle.boxes.specs.Places.{childPlace, findBoxPlace, tableTextPlace};
-ghost use Rattle.told.specs.Told.{sizeTold, reachedTold, placeTold};
+ghost use Rattle.boxes.specs.Boxes.{box_size, children_at};
+ghost use Rattle.boxes.specs.Places.{child_place, find_box_place, table_text_place};
+ghost use Rattle.told.specs.Told.{size_told, reached_told, place_told};
 
 // The size of the box at the start of data, and of its header, where `remaining` bytes are left of what it is in.
 // Lent: the bytes at hand. Writes size, header, index. Refuses: 30, 31.
@@ -14,7 +14,7 @@ pub extern "C" fn st_box_size(
     header: &mut u64,
     index: &mut u64,
 ) -> u64
-    ensures { (result, size.new, header.new, index.new) ≡ sizeTold (boxSize «data».now remaining) size.old header.old }
+    ensures { (result, size.new, header.new, index.new) ≡ size_told (box_size «data».now remaining) size.old header.old }
 {
     told::walk::tell_size(boxes::box_size(data, remaining), size, header, index)
 }
@@ -33,7 +33,7 @@ pub extern "C" fn st_children(
     next: &mut u64,
     index: &mut u64,
 ) -> u64
-    ensures { (result, kind.new, start.new, length.new, next.new, index.new) ≡ reachedTold (childrenAt payload.now at) kind.old start.old length.old next.old }
+    ensures { (result, kind.new, start.new, length.new, next.new, index.new) ≡ reached_told (children_at payload.now at) kind.old start.old length.old next.old }
 {
     let reached = boxes::children(payload, at as usize);
     told::walk::tell_reached(reached, kind, start, length, next, index)
@@ -50,7 +50,7 @@ pub extern "C" fn st_child(
     length: &mut u64,
     index: &mut u64,
 ) -> u64
-    ensures { (result, start.new, length.new, index.new) ≡ placeTold (childPlace payload.now kind) start.old length.old }
+    ensures { (result, start.new, length.new, index.new) ≡ place_told (child_place payload.now kind) start.old length.old }
 {
     told::walk::tell_place(boxes::child_place(payload, kind), start, length, index)
 }
@@ -70,7 +70,7 @@ pub extern "C" fn st_find_box(
     length: &mut u64,
     index: &mut u64,
 ) -> u64
-    ensures { (result, start.new, length.new, index.new) ≡ placeTold (findBoxPlace bytes.now from to kind text_types) start.old length.old }
+    ensures { (result, start.new, length.new, index.new) ≡ place_told (find_box_place bytes.now from to kind text_types) start.old length.old }
 {
     let place = boxes::find_box_place(bytes, from as usize, to as usize, kind, text_types);
     told::walk::tell_place(place, start, length, index)
@@ -86,7 +86,7 @@ pub extern "C" fn st_table_text(
     length: &mut u64,
     index: &mut u64,
 ) -> u64
-    ensures { (result, start.new, length.new, index.new) ≡ placeTold (tableTextPlace file.now) start.old length.old }
+    ensures { (result, start.new, length.new, index.new) ≡ place_told (table_text_place file.now) start.old length.old }
 {
     told::walk::tell_place(boxes::table_text_place(file), start, length, index)
 }

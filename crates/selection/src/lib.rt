@@ -4,7 +4,7 @@
 ghost use Rattle.std.specs.Prelude.{◌≡◌, true, ◌+◌, ◌-◌, ◌*◌, ◌<◌, length, get_or, take, pos};
 ghost use Rattle.std.specs.Int.Signed.{le_z, lt_z};
 ghost use Rattle.order.specs.Order.{sorted};
-ghost use Rattle.order.specs.Steps.{countLe, Greatest};
+ghost use Rattle.order.specs.Steps.{count_le, Greatest};
 ghost use Rattle.selection.specs.Keeping.{within};
 ghost use Rattle.selection.specs.Steps.{BoundsCounted, BoundsHold};
 
@@ -213,7 +213,7 @@ fn middle(lo: i64, hi: i64) -> i64
 
 // How many elements are at most v.
 fn count_le(xs: &[i64], v: i64) -> usize
-    ensures { result ≡ countLe v xs.now }
+    ensures { result ≡ count_le v xs.now }
 {
     let mut n: usize = 0;
     let mut i: usize = 0;

@@ -30,6 +30,3 @@ module _ (a b : ℤ) (p : I64 a) (q : I64 b) (t : Bool) where
 
   pub lt-read : lt_z (read a) (read b) ≡ t → lt_z a b ≡ t
   lt-read e = ap (λ z. lt_z z b) (sym (back a p)) ∙ ap (lt_z (read a)) (sym (back b q)) ∙ e
-
-pub same_bits : {a b : ℤ} → SFits w64 a → SFits w64 b → of_z w64 a ≡ of_z w64 b → a ≡ b
-same_bits f g e = sym (to_z-of_z f) ∙ ap (to_z w64) e ∙ to_z-of_z g

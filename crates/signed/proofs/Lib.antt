@@ -2,7 +2,6 @@ pub mod Order
 pub mod Up
 pub mod Bits
 pub mod Ranges
-pub mod Sums
 pub mod Twos
 pub mod Signs
 pub mod Quotients

@@ -7,7 +7,7 @@ use borrow.Author.Tests.{leb-true, leb-false, ltb-true, ltb-false, le-leb, lt-le
 use lib.IntN.{ℤ, pos, negsuc}
 use lib.Signed.{le_z, lt_z}
 use Rattle.choice.proofs.Tests.{tf}
-use Rattle.signed.specs.Signed.{eqZ}
+use Rattle.signed.specs.Signed.{eq_z}
 
 pub le_refl : (a : ℤ) → le_z a a ≡ true
 le_refl (pos a) = le-leb a a (omega arith)
@@ -52,21 +52,21 @@ pub lt-le : (a b : ℤ) → lt_z a b ≡ true → le_z a b ≡ true
 lt-le a b h = le_total b a (lt_not_le a b h)
 
 -- ---- equality
-pub eqZ-refl : (z : ℤ) → eqZ z z ≡ true
-eqZ-refl (pos n) = eq-eqb n n refl
-eqZ-refl (negsuc n) = eq-eqb n n refl
+pub eq_z-refl : (z : ℤ) → eq_z z z ≡ true
+eq_z-refl (pos n) = eq-eqb n n refl
+eq_z-refl (negsuc n) = eq-eqb n n refl
 
-pub eqZ-yes : {a b : ℤ} → a ≡ b → eqZ a b ≡ true
-eqZ-yes {a} {b} e = ap (λ (z : ℤ). eqZ a z) (sym e) ∙ eqZ-refl a
+pub eq_z-yes : {a b : ℤ} → a ≡ b → eq_z a b ≡ true
+eq_z-yes {a} {b} e = ap (λ (z : ℤ). eq_z a z) (sym e) ∙ eq_z-refl a
 
-pub eqZ-no : (a b : ℤ) → (a ≡ b → ⊥) → eqZ a b ≡ false
-eqZ-no (pos a) (pos b) f = ne_eqb a b (λ e. f (ap pos e))
-eqZ-no (pos a) (negsuc b) f = refl
-eqZ-no (negsuc a) (pos b) f = refl
-eqZ-no (negsuc a) (negsuc b) f = ne_eqb a b (λ e. f (ap negsuc e))
+pub eq_z-no : (a b : ℤ) → (a ≡ b → ⊥) → eq_z a b ≡ false
+eq_z-no (pos a) (pos b) f = ne_eqb a b (λ e. f (ap pos e))
+eq_z-no (pos a) (negsuc b) f = refl
+eq_z-no (negsuc a) (pos b) f = refl
+eq_z-no (negsuc a) (negsuc b) f = ne_eqb a b (λ e. f (ap negsuc e))
 
-pub eqZ-true : (a b : ℤ) → eqZ a b ≡ true → a ≡ b
-eqZ-true (pos a) (pos b) e = ap pos (eqb-true a b e)
-eqZ-true (pos a) (negsuc b) e = tf (sym e)
-eqZ-true (negsuc a) (pos b) e = tf (sym e)
-eqZ-true (negsuc a) (negsuc b) e = ap negsuc (eqb-true a b e)
+pub eq_z-true : (a b : ℤ) → eq_z a b ≡ true → a ≡ b
+eq_z-true (pos a) (pos b) e = ap pos (eqb-true a b e)
+eq_z-true (pos a) (negsuc b) e = tf (sym e)
+eq_z-true (negsuc a) (pos b) e = tf (sym e)
+eq_z-true (negsuc a) (negsuc b) e = ap negsuc (eqb-true a b e)

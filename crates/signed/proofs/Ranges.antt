@@ -63,15 +63,3 @@ negated neg n e f =
     ap Is (reads (negated_fits n f) ∙ negated-is n f)
     ∙ in-range (neg_ℤ (pos n)) (mag-neg-lt n (omega arith))
     ∙ sym (λ i. within (with_sign (e i) n))
-
--- the negation of a number: out of range only for the least
-pub negation-least : (z : ℤ) → z ≡ negsuc 9223372036854775807 → Outside ≡ within (neg_ℤ z)
-negation-least z e = sym (ap (λ (y : ℤ). within (neg_ℤ y)) e)
-
-pub negation-fits : (z : ℤ) → SFits w64 z → (z ≡ negsuc 9223372036854775807 → ⊥) → SFits w64 (neg_ℤ z)
-negation-fits (pos zero) f h = record { sfits = omega arith }
-negation-fits (pos (suc n)) f h = let k : suc n < 2 ^ 63 = f.sfits in record { sfits = omega arith }
-negation-fits (negsuc n) f h =
-    let k : n < 2 ^ 63 = f.sfits in
-    let l : n ≡ 9223372036854775807 → ⊥ = λ e. h (ap negsuc e) in
-    record { sfits = omega arith }

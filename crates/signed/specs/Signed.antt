@@ -9,15 +9,15 @@ abbrev pub within : ℤ → Held
 within z = if ltb (mag z) (2 ^ 63) then Is z else Outside
 
 -- no i64 holds z
-abbrev pub isOutside : ℤ → Bool
-isOutside z = leb (2 ^ 63) (mag z)
+abbrev pub is_outside : ℤ → Bool
+is_outside z = leb (2 ^ 63) (mag z)
 
 -- a and b are the same number
-abbrev pub eqZ : ℤ → ℤ → Bool
-eqZ (pos a) (pos b) = eqb a b
-eqZ (pos a) (negsuc b) = false
-eqZ (negsuc a) (pos b) = false
-eqZ (negsuc a) (negsuc b) = eqb a b
+abbrev pub eq_z : ℤ → ℤ → Bool
+eq_z (pos a) (pos b) = eqb a b
+eq_z (pos a) (negsuc b) = false
+eq_z (negsuc a) (pos b) = false
+eq_z (negsuc a) (negsuc b) = eqb a b
 
 -- the signed number that the bits of x are, where the numbers below 2 · half have that many bits
 unfoldable pub of_bits : ℕ → ℕ → ℤ

@@ -4,7 +4,7 @@
 
 ghost use Rattle.std.specs.Prelude.{◌≡◌, ◌<◌, ◌^◌, pos, neg_ℤ, nat_abs, ◌+ℤ◌, ◌-ℤ◌, ◌≤ℤ◌};
 ghost use Rattle.std.specs.Int.Signed.{lt_z, le_z, mag};
-ghost use Rattle.signed.specs.Signed.{eqZ, within, of_bits};
+ghost use Rattle.signed.specs.Signed.{eq_z, within, of_bits};
 ghost use Rattle.signed.specs.Rounded.{rounded};
 ghost use Rattle.signed.specs.Steps.{with_sign};
 
@@ -17,7 +17,7 @@ pub enum Held {
 
 // Whether two numbers are the same.
 pub fn same(a: i64, b: i64) -> bool
-    ensures { result ≡ eqZ a b }
+    ensures { result ≡ eq_z a b }
 {
     if a == b { true } else { false }
 }

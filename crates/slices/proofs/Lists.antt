@@ -18,10 +18,6 @@ fill_suc (suc n) v (x ∷ d) l = ap (λ t. v ∷ t) (fill_suc n v d (le_of_suc-l
 pub fill_more : {A : Type 0} (n : ℕ) (v : A) (d : List A) → n < length d → set (replicate n v ++ drop n d) n v ≡ replicate (n + 1) v ++ drop (n + 1) d
 fill_more n v d l = rw add-one (fill_suc n v d l)
 
--- stores to the end
-pub fill-all : {A : Type 0} (n : ℕ) (v : A) (d : List A) → length d ≡ n → replicate n v ++ drop n d ≡ replicate (length d) v
-fill-all n v d e = rw (drop_of_length-le d {i = n} (rw e (native.Mathlib.Nat.le_refl n)), append-nil, e)
-
 store-suc : {A : Type 0} (src dst : List A) (i : ℕ) (d : A) → i < length src → i < length dst → set (take i src ++ drop i dst) i (get_or src i d) ≡ take (suc i) src ++ drop (suc i) dst
 store-suc [] dst i d h k = absurd (not-suc-le-zero h)
 store-suc (x ∷ xs) [] i d h k = absurd (not-suc-le-zero k)

@@ -9,34 +9,34 @@ use lib.ListN.{length, get_or, drop}
 use lib.Seq.{drop-cons}
 use borrow.Author.Tests.{le-ltb, lt-leb}
 use lib.Dec.{eqb}
-use Rattle.choice.specs.Choice.{maxU64}
+use Rattle.choice.specs.Choice.{max_u64}
 use Rattle.choice.proofs.Tests.{decide}
 use Rattle.steps.specs.declared.Number.TheVariants.{Not}
-use Rattle.steps.specs.Words.{sameAs}
-use Rattle.steps.specs.Numbers.{digitOf, numberFrom, oversOf, number_in}
+use Rattle.steps.specs.Words.{same_as}
+use Rattle.steps.specs.Numbers.{digit_of, number_from, overs_of, number_in}
 
-pub same-differ : (a b : List ℕ) → (length a ≡ length b → ⊥) → sameAs a b ≡ false
-unfolding sameAs
+pub same-differ : (a b : List ℕ) → (length a ≡ length b → ⊥) → same_as a b ≡ false
+unfolding same_as
 same-differ [] [] h = absurd (h refl)
 same-differ [] (y ∷ b) h = refl
 same-differ (x ∷ a) [] h = refl
 same-differ (x ∷ a) (y ∷ b) h = let e = same-differ a b (λ z. h (ap suc z)) in decide (eqb x y) (λ t. rw (t, e)) (λ t. rw t)
 
 -- byte i is a digit: the number goes on with it
-pub number-go : (l : List ℕ) (i d : ℕ) → d ≡ digitOf (get_or l i 0) → i < length l → (n : ℕ) → d ≤ 9 → numberFrom n (drop i l) ≡ numberFrom (10 * n + d) (drop (i + 1) l)
+pub number-go : (l : List ℕ) (i d : ℕ) → d ≡ digit_of (get_or l i 0) → i < length l → (n : ℕ) → d ≤ 9 → number_from n (drop i l) ≡ number_from (10 * n + d) (drop (i + 1) l)
 number-go l i d e h n t = rw (add-one, drop-cons l i 0 h, ← e, le-ltb 9 d t)
 
 -- digits after a number that is too large already
-pub number-overs : (l : List ℕ) (n : ℕ) → maxU64 < n → numberFrom n l ≡ oversOf l
-number-overs [] n h = rw (lt-leb n maxU64 h)
-number-overs (b ∷ l) n h = let e = number-overs l (10 * n + digitOf b) (omega arith) in rw e
+pub number-overs : (l : List ℕ) (n : ℕ) → max_u64 < n → number_from n l ≡ overs_of l
+number-overs [] n h = rw (lt-leb n max_u64 h)
+number-overs (b ∷ l) n h = let e = number-overs l (10 * n + digit_of b) (omega arith) in rw e
 
 pub number-empty : (l : List ℕ) → length l ≡ 0 → Not ≡ number_in l
 unfolding number_in
 number-empty [] h = refl
 number-empty (b ∷ l) h = absurd (omega arith)
 
-pub number-start : (l : List ℕ) → (length l ≡ 0 → ⊥) → numberFrom 0 l ≡ number_in l
+pub number-start : (l : List ℕ) → (length l ≡ 0 → ⊥) → number_from 0 l ≡ number_in l
 unfolding number_in
 number-start [] h = absurd (h refl)
 number-start (b ∷ l) h = refl

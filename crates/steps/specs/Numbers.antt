@@ -1,6 +1,6 @@
 -- Words as numbers: decimal digits, and `-` before them where a number may be below 0.
 use Rattle.std.specs.Prelude.{ℕ, ◌+◌, ◌-◌, ◌*◌, Bool, true, false, List, [], ◌∷◌, ltb, leb, eqb, if◌then◌else◌}
-use Rattle.choice.specs.Choice.{maxU64}
+use Rattle.choice.specs.Choice.{max_u64}
 use Rattle.signed.specs.Signed.{within}
 use Rattle.signed.specs.declared.Held.{Held}
 use Rattle.signed.specs.declared.Held.TheVariants as held
@@ -11,35 +11,35 @@ use Rattle.steps.specs.declared.Integer.{Integer}
 use Rattle.steps.specs.declared.Integer.TheVariants as integer
 
 -- a digit's value, and 10 for a byte that is no digit
-abbrev pub digitOf : ℕ → ℕ
-digitOf b = if ltb b 48 then 10 else if ltb 57 b then 10 else b - 48
+abbrev pub digit_of : ℕ → ℕ
+digit_of b = if ltb b 48 then 10 else if ltb 57 b then 10 else b - 48
 
 -- the digits l after those of n
-abbrev pub numberFrom : ℕ → List ℕ → Number
-numberFrom n [] = if leb n maxU64 then Is n else Large
-numberFrom n (b ∷ l) = if ltb 9 (digitOf b) then Not else numberFrom (10 * n + digitOf b) l
+abbrev pub number_from : ℕ → List ℕ → Number
+number_from n [] = if leb n max_u64 then Is n else Large
+number_from n (b ∷ l) = if ltb 9 (digit_of b) then Not else number_from (10 * n + digit_of b) l
 
 -- the same where n is too large already
-abbrev pub oversOf : List ℕ → Number
-oversOf [] = Large
-oversOf (b ∷ l) = if ltb 9 (digitOf b) then Not else oversOf l
+abbrev pub overs_of : List ℕ → Number
+overs_of [] = Large
+overs_of (b ∷ l) = if ltb 9 (digit_of b) then Not else overs_of l
 
 -- a word as a number
 unfoldable pub number_in : List ℕ → Number
 number_in [] = Not
-number_in (b ∷ l) = numberFrom 0 (b ∷ l)
+number_in (b ∷ l) = number_from 0 (b ∷ l)
 
 -- a number with a sign, true for below 0
-abbrev pub heldAs : Held → Integer
-heldAs (held.Is z) = integer.Is z
-heldAs held.Outside = integer.Large
+abbrev pub held_as : Held → Integer
+held_as (held.Is z) = integer.Is z
+held_as held.Outside = integer.Large
 
-abbrev pub signedAs : Bool → Number → Integer
-signedAs neg (Is m) = heldAs (within (with_sign neg m))
-signedAs neg Large = integer.Large
-signedAs neg Not = integer.Not
+abbrev pub signed_as : Bool → Number → Integer
+signed_as neg (Is m) = held_as (within (with_sign neg m))
+signed_as neg Large = integer.Large
+signed_as neg Not = integer.Not
 
 -- a word as a signed number
-unfoldable pub integerIn : List ℕ → Integer
-integerIn [] = integer.Not
-integerIn (b ∷ l) = if eqb b 45 then signedAs true (number_in l) else signedAs false (number_in (b ∷ l))
+unfoldable pub integer_in : List ℕ → Integer
+integer_in [] = integer.Not
+integer_in (b ∷ l) = if eqb b 45 then signed_as true (number_in l) else signed_as false (number_in (b ∷ l))

@@ -14,28 +14,28 @@ passing Word b = not (blank b)
 passing Text b = not (eqb b 35)
 
 -- how many of the first bytes are of a kind
-abbrev pub leadingOf : Kind → List ℕ → ℕ
-leadingOf k [] = 0
-leadingOf k (b ∷ l) = if passing k b then suc (leadingOf k l) else 0
+abbrev pub leading_of : Kind → List ℕ → ℕ
+leading_of k [] = 0
+leading_of k (b ∷ l) = if passing k b then suc (leading_of k l) else 0
 
 -- the same bytes
-unfoldable pub sameAs : List ℕ → List ℕ → Bool
-sameAs [] [] = true
-sameAs [] (b ∷ y) = false
-sameAs (a ∷ x) [] = false
-sameAs (a ∷ x) (b ∷ y) = eqb a b && sameAs x y
+unfoldable pub same_as : List ℕ → List ℕ → Bool
+same_as [] [] = true
+same_as [] (b ∷ y) = false
+same_as (a ∷ x) [] = false
+same_as (a ∷ x) (b ∷ y) = eqb a b && same_as x y
 
 -- a line before its comment
 unfoldable pub code_of : List ℕ → List ℕ
-code_of l = take (leadingOf Text l) l
+code_of l = take (leading_of Text l) l
 
 -- a line from its first word on
 unfoldable pub trimmed : List ℕ → List ℕ
-trimmed l = drop (leadingOf Blank l) l
+trimmed l = drop (leading_of Blank l) l
 
 -- the first word, and what comes after it
 unfoldable pub word_of : List ℕ → List ℕ
-word_of l = take (leadingOf Word (trimmed l)) (trimmed l)
+word_of l = take (leading_of Word (trimmed l)) (trimmed l)
 
 unfoldable pub rest_of : List ℕ → List ℕ
-rest_of l = drop (leadingOf Word (trimmed l)) (trimmed l)
+rest_of l = drop (leading_of Word (trimmed l)) (trimmed l)

@@ -3,9 +3,9 @@
 #![tactic(auto)]
 
 ghost use Rattle.std.specs.Prelude.{◌≡◌, length, drop, ◌≤◌};
-ghost use Rattle.steps.specs.Words.{passing, leadingOf, sameAs, code_of, trimmed, word_of, rest_of};
-ghost use Rattle.steps.specs.Numbers.{digitOf, oversOf, number_in, signedAs, integerIn};
-ghost use Rattle.steps.specs.Steps.{endedBy, rowShift, rowCount, rowFirst, rowSource, cutEnd, cutStart, originFrame, keywordIn, stepIn, step_of};
+ghost use Rattle.steps.specs.Words.{passing, leading_of, same_as, code_of, trimmed, word_of, rest_of};
+ghost use Rattle.steps.specs.Numbers.{digit_of, overs_of, number_in, signed_as, integer_in};
+ghost use Rattle.steps.specs.Steps.{ended_by, row_shift, row_count, row_first, row_source, cut_end, cut_start, origin_frame, keyword_in, step_in, step_of};
 
 use choice::MAX_U64;
 use signed::Held;
@@ -72,7 +72,7 @@ fn passes(k: Kind, b: u8) -> bool
 
 // How many of the first bytes are of a kind.
 fn leading(l: &[u8], k: Kind) -> usize
-    ensures value { result ≡ leadingOf k l.now }
+    ensures value { result ≡ leading_of k l.now }
     ensures bound { result ≤ length l.now }
 {
     let mut i = 0;
@@ -86,9 +86,9 @@ fn leading(l: &[u8], k: Kind) -> usize
 }
 
 // Whether two words are the same.
-#[tactic(auto, unfolding(crate::specs::Words::sameAs))]
+#[tactic(auto, unfolding(crate::specs::Words::same_as))]
 pub fn same(a: &[u8], b: &[u8]) -> bool
-    ensures { result ≡ sameAs a.now b.now }
+    ensures { result ≡ same_as a.now b.now }
 {
     if a.len() != b.len() {
         return false;
@@ -143,7 +143,7 @@ pub fn rest(l: &[u8]) -> &[u8]
 
 // A digit's value; more than 9 where it is no digit.
 fn digit(b: u8) -> u64
-    ensures { result ≡ digitOf b }
+    ensures { result ≡ digit_of b }
 {
     if b < 48 {
         return 10;
@@ -157,7 +157,7 @@ fn digit(b: u8) -> u64
 // Digits that go on where the number is too large already: it is no number if one of them isn't a digit.
 fn overs(l: &[u8], from: usize) -> Number
     requires { from ≤ length l.now }
-    ensures { result ≡ oversOf (drop from l.now) }
+    ensures { result ≡ overs_of (drop from l.now) }
 {
     let mut i = from;
     while i < l.len() {
@@ -194,7 +194,7 @@ pub fn number_of(l: &[u8]) -> Number
 
 // A number with a sign.
 fn with_sign(neg: bool, n: Number) -> Integer
-    ensures { result ≡ signedAs neg n }
+    ensures { result ≡ signed_as neg n }
 {
     match n {
         Number::Is(m) => match signed::with_sign(neg, m) {
@@ -208,7 +208,7 @@ fn with_sign(neg: bool, n: Number) -> Integer
 
 // A word of decimal digits as a signed number, with `-` before it where it is below 0.
 pub fn integer_of(l: &[u8]) -> Integer
-    ensures { result ≡ integerIn l.now }
+    ensures { result ≡ integer_in l.now }
 {
     if l.len() == 0 {
         return Integer::Not;
@@ -220,9 +220,9 @@ pub fn integer_of(l: &[u8]) -> Integer
 }
 
 // A step that nothing may follow.
-#[tactic(auto, unfolding(crate::specs::Steps::endedBy, choice::specs::Choice::when))]
+#[tactic(auto, unfolding(crate::specs::Steps::ended_by, choice::specs::Choice::when))]
 fn ended(s: Step, l: &[u8]) -> Step
-    ensures { result ≡ endedBy s l.now }
+    ensures { result ≡ ended_by s l.now }
 {
     if word(l).len() == 0 {
         return s;
@@ -231,9 +231,9 @@ fn ended(s: Step, l: &[u8]) -> Step
 }
 
 // The shift of a row, if it has one.
-#[tactic(auto, unfolding(crate::specs::Steps::rowShift, choice::specs::Choice::when))]
+#[tactic(auto, unfolding(crate::specs::Steps::row_shift, choice::specs::Choice::when))]
 fn row_shift(source: u64, first: u64, count: u64, l: &[u8]) -> Step
-    ensures { result ≡ rowShift source first count l.now }
+    ensures { result ≡ row_shift source first count l.now }
 {
     let w = word(l);
     if w.len() == 0 {
@@ -251,9 +251,9 @@ fn row_shift(source: u64, first: u64, count: u64, l: &[u8]) -> Step
 }
 
 // The count of a row, and what follows it.
-#[tactic(auto, unfolding(crate::specs::Steps::rowCount))]
+#[tactic(auto, unfolding(crate::specs::Steps::row_count))]
 fn row_count(source: u64, first: u64, l: &[u8]) -> Step
-    ensures { result ≡ rowCount source first l.now }
+    ensures { result ≡ row_count source first l.now }
 {
     match number_of(word(l)) {
         Number::Is(n) => row_shift(source, first, n, rest(l)),
@@ -263,9 +263,9 @@ fn row_count(source: u64, first: u64, l: &[u8]) -> Step
 }
 
 // The source first of a row, and what follows it.
-#[tactic(auto, unfolding(crate::specs::Steps::rowFirst))]
+#[tactic(auto, unfolding(crate::specs::Steps::row_first))]
 fn row_first(source: u64, l: &[u8]) -> Step
-    ensures { result ≡ rowFirst source l.now }
+    ensures { result ≡ row_first source l.now }
 {
     match number_of(word(l)) {
         Number::Is(n) => row_count(source, n, rest(l)),
@@ -275,9 +275,9 @@ fn row_first(source: u64, l: &[u8]) -> Step
 }
 
 // The source of a row, and what follows it.
-#[tactic(auto, unfolding(crate::specs::Steps::rowSource))]
+#[tactic(auto, unfolding(crate::specs::Steps::row_source))]
 fn row_source(l: &[u8]) -> Step
-    ensures { result ≡ rowSource l.now }
+    ensures { result ≡ row_source l.now }
 {
     match number_of(word(l)) {
         Number::Is(n) => row_first(n, rest(l)),
@@ -287,9 +287,9 @@ fn row_source(l: &[u8]) -> Step
 }
 
 // The end of a cut.
-#[tactic(auto, unfolding(crate::specs::Steps::cutEnd))]
+#[tactic(auto, unfolding(crate::specs::Steps::cut_end))]
 fn cut_end(start: u64, l: &[u8]) -> Step
-    ensures { result ≡ cutEnd start l.now }
+    ensures { result ≡ cut_end start l.now }
 {
     match number_of(word(l)) {
         Number::Is(n) => ended(Step::Cut(start, n), rest(l)),
@@ -299,9 +299,9 @@ fn cut_end(start: u64, l: &[u8]) -> Step
 }
 
 // The start of a cut, and what follows it.
-#[tactic(auto, unfolding(crate::specs::Steps::cutStart))]
+#[tactic(auto, unfolding(crate::specs::Steps::cut_start))]
 fn cut_start(l: &[u8]) -> Step
-    ensures { result ≡ cutStart l.now }
+    ensures { result ≡ cut_start l.now }
 {
     match number_of(word(l)) {
         Number::Is(n) => cut_end(n, rest(l)),
@@ -311,9 +311,9 @@ fn cut_start(l: &[u8]) -> Step
 }
 
 // The frame whose origin is asked.
-#[tactic(auto, unfolding(crate::specs::Steps::originFrame))]
+#[tactic(auto, unfolding(crate::specs::Steps::origin_frame))]
 fn origin_frame(l: &[u8]) -> Step
-    ensures { result ≡ originFrame l.now }
+    ensures { result ≡ origin_frame l.now }
 {
     match number_of(word(l)) {
         Number::Is(n) => ended(Step::Origin(n), rest(l)),
@@ -323,9 +323,9 @@ fn origin_frame(l: &[u8]) -> Step
 }
 
 // Which word begins a step.
-#[tactic(auto, unfolding(crate::specs::Steps::keywordIn, choice::specs::Choice::when))]
+#[tactic(auto, unfolding(crate::specs::Steps::keyword_in, choice::specs::Choice::when))]
 fn keyword_of(w: &[u8]) -> Keyword
-    ensures { result ≡ keywordIn w.now }
+    ensures { result ≡ keyword_in w.now }
 {
     if w.len() == 0 {
         return Keyword::Absent;
@@ -349,9 +349,9 @@ fn keyword_of(w: &[u8]) -> Keyword
 }
 
 // What a line without its comment asks for.
-#[tactic(auto, unfolding(crate::specs::Steps::stepIn))]
+#[tactic(auto, unfolding(crate::specs::Steps::step_in))]
 fn step_in(l: &[u8]) -> Step
-    ensures { result ≡ stepIn l.now }
+    ensures { result ≡ step_in l.now }
 {
     match keyword_of(word(l)) {
         Keyword::Absent => Step::Nothing,

@@ -5,8 +5,8 @@ use mathlib.Core.List.{List}
 use Prim.Native.Nat.{ℕ, ◌+◌}
 use native.Mathlib.Omega.{arith}
 use lib.IntN.{ℤ}
-use Rattle.boxes.specs.Boxes.{childrenAt}
-use Rattle.boxes.specs.Places.{childPlace, findBoxPlace, place_of, movedWalk}
+use Rattle.boxes.specs.Boxes.{children_at}
+use Rattle.boxes.specs.Places.{child_place, find_box_place, place_of, moved_walk}
 use Rattle.boxes.specs.declared.Place.{Place}
 use Rattle.boxes.specs.declared.Place.TheVariants as place
 use Rattle.boxes.specs.declared.Reached.{Reached}
@@ -21,9 +21,9 @@ use Rattle.frame_times.specs.Times.{MoovAnswers}
 pub record Answers
     (Child : List ℕ → ℕ → Place → Type 0) (FindBox : List ℕ → ℕ → ℕ → ℕ → Bool → Place → Type 0) (Children : List ℕ → ℕ → Reached → Type 0)
     (FrameTimesOf : List ℕ → Bool → List ℤ → List ℤ → List ℤ → FrameTimes → List ℤ → List ℤ → List ℤ → Type 0) : Type 0 where
-  pub child : (b : List ℕ) (kind : ℕ) (r : Place) → Child b kind r → r ≡ childPlace b kind
-  pub find-box : (b : List ℕ) (start end kind : ℕ) (text : Bool) (r : Place) → FindBox b start end kind text r → r ≡ findBoxPlace b start end kind text
-  pub children : (b : List ℕ) (at : ℕ) (r : Reached) → Children b at r → r ≡ childrenAt b at
+  pub child : (b : List ℕ) (kind : ℕ) (r : Place) → Child b kind r → r ≡ child_place b kind
+  pub find-box : (b : List ℕ) (start end kind : ℕ) (text : Bool) (r : Place) → FindBox b start end kind text r → r ≡ find_box_place b start end kind text
+  pub children : (b : List ℕ) (at : ℕ) (r : Reached) → Children b at r → r ≡ children_at b at
   pub frame-times : (moov : List ℕ) (standard : Bool) (starts a b starts' a' b' : List ℤ) (r : FrameTimes) → FrameTimesOf moov standard starts a b r starts' a' b' → MoovAnswers standard moov starts a b r starts' a' b'
 
 -- P holds of the index, where an answer is 36
@@ -45,7 +45,7 @@ place-told P (Found start len) f = tt
 place-told P End f = λ e. absurd (omega arith)
 place-told P (BadAt at) f = λ e. f at refl
 
-pub moved_told : (P : ℕ → Type 0) (by : ℕ) (w : Walk) → ((at : ℕ) → w ≡ BadAt at → P (by + at)) → PlaceTold P (place_of (movedWalk by w))
+pub moved_told : (P : ℕ → Type 0) (by : ℕ) (w : Walk) → ((at : ℕ) → w ≡ BadAt at → P (by + at)) → PlaceTold P (place_of (moved_walk by w))
 moved_told P by (Found start len) f = tt
 moved_told P by End f = λ e. absurd (omega arith)
 moved_told P by (BadAt at) f = λ e. f at refl
@@ -60,7 +60,7 @@ place-ended X (Found start len) f = tt
 place-ended X End f = λ e. f refl
 place-ended X (BadAt at) f = λ e. absurd (omega arith)
 
-pub moved-ended : (X : Type 0) (by : ℕ) (w : Walk) → (w ≡ End → X) → PlaceEnded X (place_of (movedWalk by w))
+pub moved-ended : (X : Type 0) (by : ℕ) (w : Walk) → (w ≡ End → X) → PlaceEnded X (place_of (moved_walk by w))
 moved-ended X by (Found start len) f = tt
 moved-ended X by End f = λ e. f refl
 moved-ended X by (BadAt at) f = λ e. absurd (omega arith)

@@ -8,26 +8,26 @@ use lib.Signed.{le_z}
 use lib.Dec.{ltb, eqb}
 use borrow.Author.Tests.{eq-eqb}
 use Rattle.choice.specs.Records.{any}
-use Rattle.choice.specs.Numbers.{badHeader}
+use Rattle.choice.specs.Numbers.{bad_header}
 use Rattle.choice.proofs.Tests.{either, tf}
-use Rattle.signed.specs.Signed.{isOutside}
+use Rattle.signed.specs.Signed.{is_outside}
 use Rattle.tracks.specs.declared.Rows.{Rows}
 use Rattle.tracks.specs.declared.Rows.TheVariants.{Whole, Torn}
 use Rattle.tracks.specs.declared.Edit.{Edit}
 use Rattle.tracks.specs.declared.Edited.{Edited}
 use Rattle.tracks.specs.declared.Edited.TheVariants.{By, Bad}
-use Rattle.tracks.specs.Tables.{optionalRows, entriesOf, entryTotal, durations, offsets}
-use Rattle.tracks.specs.Edits.{editOf}
+use Rattle.tracks.specs.Tables.{optional_rows, entries_of, entry_total, durations, offsets}
+use Rattle.tracks.specs.Edits.{edit_of}
 use Rattle.frame_times.specs.declared.FrameTimes.{FrameTimes}
 use Rattle.frame_times.specs.declared.FrameTimes.TheVariants.{Presented, Refused}
 use Rattle.frame_times.specs.Frames.{Frame}
-use Rattle.frame_times.specs.Times.{Outcome, placed, shown, ofKept, ofEdit, ofOffsets, ofDurations}
+use Rattle.frame_times.specs.Times.{Outcome, placed, shown, of_kept, of_edit, of_offsets, of_durations}
 use Rattle.stops.proofs.Answers.{TimesTold}
 
 -- an answer that isn't 36
 abbrev pub Other : FrameTimes → Type 0
 Other (Presented frames scale nominal end) = Unit {0}
-Other (Refused n i) = eqb n badHeader ≡ false
+Other (Refused n i) = eqb n bad_header ≡ false
 
 abbrev pub Plain : Outcome → Type 0
 Plain o = Other o.answer
@@ -35,30 +35,30 @@ Plain o = Other o.answer
 -- says nothing of an index
 pub other-told : (P : ℕ → Type 0) (r : FrameTimes) → Other r → TimesTold P r
 other-told P (Presented frames scale nominal end) h = tt
-other-told P (Refused n i) h = λ e. tf (sym (eq-eqb n badHeader e) ∙ h)
+other-told P (Refused n i) h = λ e. tf (sym (eq-eqb n bad_header e) ∙ h)
 
 -- from the kept frames on
 plain-placed : (scale : ℕ) (nominal end : ℤ) (starts : List ℤ) → Plain (placed scale nominal end starts)
 unfolding placed
-plain-placed scale nominal end starts = either Plain (any isOutside (end ∷ starts)) (λ t. refl) (λ t. tt)
+plain-placed scale nominal end starts = either Plain (any is_outside (end ∷ starts)) (λ t. refl) (λ t. tt)
 
-plain-kept : (scale : ℕ) (nominal : ℤ) (e : Edit) (l : List Frame) → Plain (ofKept scale nominal e l)
-unfolding ofKept shown
+plain-kept : (scale : ℕ) (nominal : ℤ) (e : Edit) (l : List Frame) → Plain (of_kept scale nominal e l)
+unfolding of_kept shown
 plain-kept scale nominal e [] = refl
 plain-kept scale nominal e (f ∷ fs) = either Plain (le_z nominal (pos 0)) (λ t. refl) (λ t. plain-placed scale nominal _ _)
 
 -- from the edit list on, the ctts, and the stts
-plain-edit : (e : Edited) (scale : ℕ) (ds : List ℕ) (os : List ℤ) → Plain (ofEdit e scale ds os)
+plain-edit : (e : Edited) (scale : ℕ) (ds : List ℕ) (os : List ℤ) → Plain (of_edit e scale ds os)
 plain-edit Bad scale ds os = refl
 plain-edit (By e) scale ds os = plain-kept scale _ e _
 
-plain-offsets : (standard : Bool) (r : Rows) (ctts edts : List ℕ) (scale movie : ℕ) (ds : List ℕ) → Plain (ofOffsets standard r ctts edts scale movie ds)
+plain-offsets : (standard : Bool) (r : Rows) (ctts edts : List ℕ) (scale movie : ℕ) (ds : List ℕ) → Plain (of_offsets standard r ctts edts scale movie ds)
 plain-offsets standard Torn ctts edts scale movie ds = refl
-plain-offsets standard (Whole n) ctts edts scale movie ds = plain-edit (editOf edts scale movie) scale ds (offsets standard n ctts)
+plain-offsets standard (Whole n) ctts edts scale movie ds = plain-edit (edit_of edts scale movie) scale ds (offsets standard n ctts)
 
-pub plain-durations : (standard : Bool) (r : Rows) (bytes room movie scale : ℕ) (edts ctts stts : List ℕ) → Plain (ofDurations standard r bytes room movie scale edts ctts stts)
+pub plain-durations : (standard : Bool) (r : Rows) (bytes room movie scale : ℕ) (edts ctts stts : List ℕ) → Plain (of_durations standard r bytes room movie scale edts ctts stts)
 plain-durations standard Torn bytes room movie scale edts ctts stts = refl
 plain-durations standard (Whole n) bytes room movie scale edts ctts stts =
-    either Plain (ltb bytes (entryTotal (entriesOf n stts))) (λ t. refl)
-    (λ t. either Plain (ltb room (entryTotal (entriesOf n stts))) (λ t. refl)
-    (λ t. plain-offsets standard (optionalRows ctts) ctts edts scale movie (durations n stts)))
+    either Plain (ltb bytes (entry_total (entries_of n stts))) (λ t. refl)
+    (λ t. either Plain (ltb room (entry_total (entries_of n stts))) (λ t. refl)
+    (λ t. plain-offsets standard (optional_rows ctts) ctts edts scale movie (durations n stts)))

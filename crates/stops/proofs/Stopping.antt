@@ -11,8 +11,8 @@ use lib.ListN.{length, take, drop}
 use lib.Dec.{ltb, eqb}
 use borrow.Author.Tests.{ltb-false}
 use Rattle.choice.proofs.Tests.{either}
-use Rattle.boxes.specs.Boxes.{mostBytes, header_at, boxesOf, searched, first_of, reachedBy, childrenAt}
-use Rattle.boxes.specs.Places.{childPlace, findBoxPlace}
+use Rattle.boxes.specs.Boxes.{most_bytes, header_at, boxes_of, searched, first_of, reached_by, children_at}
+use Rattle.boxes.specs.Places.{child_place, find_box_place}
 use Rattle.boxes.specs.declared.Header.{Header}
 use Rattle.boxes.specs.declared.Header.TheVariants.{Whole, Short, Bad}
 use Rattle.boxes.specs.declared.Place.{Place}
@@ -28,67 +28,67 @@ use Rattle.stops.proofs.Ends.{walk_ends, stopped-at-bad}
 use Rattle.stops.proofs.Descent.{moov-told}
 
 -- `child`
-child-told : (b : List ℕ) (kind : ℕ) → PlaceTold (StopsAt false b) (childPlace b kind)
-unfolding childPlace
+child-told : (b : List ℕ) (kind : ℕ) → PlaceTold (StopsAt false b) (child_place b kind)
+unfolding child_place
 child-told b kind =
-    either (PlaceTold (StopsAt false b)) (ltb mostBytes (length b)) (λ t n. absurd (omega arith))
-    (λ t. place-told (StopsAt false b) (first_of kind (boxesOf b)) (λ at e. stopped-at-bad false (λ k start len. eqb k kind) b e))
+    either (PlaceTold (StopsAt false b)) (ltb most_bytes (length b)) (λ t n. absurd (omega arith))
+    (λ t. place-told (StopsAt false b) (first_of kind (boxes_of b)) (λ at e. stopped-at-bad false (λ k start len. eqb k kind) b e))
 
 -- all boxes were walked, to a clean end
 abbrev AllWalked : List ℕ → Bool → Type 0
-AllWalked s text = ending (searched text (boxesOf s)) ≡ End
+AllWalked s text = ending (searched text (boxes_of s)) ≡ End
 
-child-ended : (b : List ℕ) (kind : ℕ) → PlaceEnded (AllWalked b false) (childPlace b kind)
-unfolding childPlace
+child-ended : (b : List ℕ) (kind : ℕ) → PlaceEnded (AllWalked b false) (child_place b kind)
+unfolding child_place
 child-ended b kind =
-    either (PlaceEnded (AllWalked b false)) (ltb mostBytes (length b)) (λ t n. absurd (omega arith))
-    (λ t. place-ended (AllWalked b false) (first_of kind (boxesOf b)) (walk_ends false (λ k start len. eqb k kind) b))
+    either (PlaceEnded (AllWalked b false)) (ltb most_bytes (length b)) (λ t n. absurd (omega arith))
+    (λ t. place-ended (AllWalked b false) (first_of kind (boxes_of b)) (walk_ends false (λ k start len. eqb k kind) b))
 
 -- `find_box`
 module _ (b : List ℕ) (start end kind : ℕ) (text : Bool) where
   abbrev StopsFrom : ℕ → Type 0
   StopsFrom i = (start ≤ i) × (i + 8 ≤ end) × StopsAt text (take (end - start) (drop start b)) (i - start)
 
-  stops-from : end ≤ length b → start ≤ end → (at : ℕ) → first_of kind (searched text (boxesOf (take (end - start) (drop start b)))) ≡ BadAt at → StopsFrom (start + at)
+  stops-from : end ≤ length b → start ≤ end → (at : ℕ) → first_of kind (searched text (boxes_of (take (end - start) (drop start b)))) ≡ BadAt at → StopsFrom (start + at)
   stops-from h k at e =
       let part = take (end - start) (drop start b) in
       let there : at + 8 ≤ length part = search-stays kind text part (sym e) in
       let long : length part ≡ end - start = length_part b start (end - start) (omega arith) in
       (omega arith, omega arith, subst (StopsAt text part) (sym (add-sub_cancel_left start at)) (stopped-at-bad text (λ k start len. eqb k kind) part e))
 
-  find-box-told : PlaceTold StopsFrom (findBoxPlace b start end kind text)
-  unfolding findBoxPlace
+  find-box-told : PlaceTold StopsFrom (find_box_place b start end kind text)
+  unfolding find_box_place
   find-box-told =
-      either (PlaceTold StopsFrom) (ltb mostBytes (length b)) (λ t n. absurd (omega arith))
+      either (PlaceTold StopsFrom) (ltb most_bytes (length b)) (λ t n. absurd (omega arith))
       (λ t. either (PlaceTold StopsFrom) (ltb (length b) end) (λ u n. absurd (omega arith))
       (λ u. either (PlaceTold StopsFrom) (ltb end start) (λ v n. absurd (omega arith))
-      (λ v. moved_told StopsFrom start (first_of kind (searched text (boxesOf (take (end - start) (drop start b)))))
+      (λ v. moved_told StopsFrom start (first_of kind (searched text (boxes_of (take (end - start) (drop start b)))))
       (stops-from (ltb-false (length b) end u) (ltb-false end start v)))))
 
-  find-box-ended : PlaceEnded (AllWalked (take (end - start) (drop start b)) text) (findBoxPlace b start end kind text)
-  unfolding findBoxPlace
+  find-box-ended : PlaceEnded (AllWalked (take (end - start) (drop start b)) text) (find_box_place b start end kind text)
+  unfolding find_box_place
   find-box-ended =
       let part = take (end - start) (drop start b) in
       let E = PlaceEnded (AllWalked part text) in
-      either E (ltb mostBytes (length b)) (λ t n. absurd (omega arith))
+      either E (ltb most_bytes (length b)) (λ t n. absurd (omega arith))
       (λ t. either E (ltb (length b) end) (λ u n. absurd (omega arith))
       (λ u. either E (ltb end start) (λ v n. absurd (omega arith))
-      (λ v. moved-ended (AllWalked part text) start (first_of kind (searched text (boxesOf part))) (walk_ends text (λ k start len. eqb k kind) part))))
+      (λ v. moved-ended (AllWalked part text) start (first_of kind (searched text (boxes_of part))) (walk_ends text (λ k start len. eqb k kind) part))))
 
 -- `children`
 module _ (b : List ℕ) (at : ℕ) where
   abbrev BrokenThere : ℕ → Type 0
   BrokenThere i = (i ≡ at) × Broken false b at
 
-  reached-told : (h : Header) → header_at b at ≡ h → Lies at (length b) h → ReachedTold BrokenThere (reachedBy h at)
+  reached-told : (h : Header) → header_at b at ≡ h → Lies at (length b) h → ReachedTold BrokenThere (reached_by h at)
   reached-told Short e l = λ n. absurd (omega arith)
   reached-told Bad e l = λ n. (refl, (l, inl e))
   reached-told (Whole kind start len next) e l = tt
 
-  children-told : ReachedTold BrokenThere (childrenAt b at)
-  unfolding childrenAt
+  children-told : ReachedTold BrokenThere (children_at b at)
+  unfolding children_at
   children-told =
-      either (ReachedTold BrokenThere) (ltb mostBytes (length b)) (λ t n. absurd (omega arith))
+      either (ReachedTold BrokenThere) (ltb most_bytes (length b)) (λ t n. absurd (omega arith))
       (λ t. either (ReachedTold BrokenThere) (ltb (length b) at) (λ u n. absurd (omega arith))
       (λ u. reached-told (header_at b at) refl (header-lies b at)))
 

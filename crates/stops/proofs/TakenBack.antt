@@ -8,30 +8,30 @@ use native.Mathlib.Omega.{arith}
 use lib.ListN.{length, get_or}
 use lib.Dec.{ltb, eqb}
 use borrow.Author.Tests.{lt-ltb, ltb-true, leb-false}
-use Rattle.choice.specs.Numbers.{tooLong, noTimes}
+use Rattle.choice.specs.Numbers.{too_long, no_times}
 use Rattle.choice.proofs.Tests.{either, tf}
-use Rattle.boxes.specs.Bytes.{mdia, be32At}
-use Rattle.boxes.specs.Boxes.{mostBytes, boxesOf, first_of}
-use Rattle.boxes.specs.Places.{childOf}
-use Rattle.boxes.specs.Tracks.{videoTrack}
+use Rattle.boxes.specs.Bytes.{mdia, be32_at}
+use Rattle.boxes.specs.Boxes.{most_bytes, boxes_of, first_of}
+use Rattle.boxes.specs.Places.{child_of}
+use Rattle.boxes.specs.Tracks.{video_track}
 use Rattle.boxes.specs.declared.Walk.{Walk}
 use Rattle.boxes.specs.declared.Walk.TheVariants.{Found, End, Bad as BadAt}
-use Rattle.tracks.specs.Tables.{scale_at, scale_of, hasScale, tableRows}
+use Rattle.tracks.specs.Tables.{scale_at, scale_of, has_scale, table_rows}
 use Rattle.frame_times.specs.declared.FrameTimes.{FrameTimes}
 use Rattle.frame_times.specs.declared.FrameTimes.TheVariants.{Presented, Refused}
-use Rattle.frame_times.specs.Times.{Outcome, mvhd, mdhd, minf, stbl, stts, ctts, edts, refused, required, ofDurations, ofTables, ofScale, ofMedia, ofTrack, ofMovie, timesOfMoov}
-use Rattle.stops.specs.Undivided.{timesTakenBack, requiredUndivided, tablesUndivided, scaleUndivided, mediaUndivided, trackUndivided, timesUndivided}
+use Rattle.frame_times.specs.Times.{Outcome, mvhd, mdhd, minf, stbl, stts, ctts, edts, refused, required, of_durations, of_tables, of_scale, of_media, of_track, of_movie, times_of_moov}
+use Rattle.stops.specs.Undivided.{times_taken_back, required_undivided, tables_undivided, scale_undivided, media_undivided, track_undivided, times_undivided}
 use Rattle.stops.proofs.Plain.{Other, Plain, plain-durations}
 
 -- what document 01 has where there is an outcome: its answer with 36 taken back, and its starts
 pub record Back (o o' : Outcome) : Type 0 where
-  pub answer : timesTakenBack o.answer ≡ o'.answer
+  pub answer : times_taken_back o.answer ≡ o'.answer
   pub starts : o.starts ≡ o'.starts
 
 -- an outcome that isn't 36 stays
-other-stays : (r : FrameTimes) → Other r → timesTakenBack r ≡ r
+other-stays : (r : FrameTimes) → Other r → times_taken_back r ≡ r
 other-stays (Presented frames scale nominal end) h = refl
-other-stays (Refused n i) h = λ j. if h j then Refused noTimes 0 else Refused n i
+other-stays (Refused n i) h = λ j. if h j then Refused no_times 0 else Refused n i
 
 plain-stays : (o : Outcome) → Plain o → Back o o
 plain-stays o h = record { answer = other-stays o.answer h; starts = refl }
@@ -42,31 +42,31 @@ choice-back true e f = e
 choice-back false e f = f
 
 required-back : (base : ℕ) (w : Walk) (s : List ℕ) (next : ℕ → List ℕ → Outcome) (next' : List ℕ → Outcome)
-    → ((at : ℕ) (t : List ℕ) → Back (next at t) (next' t)) → Back (required base w s next) (requiredUndivided w s next')
+    → ((at : ℕ) (t : List ℕ) → Back (next at t) (next' t)) → Back (required base w s next) (required_undivided w s next')
 required-back base (Found start len) s next next' f = f _ _
 required-back base End s next next' f = record { answer = refl; starts = refl }
 required-back base (BadAt at) s next next' f = record { answer = refl; starts = refl }
 
 -- of each definition, from the stbl up to the track
 module _ (standard : Bool) (bytes room movie : ℕ) where
-  tables-back : (scale : ℕ) (edts : List ℕ) (base : ℕ) (s : List ℕ) → Back (ofTables standard bytes room movie scale edts base s) (tablesUndivided standard bytes room movie scale edts s)
-  unfolding ofTables tablesUndivided
+  tables-back : (scale : ℕ) (edts : List ℕ) (base : ℕ) (s : List ℕ) → Back (of_tables standard bytes room movie scale edts base s) (tables_undivided standard bytes room movie scale edts s)
+  unfolding of_tables tables_undivided
   tables-back scale edts base s =
-      required-back base (first_of stts (boxesOf s)) s _ _
-      (λ at d. plain-stays (ofDurations standard (tableRows d) bytes room movie scale edts (childOf ctts s) d) (plain-durations standard (tableRows d) bytes room movie scale edts (childOf ctts s) d))
+      required-back base (first_of stts (boxes_of s)) s _ _
+      (λ at d. plain-stays (of_durations standard (table_rows d) bytes room movie scale edts (child_of ctts s) d) (plain-durations standard (table_rows d) bytes room movie scale edts (child_of ctts s) d))
 
-  scale_back : (scale : ℕ) (edts : List ℕ) (base : ℕ) (s : List ℕ) → Back (ofScale standard bytes room movie scale edts base s) (scaleUndivided standard bytes room movie scale edts s)
+  scale_back : (scale : ℕ) (edts : List ℕ) (base : ℕ) (s : List ℕ) → Back (of_scale standard bytes room movie scale edts base s) (scale_undivided standard bytes room movie scale edts s)
   scale_back scale edts base s =
-      choice-back (eqb scale 0 || eqb movie 0) (plain-stays (refused noTimes) refl)
-      (required-back base (first_of minf (boxesOf s)) s _ _ (λ at i. required-back at (first_of stbl (boxesOf i)) i _ _ (tables-back scale edts)))
+      choice-back (eqb scale 0 || eqb movie 0) (plain-stays (refused no_times) refl)
+      (required-back base (first_of minf (boxes_of s)) s _ _ (λ at i. required-back at (first_of stbl (boxes_of i)) i _ _ (tables-back scale edts)))
 
-  media-back : (edts : List ℕ) (base : ℕ) (s : List ℕ) → Back (ofMedia standard bytes room movie edts base s) (mediaUndivided standard bytes room movie edts s)
-  unfolding ofMedia mediaUndivided
-  media-back edts base s = required-back base (first_of mdhd (boxesOf s)) s _ _ (λ at h. scale_back (scale_of h) edts base s)
+  media-back : (edts : List ℕ) (base : ℕ) (s : List ℕ) → Back (of_media standard bytes room movie edts base s) (media_undivided standard bytes room movie edts s)
+  unfolding of_media media_undivided
+  media-back edts base s = required-back base (first_of mdhd (boxes_of s)) s _ _ (λ at h. scale_back (scale_of h) edts base s)
 
-  track-back : (base : ℕ) (s : List ℕ) → Back (ofTrack standard bytes room movie base s) (trackUndivided standard bytes room movie s)
-  unfolding ofTrack trackUndivided
-  track-back base s = required-back base (first_of mdia (boxesOf s)) s _ _ (media-back (childOf edts s))
+  track-back : (base : ℕ) (s : List ℕ) → Back (of_track standard bytes room movie base s) (track_undivided standard bytes room movie s)
+  unfolding of_track track_undivided
+  track-back base s = required-back base (first_of mdia (boxes_of s)) s _ _ (media-back (child_of edts s))
 
 -- a mvhd whose timescale isn't whole has the timescale 0
 scale-short : (h : List ℕ) → (eqb (get_or h 0 0) 1 ≡ true → length h < 24) → (eqb (get_or h 0 0) 1 ≡ false → length h < 16) → scale_of h ≡ 0
@@ -76,10 +76,10 @@ scale-short h long short =
     (λ t. either (λ n. n ≡ 0) (eqb (get_or h 0 0) 1) (λ u. at 20 (long u)) (λ u. at 12 (short u)))
   where
     at : (k : ℕ) → length h < k + 4 → scale_at h k ≡ 0
-    at k l = λ i. if lt-ltb (length h) (k + 4) l i then 0 else be32At h k
+    at k l = λ i. if lt-ltb (length h) (k + 4) l i then 0 else be32_at h k
 
-no-scale : (h : List ℕ) → hasScale h ≡ false → scale_of h ≡ 0
-unfolding hasScale
+no-scale : (h : List ℕ) → has_scale h ≡ false → scale_of h ≡ 0
+unfolding has_scale
 no-scale h =
     let P : Bool → Type 0 = λ b. b ≡ false → scale_of h ≡ 0 in
     either P (ltb (length h) 16)
@@ -87,7 +87,7 @@ no-scale h =
     (λ t. either P (eqb (get_or h 0 0) 1) (λ u e. scale-short h (λ v. leb-false 24 (length h) e) (λ v. tf (sym u ∙ v))) (λ u e. tf e))
 
 -- with which every track is refused
-missed : (w : Walk) (s : List ℕ) (next : List ℕ → Outcome) → ((t : List ℕ) → next t ≡ refused noTimes) → requiredUndivided w s next ≡ refused noTimes
+missed : (w : Walk) (s : List ℕ) (next : List ℕ → Outcome) → ((t : List ℕ) → next t ≡ refused no_times) → required_undivided w s next ≡ refused no_times
 missed (Found start len) s next f = f _
 missed End s next f = refl
 missed (BadAt at) s next f = refl
@@ -96,26 +96,26 @@ or-true : (b : Bool) → b || true ≡ true
 or-true true = refl
 or-true false = refl
 
-scale-none : (standard : Bool) (bytes room scale : ℕ) (edts media : List ℕ) → scaleUndivided standard bytes room 0 scale edts media ≡ refused noTimes
+scale-none : (standard : Bool) (bytes room scale : ℕ) (edts media : List ℕ) → scale_undivided standard bytes room 0 scale edts media ≡ refused no_times
 scale-none standard bytes room scale edts media = rw (or-true (eqb scale 0))
 
-track-none : (standard : Bool) (bytes room : ℕ) (s : List ℕ) → trackUndivided standard bytes room 0 s ≡ refused noTimes
-unfolding trackUndivided mediaUndivided
+track-none : (standard : Bool) (bytes room : ℕ) (s : List ℕ) → track_undivided standard bytes room 0 s ≡ refused no_times
+unfolding track_undivided media_undivided
 track-none standard bytes room s =
-    missed (first_of mdia (boxesOf s)) s _ (λ media. missed (first_of mdhd (boxesOf media)) media _ (λ h. scale-none standard bytes room (scale_of h) (childOf edts s) media))
+    missed (first_of mdia (boxes_of s)) s _ (λ media. missed (first_of mdhd (boxes_of media)) media _ (λ h. scale-none standard bytes room (scale_of h) (child_of edts s) media))
 
 -- so a moov without a whole one is refused either way
-movie-back : (standard : Bool) (moov : List ℕ) (room : ℕ) (h : List ℕ) → Back (ofMovie standard moov room h) (requiredUndivided (videoTrack moov) moov (trackUndivided standard (length moov) room (scale_of h)))
+movie-back : (standard : Bool) (moov : List ℕ) (room : ℕ) (h : List ℕ) → Back (of_movie standard moov room h) (required_undivided (video_track moov) moov (track_undivided standard (length moov) room (scale_of h)))
 movie-back standard moov room h =
-    let track = trackUndivided standard (length moov) room (scale_of h) in
-    either (λ (o : Outcome). Back o (requiredUndivided (videoTrack moov) moov track)) (hasScale h)
-    (λ t. required-back 0 (videoTrack moov) moov _ _ (track-back standard (length moov) room (scale_of h)))
-    (λ t. subst (Back (refused noTimes))
-    (sym (missed (videoTrack moov) moov track (λ s. ap (λ (n : ℕ). trackUndivided standard (length moov) room n s) (no-scale h t) ∙ track-none standard (length moov) room s)))
-    (plain-stays (refused noTimes) refl))
+    let track = track_undivided standard (length moov) room (scale_of h) in
+    either (λ (o : Outcome). Back o (required_undivided (video_track moov) moov track)) (has_scale h)
+    (λ t. required-back 0 (video_track moov) moov _ _ (track-back standard (length moov) room (scale_of h)))
+    (λ t. subst (Back (refused no_times))
+    (sym (missed (video_track moov) moov track (λ s. ap (λ (n : ℕ). track_undivided standard (length moov) room n s) (no-scale h t) ∙ track-none standard (length moov) room s)))
+    (plain-stays (refused no_times) refl))
 
-pub moov-back : (standard : Bool) (moov : List ℕ) (room : ℕ) → Back (timesOfMoov standard moov room) (timesUndivided standard moov room)
-unfolding timesOfMoov timesUndivided
+pub moov-back : (standard : Bool) (moov : List ℕ) (room : ℕ) → Back (times_of_moov standard moov room) (times_undivided standard moov room)
+unfolding times_of_moov times_undivided
 moov-back standard moov room =
-    choice-back (ltb mostBytes (length moov)) (plain-stays (refused tooLong) refl)
-    (required-back 0 (first_of mvhd (boxesOf moov)) moov _ _ (λ at h. movie-back standard moov room h))
+    choice-back (ltb most_bytes (length moov)) (plain-stays (refused too_long) refl)
+    (required-back 0 (first_of mvhd (boxes_of moov)) moov _ _ (λ at h. movie-back standard moov room h))

@@ -2,9 +2,9 @@
 -- say which answers the calls allow. `stopping` and `dividing`, in proofs/, prove every line, and the audit claims it of the promises in the source.
 use Rattle.std.specs.Prelude.{ℕ, ◌+◌, ◌-◌, ◌≤◌, Bool, true, false, List, [], ◌∷◌, ◌⊎◌, ◌≡◌, ℤ, length, take, drop}
 use Rattle.slices.specs.Slices.{laid}
-use Rattle.boxes.specs.Bytes.{be32At, mdia}
-use Rattle.boxes.specs.Boxes.{Boxes, clean, bad, box, header_at, boxesOf, isText, searched, first_of}
-use Rattle.boxes.specs.Tracks.{videoTrack}
+use Rattle.boxes.specs.Bytes.{be32_at, mdia}
+use Rattle.boxes.specs.Boxes.{Boxes, clean, bad, box, header_at, boxes_of, is_text, searched, first_of}
+use Rattle.boxes.specs.Tracks.{video_track}
 use Rattle.boxes.specs.declared.Header.TheVariants.{Bad}
 use Rattle.boxes.specs.declared.Place.{Place}
 use Rattle.boxes.specs.declared.Place.TheVariants as place
@@ -15,7 +15,7 @@ use Rattle.boxes.specs.declared.Walk.TheVariants.{Found, End, Bad as BadAt}
 use Rattle.frame_times.specs.declared.FrameTimes.{FrameTimes}
 use Rattle.frame_times.specs.declared.FrameTimes.TheVariants as times
 use Rattle.frame_times.specs.Times.{mvhd, mdhd, minf, stbl, stts, room}
-use Rattle.stops.specs.Undivided.{placeTakenBack, reachedTakenBack, timesTakenBack, childUndivided, findBoxUndivided, childrenUndivided, timesUndivided}
+use Rattle.stops.specs.Undivided.{place_taken_back, reached_taken_back, times_taken_back, child_undivided, find_box_undivided, children_undivided, times_undivided}
 
 -- how some boxes end
 unfoldable pub ending : Boxes → Walk
@@ -25,11 +25,11 @@ ending (box at kind start len rest) = ending rest
 
 -- a bad header: at least 8 bytes are there, and no size is whole there or fits; with text types also one whose type isn't text
 abbrev pub Broken : Bool → List ℕ → ℕ → Type 0
-Broken text s at = (at + 8 ≤ length s) × ((header_at s at ≡ Bad) ⊎ ((text ≡ true) × (isText (be32At s (at + 4)) ≡ false)))
+Broken text s at = (at + 8 ≤ length s) × ((header_at s at ≡ Bad) ⊎ ((text ≡ true) × (is_text (be32_at s (at + 4)) ≡ false)))
 
 -- a walk over s, from its start, comes to `at`, and stops at a bad header there
 pub record StopsAt (text : Bool) (s : List ℕ) (at : ℕ) : Type 0 where
-  pub comes : ending (searched text (boxesOf s)) ≡ BadAt at
+  pub comes : ending (searched text (boxes_of s)) ≡ BadAt at
   pub broken : Broken text s at
 
 -- a part of a moov, and where it starts there
@@ -37,48 +37,48 @@ pub record Part : Type 0 where
   pub base : ℕ
   pub bytes : List ℕ
 
-abbrev pub wholePart : List ℕ → Part
-wholePart moov = record { base = 0; bytes = moov }
+abbrev pub whole_part : List ℕ → Part
+whole_part moov = record { base = 0; bytes = moov }
 
-abbrev pub innerPart : Part → ℕ → ℕ → Part
-innerPart p start len = record { base = p.base + start; bytes = take len (drop start p.bytes) }
+abbrev pub inner_part : Part → ℕ → ℕ → Part
+inner_part p start len = record { base = p.base + start; bytes = take len (drop start p.bytes) }
 
 -- a search for a box that has to be there: the part of the moov that is walked over, and how the walk for the box ends
 pub record Search : Type 0 where
   pub part : Part
   pub walk : Walk
 
-abbrev pub searchFor : ℕ → Part → Search
-searchFor kind p = record { part = p; walk = first_of kind (boxesOf p.bytes) }
+abbrev pub search_for : ℕ → Part → Search
+search_for kind p = record { part = p; walk = first_of kind (boxes_of p.bytes) }
 
 -- the searches in the part that a walk found; none where it found none
-abbrev pub foundIn : Part → Walk → (Part → List Search) → List Search
-foundIn p (Found start len) inner = inner (innerPart p start len)
-foundIn p End inner = []
-foundIn p (BadAt at) inner = []
+abbrev pub found_in : Part → Walk → (Part → List Search) → List Search
+found_in p (Found start len) inner = inner (inner_part p start len)
+found_in p End inner = []
+found_in p (BadAt at) inner = []
 
 -- a search, and then those in what it finds
-abbrev pub andIn : Search → (Part → List Search) → List Search
-andIn s inner = s ∷ foundIn s.part s.walk inner
+abbrev pub and_in : Search → (Part → List Search) → List Search
+and_in s inner = s ∷ found_in s.part s.walk inner
 
 -- the searches in a stbl, a minf, a mdia, a video track, and in a moov
-abbrev pub inTables : Part → List Search
-inTables p = searchFor stts p ∷ []
+abbrev pub in_tables : Part → List Search
+in_tables p = search_for stts p ∷ []
 
-abbrev pub inInfo : Part → List Search
-inInfo p = andIn (searchFor stbl p) inTables
+abbrev pub in_info : Part → List Search
+in_info p = and_in (search_for stbl p) in_tables
 
-abbrev pub inMedia : Part → List Search
-inMedia p = searchFor mdhd p ∷ andIn (searchFor minf p) inInfo
+abbrev pub in_media : Part → List Search
+in_media p = search_for mdhd p ∷ and_in (search_for minf p) in_info
 
-abbrev pub inTrack : Part → List Search
-inTrack p = andIn (searchFor mdia p) inMedia
+abbrev pub in_track : Part → List Search
+in_track p = and_in (search_for mdia p) in_media
 
-abbrev pub searchForVideo : List ℕ → Search
-searchForVideo moov = record { part = wholePart moov; walk = videoTrack moov }
+abbrev pub search_for_video : List ℕ → Search
+search_for_video moov = record { part = whole_part moov; walk = video_track moov }
 
 abbrev pub searches : List ℕ → List Search
-searches moov = searchFor mvhd (wholePart moov) ∷ andIn (searchForVideo moov) inTrack
+searches moov = search_for mvhd (whole_part moov) ∷ and_in (search_for_video moov) in_track
 
 -- a search's walk stops at a bad header, which is at i of the moov
 pub record StopsIn (moov : List ℕ) (i : ℕ) (s : Search) : Type 0 where
@@ -98,12 +98,12 @@ pub record Stopping
     (Child : List ℕ → ℕ → Place → Type 0) (FindBox : List ℕ → ℕ → ℕ → ℕ → Bool → Place → Type 0) (Children : List ℕ → ℕ → Reached → Type 0)
     (FrameTimesOf : List ℕ → Bool → List ℤ → List ℤ → List ℤ → FrameTimes → List ℤ → List ℤ → List ℤ → Type 0) : Type 0 where
   pub child : (b : List ℕ) (kind i : ℕ) → Child b kind (place.Refused 36 i) → StopsAt false b i
-  pub child-end : (b : List ℕ) (kind i : ℕ) → Child b kind (place.Refused 31 i) → ending (boxesOf b) ≡ End
+  pub child-end : (b : List ℕ) (kind i : ℕ) → Child b kind (place.Refused 31 i) → ending (boxes_of b) ≡ End
   -- in the range from start to end, at i of the whole
   pub find-box : (b : List ℕ) (start end kind : ℕ) (text : Bool) (i : ℕ) → FindBox b start end kind text (place.Refused 36 i)
       → (start ≤ i) × (i + 8 ≤ end) × StopsAt text (take (end - start) (drop start b)) (i - start)
   pub find-box-end : (b : List ℕ) (start end kind : ℕ) (text : Bool) (i : ℕ) → FindBox b start end kind text (place.Refused 31 i)
-      → ending (searched text (boxesOf (take (end - start) (drop start b)))) ≡ End
+      → ending (searched text (boxes_of (take (end - start) (drop start b)))) ≡ End
   -- at the offset that was asked for
   pub children : (b : List ℕ) (at i : ℕ) → Children b at (reached.Refused 36 i) → (i ≡ at) × Broken false b at
   pub frame-times : (moov : List ℕ) (standard : Bool) (starts a b starts' a' b' : List ℤ) (i : ℕ) → FrameTimesOf moov standard starts a b (times.Refused 36 i) starts' a' b'
@@ -114,8 +114,8 @@ pub record Stopping
 pub record Dividing
     (Child : List ℕ → ℕ → Place → Type 0) (FindBox : List ℕ → ℕ → ℕ → ℕ → Bool → Place → Type 0) (Children : List ℕ → ℕ → Reached → Type 0)
     (FrameTimesOf : List ℕ → Bool → List ℤ → List ℤ → List ℤ → FrameTimes → List ℤ → List ℤ → List ℤ → Type 0) : Type 0 where
-  pub child : (b : List ℕ) (kind : ℕ) (r : Place) → Child b kind r → placeTakenBack r ≡ childUndivided b kind
-  pub find-box : (b : List ℕ) (start end kind : ℕ) (text : Bool) (r : Place) → FindBox b start end kind text r → placeTakenBack r ≡ findBoxUndivided b start end kind text
-  pub children : (b : List ℕ) (at : ℕ) (r : Reached) → Children b at r → reachedTakenBack r ≡ childrenUndivided b at
+  pub child : (b : List ℕ) (kind : ℕ) (r : Place) → Child b kind r → place_taken_back r ≡ child_undivided b kind
+  pub find-box : (b : List ℕ) (start end kind : ℕ) (text : Bool) (r : Place) → FindBox b start end kind text r → place_taken_back r ≡ find_box_undivided b start end kind text
+  pub children : (b : List ℕ) (at : ℕ) (r : Reached) → Children b at r → reached_taken_back r ≡ children_undivided b at
   pub frame-times : (moov : List ℕ) (standard : Bool) (starts a b starts' a' b' : List ℤ) (r : FrameTimes) → FrameTimesOf moov standard starts a b r starts' a' b'
-      → (timesTakenBack r ≡ (timesUndivided standard moov (room starts a b)).answer) × (starts' ≡ laid (timesUndivided standard moov (room starts a b)).starts starts)
+      → (times_taken_back r ≡ (times_undivided standard moov (room starts a b)).answer) × (starts' ≡ laid (times_undivided standard moov (room starts a b)).starts starts)

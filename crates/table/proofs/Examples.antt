@@ -5,14 +5,14 @@ use mathlib.Core.Bool.{true, false}
 use mathlib.Core.List.{List, [], ◌∷◌, ◌++◌, map}
 use lib.IntN.{ℤ, pos, negsuc}
 use Rattle.choice.specs.Choice.{when, past}
-use Rattle.choice.specs.Records.{run, any, firstRefused, orRefused}
+use Rattle.choice.specs.Records.{run, any, first_refused, or_refused}
 use Rattle.choice.specs.Steps.{or_else}
-use Rattle.utc.specs.Utc.{two, days, utcBytes, utcSecond}
+use Rattle.utc.specs.Utc.{two, days, utc_bytes, utc_second}
 use Rattle.rules.specs.declared.Checked.{Checked}
 use Rattle.rules.specs.declared.Checked.TheVariants.{Frames, Refused}
-use Rattle.rules.specs.Records.{Table, noSource, noSegment, frameTotal}
-use Rattle.rules.specs.Rules.{badSource, badSegment, malformed, sourceRefusal, stampTimes, judged, segmentRefusal, start, endsOf, ends, segmentsFrom, frontRefusal, refusal, checkedOf, checkOf}
-use Rattle.table.specs.Layout.{sourcesOf, segmentsOf, table_of}
+use Rattle.rules.specs.Records.{Table, no_source, no_segment, frame_total}
+use Rattle.rules.specs.Rules.{bad_source, bad_segment, malformed, source_refusal, stamp_times, judged, segment_refusal, start, ends_of, ends, segments_from, front_refusal, refusal, checked_of, check_of}
+use Rattle.table.specs.Layout.{sources_of, segments_of, table_of}
 
 -- ---- T
 -- a source of 25 frames a second: its frames, creation time and clock
@@ -46,7 +46,7 @@ T = table_of sources segments times false []
 
 -- ---- a check of a changed T
 abbrev pub of : List ℕ → List ℕ → List ℤ → Checked
-of s u t = checkOf (table_of s u t false [])
+of s u t = check_of (table_of s u t false [])
 
 -- its first source another
 abbrev pub from : List ℕ → Checked
@@ -64,7 +64,7 @@ text =
 
 -- its first source made at the creation time that starts at a byte
 abbrev pub made : ℕ → Checked
-made at = checkOf (table_of (source 100 1 at 0 0 0 ++ plain 50) segments times false text)
+made at = check_of (table_of (source 100 1 at 0 0 0 ++ plain 50) segments times false text)
 
 -- n sources
 abbrev pub many : ℕ → List ℕ
@@ -93,7 +93,7 @@ late = stamps (pos 1200000) (pos 800000) (pos 0)
 
 abbrev pub checks : List (Case Checked)
 checks =
-    is (checkOf T) (Frames 50)
+    is (check_of T) (Frames 50)
     ∷ is (made 0) (Frames 50)
     ∷ is (of (0 ∷ sources) segments times) (Refused 1 0)
     ∷ is (of sources (segments ++ segments) times) (Refused 1 0)
@@ -108,7 +108,7 @@ checks =
     ∷ is (made 20) (Refused 5 0)
     ∷ is (from (source 100 0 0 1 0 7)) (Refused 6 0)
     ∷ is (from (source 100 0 0 2 1 0)) (Refused 6 0)
-    ∷ is (checkOf (table_of sources segments times true [])) (Refused 7 0)
+    ∷ is (check_of (table_of sources segments times true [])) (Refused 7 0)
     ∷ is (of sources [] []) (Refused 8 0)
     ∷ is (with (words 2 5 20 30 0) late) (Refused 9 1)
     ∷ is (with (words 1 5 0 30 0) late) (Refused 10 1)
@@ -128,5 +128,5 @@ checks =
     ∷ []
 
 pub examples : Hold checks
-unfolding when or_else past run any firstRefused orRefused two days utcBytes utcSecond noSource noSegment frameTotal badSource badSegment malformed sourceRefusal stampTimes judged segmentRefusal start endsOf ends segmentsFrom frontRefusal refusal checkedOf checkOf sourcesOf segmentsOf table_of
+unfolding when or_else past run any first_refused or_refused two days utc_bytes utc_second no_source no_segment frame_total bad_source bad_segment malformed source_refusal stamp_times judged segment_refusal start ends_of ends segments_from front_refusal refusal checked_of check_of sources_of segments_of table_of
 examples = refl

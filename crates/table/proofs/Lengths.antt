@@ -8,7 +8,7 @@ use lib.ListN.{length}
 use lib.IntN.{ℤ}
 use Rattle.choice.proofs.Tests.{decide}
 use Rattle.rules.proofs.Says.{Says, equal, either, unless}
-use Rattle.table.specs.Layout.{sourceWords, segmentWords, segmentStamps, badLengths, Uneven, table_of}
+use Rattle.table.specs.Layout.{source_words, segment_words, segment_stamps, bad_lengths, Uneven, table_of}
 
 -- a test that says the same as a condition holds exactly when it does
 exactly : {b : Bool} {C : Type 0} → Says b C → (b ≡ true) ↔ C
@@ -20,11 +20,11 @@ four = (
   ⊎_elim (λ a. inl (inl a)) (⊎_elim (λ b. inl (inr b)) inr),
 )
 
-lengths : (s u t : ℕ) → (badLengths s u t ≡ true) ↔ Uneven s u t
+lengths : (s u t : ℕ) → (bad_lengths s u t ≡ true) ↔ Uneven s u t
 lengths s u t =
     let e = exactly (either
-    (either (unless (equal (s % sourceWords) 0)) (unless (equal (u % segmentWords) 0)))
-    (either (unless (equal (t % segmentStamps) 0)) (unless (equal (u / segmentWords) (t / segmentStamps))))) in
+    (either (unless (equal (s % source_words) 0)) (unless (equal (u % segment_words) 0)))
+    (either (unless (equal (t % segment_stamps) 0)) (unless (equal (u / segment_words) (t / segment_stamps))))) in
     (λ h. four.0 (e.0 h), λ x. e.1 (four.1 x))
 
 -- of every table that is lent

@@ -6,78 +6,78 @@ use Rattle.rules.specs.declared.Words.{Words}
 use Rattle.rules.specs.Records.{Stamps, Segment, Table}
 
 -- words of a source, unsigned words of a segment, signed words of a segment
-abbrev pub sourceWords : ℕ
-sourceWords = 10
+abbrev pub source_words : ℕ
+source_words = 10
 
-abbrev pub segmentWords : ℕ
-segmentWords = 5
+abbrev pub segment_words : ℕ
+segment_words = 5
 
-abbrev pub segmentStamps : ℕ
-segmentStamps = 7
+abbrev pub segment_stamps : ℕ
+segment_stamps = 7
 
 -- source number k
-abbrev pub sourceAt : List ℕ → ℕ → Source
-sourceAt s k = record {
-  frames = get_or s (k * sourceWords) 0;
-  num = get_or s (k * sourceWords + 1) 0;
-  den = get_or s (k * sourceWords + 2) 0;
-  dated = get_or s (k * sourceWords + 3) 0;
-  from = get_or s (k * sourceWords + 4) 0;
-  size = get_or s (k * sourceWords + 5) 0;
-  kind = get_or s (k * sourceWords + 6) 0;
-  ticks = get_or s (k * sourceWords + 7) 0;
-  per = get_or s (k * sourceWords + 8) 0;
-  modulus = get_or s (k * sourceWords + 9) 0;
+abbrev pub source_at : List ℕ → ℕ → Source
+source_at s k = record {
+  frames = get_or s (k * source_words) 0;
+  num = get_or s (k * source_words + 1) 0;
+  den = get_or s (k * source_words + 2) 0;
+  dated = get_or s (k * source_words + 3) 0;
+  from = get_or s (k * source_words + 4) 0;
+  size = get_or s (k * source_words + 5) 0;
+  kind = get_or s (k * source_words + 6) 0;
+  ticks = get_or s (k * source_words + 7) 0;
+  per = get_or s (k * source_words + 8) 0;
+  modulus = get_or s (k * source_words + 9) 0;
 }
 
 -- segment number k: its unsigned words, its signed words
-abbrev pub wordsAt : List ℕ → ℕ → Words
-wordsAt u k = record {
-  source = get_or u (k * segmentWords) 0;
-  first = get_or u (k * segmentWords + 1) 0;
-  count = get_or u (k * segmentWords + 2) 0;
-  out = get_or u (k * segmentWords + 3) 0;
-  flag = get_or u (k * segmentWords + 4) 0;
+abbrev pub words_at : List ℕ → ℕ → Words
+words_at u k = record {
+  source = get_or u (k * segment_words) 0;
+  first = get_or u (k * segment_words + 1) 0;
+  count = get_or u (k * segment_words + 2) 0;
+  out = get_or u (k * segment_words + 3) 0;
+  flag = get_or u (k * segment_words + 4) 0;
 }
 
-abbrev pub stampsAt : List ℤ → ℕ → Stamps
-stampsAt t k = record {
-  srcstart = get_or t (k * segmentStamps) (pos 0);
-  outstart = get_or t (k * segmentStamps + 1) (pos 0);
-  duration = get_or t (k * segmentStamps + 2) (pos 0);
-  srccap = get_or t (k * segmentStamps + 3) (pos 0);
-  outcap = get_or t (k * segmentStamps + 4) (pos 0);
-  capdur = get_or t (k * segmentStamps + 5) (pos 0);
-  shift = get_or t (k * segmentStamps + 6) (pos 0);
+abbrev pub stamps_at : List ℤ → ℕ → Stamps
+stamps_at t k = record {
+  srcstart = get_or t (k * segment_stamps) (pos 0);
+  outstart = get_or t (k * segment_stamps + 1) (pos 0);
+  duration = get_or t (k * segment_stamps + 2) (pos 0);
+  srccap = get_or t (k * segment_stamps + 3) (pos 0);
+  outcap = get_or t (k * segment_stamps + 4) (pos 0);
+  capdur = get_or t (k * segment_stamps + 5) (pos 0);
+  shift = get_or t (k * segment_stamps + 6) (pos 0);
 }
 
-abbrev pub segmentAt : List ℕ → List ℤ → ℕ → Segment
-segmentAt u t k = record { words = wordsAt u k; stamps = stampsAt t k }
+abbrev pub segment_at : List ℕ → List ℤ → ℕ → Segment
+segment_at u t k = record { words = words_at u k; stamps = stamps_at t k }
 
 -- all sources, and all segments
-unfoldable pub sourcesOf : List ℕ → List Source
-sourcesOf s = run (sourceAt s) 0 (length s / sourceWords)
+unfoldable pub sources_of : List ℕ → List Source
+sources_of s = run (source_at s) 0 (length s / source_words)
 
-unfoldable pub segmentsOf : List ℕ → List ℤ → List Segment
-segmentsOf u t = run (segmentAt u t) 0 (length u / segmentWords)
+unfoldable pub segments_of : List ℕ → List ℤ → List Segment
+segments_of u t = run (segment_at u t) 0 (length u / segment_words)
 
 -- a slice length isn't a multiple of its record, or the two segment slices disagree
-abbrev pub badLengths : ℕ → ℕ → ℕ → Bool
-badLengths s u t =
-    (not (eqb (s % sourceWords) 0) || not (eqb (u % segmentWords) 0))
-    || (not (eqb (t % segmentStamps) 0) || not (eqb (u / segmentWords) (t / segmentStamps)))
+abbrev pub bad_lengths : ℕ → ℕ → ℕ → Bool
+bad_lengths s u t =
+    (not (eqb (s % source_words) 0) || not (eqb (u % segment_words) 0))
+    || (not (eqb (t % segment_stamps) 0) || not (eqb (u / segment_words) (t / segment_stamps)))
 
 -- the same as a condition, in the paper's words; `uneven`, in proofs/Lengths.antt, proves that it is
 abbrev pub Uneven : ℕ → ℕ → ℕ → Type 0
 Uneven s u t =
-    (s % sourceWords ≡ 0 → ⊥) ⊎ (u % segmentWords ≡ 0 → ⊥) ⊎ (t % segmentStamps ≡ 0 → ⊥) ⊎ (u / segmentWords ≡ t / segmentStamps → ⊥)
+    (s % source_words ≡ 0 → ⊥) ⊎ (u % segment_words ≡ 0 → ⊥) ⊎ (t % segment_stamps ≡ 0 → ⊥) ⊎ (u / segment_words ≡ t / segment_stamps → ⊥)
 
 -- the table that is lent
 unfoldable pub table_of : List ℕ → List ℕ → List ℤ → Bool → List ℕ → Table
 table_of s u t log text = record {
-  uneven = badLengths (length s) (length u) (length t);
+  uneven = bad_lengths (length s) (length u) (length t);
   log = log;
   text = text;
-  sources = sourcesOf s;
-  segments = segmentsOf u t;
+  sources = sources_of s;
+  segments = segments_of u t;
 }

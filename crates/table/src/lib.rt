@@ -2,11 +2,11 @@
 #![tactic(auto)]
 
 ghost use Rattle.std.specs.Prelude.{◌≡◌, true, false, List, ◌+◌, ◌*◌, ◌/◌, ◌≤◌, ◌<◌, length, get_or, ℤ, pos, nat_abs};
-ghost use Rattle.choice.specs.Records.{any, firstRefused};
-ghost use Rattle.rules.specs.Rules.{negative, badSource, badSegment, sourceRefusal, stampTimes, frontRefusal, checkOf};
+ghost use Rattle.choice.specs.Records.{any, first_refused};
+ghost use Rattle.rules.specs.Rules.{negative, bad_source, bad_segment, source_refusal, stamp_times, front_refusal, check_of};
 ghost use Rattle.rules.specs.Steps.{turn_of, walked, FineSource, PassesOf};
 ghost use Rattle.rules.specs.declared.Checked.TheVariants.{Frames};
-ghost use Rattle.table.specs.Layout.{sourceWords, segmentWords, segmentStamps, sourceAt, wordsAt, stampsAt, segmentAt, sourcesOf, segmentsOf, badLengths, table_of};
+ghost use Rattle.table.specs.Layout.{source_words, segment_words, segment_stamps, source_at, words_at, stamps_at, segment_at, sources_of, segments_of, bad_lengths, table_of};
 ghost use Rattle.table.specs.Steps.{FineLengths, FineFront, FineSegments};
 
 use choice::Refusal;
@@ -21,8 +21,8 @@ pub const STAMPS: usize = 7;
 
 // Source k.
 pub fn source_at(s: &[u64], k: usize) -> Source
-    requires { k * sourceWords + sourceWords ≤ length s.now }
-    ensures { result ≡ sourceAt s.now k }
+    requires { k * source_words + source_words ≤ length s.now }
+    ensures { result ≡ source_at s.now k }
 {
     let b = k * SOURCE;
     Source {
@@ -41,8 +41,8 @@ pub fn source_at(s: &[u64], k: usize) -> Source
 
 // The unsigned words of segment k.
 pub fn words_at(u: &[u64], k: usize) -> Words
-    requires { k * segmentWords + segmentWords ≤ length u.now }
-    ensures { result ≡ wordsAt u.now k }
+    requires { k * segment_words + segment_words ≤ length u.now }
+    ensures { result ≡ words_at u.now k }
 {
     let b = k * WORDS;
     Words {
@@ -71,10 +71,10 @@ fn magnitude_at(t: &[i64], i: usize) -> u64
 }
 
 // Whether any of the six times of segment k is negative.
-#[tactic(auto, unfolding(rules::specs::Rules::stampTimes))]
+#[tactic(auto, unfolding(rules::specs::Rules::stamp_times))]
 fn negative_times_at(t: &[i64], k: usize) -> bool
-    requires { k * segmentStamps + segmentStamps ≤ length t.now }
-    ensures { result ≡ (stampTimes (stampsAt t.now k)).negative }
+    requires { k * segment_stamps + segment_stamps ≤ length t.now }
+    ensures { result ≡ (stamp_times (stamps_at t.now k)).negative }
 {
     let d = k * STAMPS;
     let a = negative_at(t, d) | negative_at(t, d + 1);
@@ -84,10 +84,10 @@ fn negative_times_at(t: &[i64], k: usize) -> bool
 }
 
 // What the signed words of segment k say.
-#[tactic(auto, unfolding(rules::specs::Rules::stampTimes))]
+#[tactic(auto, unfolding(rules::specs::Rules::stamp_times))]
 fn times_at(t: &[i64], k: usize) -> SixTimes
-    requires { k * segmentStamps + segmentStamps ≤ length t.now }
-    ensures { result ≡ stampTimes (stampsAt t.now k) }
+    requires { k * segment_stamps + segment_stamps ≤ length t.now }
+    ensures { result ≡ stamp_times (stamps_at t.now k) }
 {
     let d = k * STAMPS;
     SixTimes {
@@ -105,16 +105,16 @@ fn times_at(t: &[i64], k: usize) -> SixTimes
 
 // 1, of lengths.
 fn bad_lengths(s: usize, u: usize, t: usize) -> bool
-    ensures { result ≡ badLengths s u t }
+    ensures { result ≡ bad_lengths s u t }
 {
     ((s % SOURCE != 0) | (u % WORDS != 0)) | ((t % STAMPS != 0) | (u / WORDS != t / STAMPS))
 }
 
 // 1, of source k, where n bytes of text are lent.
-#[tactic(auto, unfolding(rules::specs::Rules::badSource))]
+#[tactic(auto, unfolding(rules::specs::Rules::bad_source))]
 fn bad_source_at(s: &[u64], n: u64, k: usize) -> bool
-    requires { k * sourceWords + sourceWords ≤ length s.now }
-    ensures { result ≡ badSource n (sourceAt s.now k) }
+    requires { k * source_words + source_words ≤ length s.now }
+    ensures { result ≡ bad_source n (source_at s.now k) }
 {
     let e = source_at(s, k);
     rules::bad_words(n, e.dated, e.from, e.size, e.kind)
@@ -122,7 +122,7 @@ fn bad_source_at(s: &[u64], n: u64, k: usize) -> bool
 
 // 1, of all sources.
 pub fn bad_sources(s: &[u64], n: u64) -> bool
-    ensures { result ≡ any (badSource n) (sourcesOf s.now) }
+    ensures { result ≡ any (bad_source n) (sources_of s.now) }
 {
     let m = s.len() / SOURCE;
     let mut k = 0;
@@ -137,7 +137,7 @@ pub fn bad_sources(s: &[u64], n: u64) -> bool
 
 // 1, of all segments, whose signed words have no say in it.
 fn bad_flags(u: &[u64]) -> bool
-    ensures { (t : List ℤ) → result ≡ any badSegment (segmentsOf u.now t) }
+    ensures { (t : List ℤ) → result ≡ any bad_segment (segments_of u.now t) }
 {
     let m = u.len() / WORDS;
     let mut k = 0;
@@ -152,15 +152,15 @@ fn bad_flags(u: &[u64]) -> bool
 
 // 4 to 7 of source k.
 fn source_refusal_at(s: &[u64], log: bool, text: &[u8], k: usize) -> u64
-    requires { k * sourceWords + sourceWords ≤ length s.now }
-    ensures { result ≡ sourceRefusal log text.now (sourceAt s.now k) }
+    requires { k * source_words + source_words ≤ length s.now }
+    ensures { result ≡ source_refusal log text.now (source_at s.now k) }
 {
     rules::source_refusal(log, text, source_at(s, k))
 }
 
 // 4 to 7, source by source.
 fn first_source(s: &[u64], log: bool, text: &[u8]) -> Refusal
-    ensures { result ≡ firstRefused (sourceRefusal log text.now) 0 (sourcesOf s.now) }
+    ensures { result ≡ first_refused (source_refusal log text.now) 0 (sources_of s.now) }
 {
     let m = s.len() / SOURCE;
     let mut k = 0;
@@ -176,7 +176,7 @@ fn first_source(s: &[u64], log: bool, text: &[u8]) -> Refusal
 
 // 1 to 8, whatever the segments' layout: n are lent, and `bad` says whether 1 holds.
 pub fn front(sources: &[u64], log: bool, text: &[u8], bad: bool, n: usize) -> Refusal
-    ensures { result ≡ frontRefusal log text.now (sourcesOf sources.now) bad n }
+    ensures { result ≡ front_refusal log text.now (sources_of sources.now) bad n }
 {
     if bad {
         return Refusal::At(1, 0);
@@ -199,8 +199,8 @@ pub fn front(sources: &[u64], log: bool, text: &[u8], bad: bool, n: usize) -> Re
 
 // 9 to 17 of segment k, after one that ends at prev.
 fn turn_at(sources: &[u64], u: &[u64], t: &[i64], prev: Ends, k: usize) -> Turn
-    requires { (k * segmentWords + segmentWords ≤ length u.now) × (k * segmentStamps + segmentStamps ≤ length t.now) }
-    ensures { result ≡ turn_of (sourcesOf sources.now) prev (segmentAt u.now t.now k) }
+    requires { (k * segment_words + segment_words ≤ length u.now) × (k * segment_stamps + segment_stamps ≤ length t.now) }
+    ensures { result ≡ turn_of (sources_of sources.now) prev (segment_at u.now t.now k) }
 {
     let w = words_at(u, k);
     let from = w.source as usize;
@@ -213,8 +213,8 @@ fn turn_at(sources: &[u64], u: &[u64], t: &[i64], prev: Ends, k: usize) -> Turn
 
 // 9 to 17, segment by segment, then the frame total.
 fn segments(sources: &[u64], u: &[u64], t: &[i64]) -> Checked
-    requires { length u.now / segmentWords ≤ length t.now / segmentStamps }
-    ensures { result ≡ walked (sourcesOf sources.now) (segmentsOf u.now t.now) }
+    requires { length u.now / segment_words ≤ length t.now / segment_stamps }
+    ensures { result ≡ walked (sources_of sources.now) (segments_of u.now t.now) }
 {
     let m = u.len() / WORDS;
     let mut prev = rules::no_end();
@@ -231,7 +231,7 @@ fn segments(sources: &[u64], u: &[u64], t: &[i64]) -> Checked
 
 // Checks a table by all of 1 to 17, in their order.
 fn tested(sources: &[u64], u: &[u64], t: &[i64], log: bool, text: &[u8]) -> Checked
-    ensures { result ≡ checkOf (table_of sources.now u.now t.now log text.now) }
+    ensures { result ≡ check_of (table_of sources.now u.now t.now log text.now) }
 {
     let lengths = bad_lengths(sources.len(), u.len(), t.len());
     let bad = (lengths | bad_sources(sources, text.len() as u64)) | bad_flags(u);
@@ -257,8 +257,8 @@ fn fine_lengths(u: usize, t: usize) -> bool
 
 // Whether neither 1 nor any of 4 to 7 refuses source k.
 fn fine_any_source_at(s: &[u64], log: bool, text: &[u8], k: usize) -> bool
-    requires { k * sourceWords + sourceWords ≤ length s.now }
-    ensures { result ≡ true → FineSource log text.now (sourceAt s.now k) }
+    requires { k * source_words + source_words ≤ length s.now }
+    ensures { result ≡ true → FineSource log text.now (source_at s.now k) }
 {
     if bad_source_at(s, text.len() as u64, k) {
         return false;
@@ -268,8 +268,8 @@ fn fine_any_source_at(s: &[u64], log: bool, text: &[u8], k: usize) -> bool
 
 // The same; of one without creation time and clock three words are left to test.
 fn fine_source_at(s: &[u64], log: bool, text: &[u8], k: usize) -> bool
-    requires { k * sourceWords + sourceWords ≤ length s.now }
-    ensures { result ≡ true → FineSource log text.now (sourceAt s.now k) }
+    requires { k * source_words + source_words ≤ length s.now }
+    ensures { result ≡ true → FineSource log text.now (source_at s.now k) }
 {
     let b = k * SOURCE;
     if (s[b + 3] != 0) | (s[b + 6] != 0) {
@@ -313,8 +313,8 @@ pub fn fine_front(s: &[u64], log: bool, text: &[u8], n: usize) -> bool
 
 // Passes segment k, after one that ends at prev: where it ends, or no end where 1 or one of 9 to 17 may refuse it.
 fn pass_at(sources: &[u64], u: &[u64], t: &[i64], prev: Ends, k: usize) -> Ends
-    requires { (k * segmentWords + segmentWords ≤ length u.now) × (k * segmentStamps + segmentStamps ≤ length t.now) }
-    ensures { result.some ≡ true → PassesOf (sourcesOf sources.now) prev (segmentAt u.now t.now k) result }
+    requires { (k * segment_words + segment_words ≤ length u.now) × (k * segment_stamps + segment_stamps ≤ length t.now) }
+    ensures { result.some ≡ true → PassesOf (sources_of sources.now) prev (segment_at u.now t.now k) result }
 {
     let w = words_at(u, k);
     let from = w.source as usize;
@@ -342,8 +342,8 @@ const NO_FRAMES: u64 = 0;
 
 // The frame total of segments that all pass; none where one may be refused.
 fn pass_all(sources: &[u64], u: &[u64], t: &[i64]) -> u64
-    requires { length u.now / segmentWords ≤ length t.now / segmentStamps }
-    ensures { (result ≡ 0 → ⊥) → FineSegments (sourcesOf sources.now) (segmentsOf u.now t.now) result }
+    requires { length u.now / segment_words ≤ length t.now / segment_stamps }
+    ensures { (result ≡ 0 → ⊥) → FineSegments (sources_of sources.now) (segments_of u.now t.now) result }
 {
     let m = u.len() / WORDS;
     let mut prev = rules::no_end();
@@ -361,7 +361,7 @@ fn pass_all(sources: &[u64], u: &[u64], t: &[i64]) -> u64
 
 // The frame total of a table that is accepted, by tests that say only whether nothing refuses: in any order, each word and sum once. None where something may.
 fn accepted(sources: &[u64], u: &[u64], t: &[i64], log: bool, text: &[u8]) -> u64
-    ensures { (result ≡ 0 → ⊥) → Frames result ≡ checkOf (table_of sources.now u.now t.now log text.now) }
+    ensures { (result ≡ 0 → ⊥) → Frames result ≡ check_of (table_of sources.now u.now t.now log text.now) }
 {
     if !fine_lengths(u.len(), t.len()) {
         return NO_FRAMES;
@@ -374,7 +374,7 @@ fn accepted(sources: &[u64], u: &[u64], t: &[i64], log: bool, text: &[u8]) -> u6
 
 // Checks a table: its frame total, or a refusal's number and index. Most tables are accepted: that is asked first. The Rust's check.
 pub fn check(sources: &[u64], u: &[u64], t: &[i64], log: bool, text: &[u8]) -> Checked
-    ensures { result ≡ checkOf (table_of sources.now u.now t.now log text.now) }
+    ensures { result ≡ check_of (table_of sources.now u.now t.now log text.now) }
 {
     let n = accepted(sources, u, t, log, text);
     if n == NO_FRAMES {

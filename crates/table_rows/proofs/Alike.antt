@@ -7,21 +7,21 @@ use lib.Dec.{eqb}
 use lib.IntN.{ℤ}
 use Rattle.choice.specs.declared.Refusal.TheVariants.{Never, At}
 use Rattle.choice.specs.Choice.{when}
-use Rattle.choice.specs.Records.{orRefused}
+use Rattle.choice.specs.Records.{or_refused}
 use Rattle.choice.proofs.Tests.{decide}
 use Rattle.slices.specs.Slices.{after}
-use Rattle.rows.specs.Lent.{words_of, shiftsOf}
+use Rattle.rows.specs.Lent.{words_of, shifts_of}
 use Rattle.rules.specs.Records.{Segment, Table}
-use Rattle.rules.specs.Absent.{strippedSegment, stripped}
+use Rattle.rules.specs.Absent.{stripped_segment, stripped}
 use Rattle.rules.proofs.Ignored.{refusal-stripped, alike}
 use Rattle.table_rows.specs.declared.Filled.{Filled}
-use Rattle.table_rows.specs.Rows.{row_of, rows_of, tooSmall, rowsRefusal, filled, Rowed}
+use Rattle.table_rows.specs.Rows.{row_of, rows_of, too_small, rows_refusal, filled, Rowed}
 
-row-stripped : (e : Segment) → row_of (strippedSegment e) ≡ row_of e
-unfolding row_of strippedSegment when
+row-stripped : (e : Segment) → row_of (stripped_segment e) ≡ row_of e
+unfolding row_of stripped_segment when
 row-stripped e = decide (eqb e.words.flag 0) (λ q. rw q) (λ q. rw q)
 
-rows-stripped : (l : List Segment) → map row_of (map strippedSegment l) ≡ map row_of l
+rows-stripped : (l : List Segment) → map row_of (map stripped_segment l) ≡ map row_of l
 rows-stripped [] = refl
 rows-stripped (e ∷ l) = λ i. row-stripped e i ∷ rows-stripped l i
 
@@ -31,20 +31,20 @@ rows-of-stripped t = sym (rows-stripped t.segments)
 
 length-stripped : (t : Table) → length t.segments ≡ length (stripped t).segments
 unfolding stripped
-length-stripped t = sym (length-map t.segments strippedSegment)
+length-stripped t = sym (length-map t.segments stripped_segment)
 
-room-stripped : (nu ns : ℕ) (t : Table) → rowsRefusal t nu ns ≡ rowsRefusal (stripped t) nu ns
-unfolding rowsRefusal
-room-stripped nu ns t = λ i. orRefused (refusal-stripped t i) (when (tooSmall (length-stripped t i) nu ns) (At 32 0) Never)
+room-stripped : (nu ns : ℕ) (t : Table) → rows_refusal t nu ns ≡ rows_refusal (stripped t) nu ns
+unfolding rows_refusal
+room-stripped nu ns t = λ i. or_refused (refusal-stripped t i) (when (too_small (length-stripped t i) nu ns) (At 32 0) Never)
 
 -- what rows_of_table may answer and leave of one of two tables that are stripped alike, it may of the other
 pub rows_alike : (a b : Table) → stripped a ≡ stripped b → (ou ou' : List ℕ) (os os' : List ℤ) (r : Filled) → Rowed a ou os r ou' os' → Rowed b ou os r ou' os'
 rows_alike a b e ou ou' os os' r p =
-    let refusals = alike (λ t. rowsRefusal t (length ou) (length os)) (room-stripped (length ou) (length os)) a b e in
+    let refusals = alike (λ t. rows_refusal t (length ou) (length os)) (room-stripped (length ou) (length os)) a b e in
     let rows = alike rows_of rows-of-stripped a b e in
     let lengths = alike (λ t. length t.segments) length-stripped a b e in
     record {
       answer = p.answer ∙ λ i. filled (refusals i) (lengths i);
       words = p.words ∙ λ i. after (refusals i) (words_of (rows i)) ou;
-      shifts = p.shifts ∙ λ i. after (refusals i) (shiftsOf (rows i)) os;
+      shifts = p.shifts ∙ λ i. after (refusals i) (shifts_of (rows i)) os;
     }

@@ -6,7 +6,7 @@ use lib.IntN.{pos}
 use Rattle.choice.specs.Choice.{when}
 use Rattle.choice.specs.Records.{run}
 use Rattle.rows.specs.declared.Row.{Row}
-use Rattle.table.specs.Layout.{segmentsOf, table_of}
+use Rattle.table.specs.Layout.{segments_of, table_of}
 use Rattle.table.proofs.Examples.{T}
 use Rattle.table_rows.specs.Rows.{row_of, rows_of}
 
@@ -14,5 +14,5 @@ abbrev row : ℕ → ℕ → ℕ → ℕ → Row
 row s f n o = record { source = s; first = f; count = n; out = o; flag = 0; shift = pos 0 }
 
 pub examples : rows_of T ≡ row 0 10 30 0 ∷ row 1 5 20 30 ∷ []
-unfolding when run segmentsOf table_of row_of rows_of
+unfolding when run segments_of table_of row_of rows_of
 examples = refl

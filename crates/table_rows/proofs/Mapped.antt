@@ -8,17 +8,17 @@ use lib.ListN.{length, get_or, length-map}
 use lib.Dec.{eqb}
 use borrow.Author.Tests.{eq-eqb, ne_eqb, lt-ltb, eqb-true, eqb-false}
 use Rattle.choice.proofs.Chains.{not-past}
-use Rattle.choice.specs.Choice.{when, maxU64}
+use Rattle.choice.specs.Choice.{when, max_u64}
 use Rattle.choice.proofs.Tests.{decide}
-use Rattle.rows.specs.Rows.{okShift, okRow, WellFrom}
+use Rattle.rows.specs.Rows.{ok_shift, ok_row, WellFrom}
 use Rattle.rows.specs.Rows as rows
 use Rattle.rows.proofs.Flat.{rows-flat}
-use Rattle.rules.specs.Records.{Segment, Table, noSegment, segment, outEnd, frameTotal}
+use Rattle.rules.specs.Records.{Segment, Table, no_segment, segment, out_end, frame_total}
 use Rattle.rules.proofs.Accepted.{Accepted, accepted}
 use Rattle.table_rows.specs.Rows.{row_of, rows_of}
 use Rattle.table_rows.specs.Steps.{RowsAreMap}
 
-shift-ok : (e : Segment) → e.words.flag ≤ 1 → okShift (row_of e) ≡ true
+shift-ok : (e : Segment) → e.words.flag ≤ 1 → ok_shift (row_of e) ≡ true
 unfolding row_of when
 shift-ok e h =
     decide (eqb e.words.flag 0)
@@ -28,24 +28,24 @@ shift-ok e h =
 -- what a segment has of its own
 record Good (e : Segment) : Type 0 where
   some : 0 < e.words.count
-  source : e.words.first + e.words.count ≤ maxU64
-  last : outEnd e ≤ maxU64
+  source : e.words.first + e.words.count ≤ max_u64
+  last : out_end e ≤ max_u64
   flag : e.words.flag ≤ 1
 
 -- its row, where output frame p is next
-row_ok : (p : ℕ) (e : Segment) → Good e → e.words.out ≡ p → okRow p (row_of e) ≡ true
+row_ok : (p : ℕ) (e : Segment) → Good e → e.words.out ≡ p → ok_row p (row_of e) ≡ true
 unfolding row_of
 row_ok p e g o =
     rw (
       lt-ltb 0 e.words.count g.some,
-      not-past e.words.first e.words.count maxU64 g.source,
-      not-past e.words.out e.words.count maxU64 g.last,
+      not-past e.words.first e.words.count max_u64 g.source,
+      not-past e.words.out e.words.count max_u64 g.last,
       eq-eqb e.words.out p o,
     )
     (shift-ok e g.flag)
 
-rows_ok : (p : ℕ) (l : List Segment) → ((k : ℕ) → k < length l → Good (get_or l k noSegment)) → (0 < length l → (get_or l 0 noSegment).words.out ≡ p)
-    → ((k : ℕ) → suc k < length l → (get_or l (suc k) noSegment).words.out ≡ outEnd (get_or l k noSegment)) → WellFrom p (map row_of l)
+rows_ok : (p : ℕ) (l : List Segment) → ((k : ℕ) → k < length l → Good (get_or l k no_segment)) → (0 < length l → (get_or l 0 no_segment).words.out ≡ p)
+    → ((k : ℕ) → suc k < length l → (get_or l (suc k) no_segment).words.out ≡ out_end (get_or l k no_segment)) → WellFrom p (map row_of l)
 unfolding row_of
 rows_ok p [] g z n = tt
 rows_ok p (e ∷ l) g z n =
@@ -55,8 +55,8 @@ rows_ok p (e ∷ l) g z n =
           (λ k b. n (suc k) (suc-le-suc b)),
     )
 
-rows-total : (l : List Segment) → rows.total (map row_of l) ≡ frameTotal l
-unfolding frameTotal row_of
+rows-total : (l : List Segment) → rows.total (map row_of l) ≡ frame_total l
+unfolding frame_total row_of
 rows-total [] = refl
 rows-total (e ∷ l) = ap (λ (n : ℕ). e.words.count + n) (rows-total l)
 

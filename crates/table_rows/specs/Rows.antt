@@ -3,10 +3,10 @@ use Rattle.std.specs.Prelude.{ℕ, ◌*◌, Bool, ◌||◌, List, map, ◌≡◌
 use Rattle.choice.specs.declared.Refusal.{Refusal}
 use Rattle.choice.specs.declared.Refusal.TheVariants.{Never, At}
 use Rattle.choice.specs.Choice.{when}
-use Rattle.choice.specs.Records.{orRefused}
+use Rattle.choice.specs.Records.{or_refused}
 use Rattle.slices.specs.Slices.{after}
 use Rattle.rows.specs.declared.Row.{Row}
-use Rattle.rows.specs.Lent.{words_of, shiftsOf}
+use Rattle.rows.specs.Lent.{words_of, shifts_of}
 use Rattle.rules.specs.Records.{Segment, Table}
 use Rattle.rules.specs.Rules.{refusal}
 use Rattle.table_rows.specs.declared.Filled.{Filled}
@@ -28,16 +28,16 @@ unfoldable pub rows_of : Table → List Row
 rows_of t = map row_of t.segments
 
 -- words of a row as it is lent
-abbrev pub rowWords : ℕ
-rowWords = 5
+abbrev pub row_words : ℕ
+row_words = 5
 
 -- n rows don't go into nu words and ns shifts
-abbrev pub tooSmall : ℕ → ℕ → ℕ → Bool
-tooSmall n nu ns = ltb nu (n * rowWords) || ltb ns n
+abbrev pub too_small : ℕ → ℕ → ℕ → Bool
+too_small n nu ns = ltb nu (n * row_words) || ltb ns n
 
 -- 1 to 17, then 32: lent room too small
-unfoldable pub rowsRefusal : Table → ℕ → ℕ → Refusal
-rowsRefusal t nu ns = orRefused (refusal t) (when (tooSmall (length t.segments) nu ns) (At 32 0) Never)
+unfoldable pub rows_refusal : Table → ℕ → ℕ → Refusal
+rows_refusal t nu ns = or_refused (refusal t) (when (too_small (length t.segments) nu ns) (At 32 0) Never)
 
 -- the number of rows, or the refusal
 unfoldable pub filled : Refusal → ℕ → Filled
@@ -46,6 +46,6 @@ filled (At n i) _ = NoRows n i
 
 -- the rows of t were asked for: the answer r, and the words and shifts lent for them, before and afterwards
 pub record Rowed (t : Table) (ou : List ℕ) (os : List ℤ) (r : Filled) (ou' : List ℕ) (os' : List ℤ) : Type 0 where
-  pub answer : r ≡ filled (rowsRefusal t (length ou) (length os)) (length t.segments)
-  pub words : ou' ≡ after (rowsRefusal t (length ou) (length os)) (words_of (rows_of t)) ou
-  pub shifts : os' ≡ after (rowsRefusal t (length ou) (length os)) (shiftsOf (rows_of t)) os
+  pub answer : r ≡ filled (rows_refusal t (length ou) (length os)) (length t.segments)
+  pub words : ou' ≡ after (rows_refusal t (length ou) (length os)) (words_of (rows_of t)) ou
+  pub shifts : os' ≡ after (rows_refusal t (length ou) (length os)) (shifts_of (rows_of t)) os

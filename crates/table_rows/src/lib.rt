@@ -3,8 +3,8 @@
 
 ghost use Rattle.std.specs.Prelude.{◌≡◌, map, ◌+◌, ◌*◌, ◌/◌, ◌≤◌, length};
 ghost use Rattle.slices.specs.Slices.{laid};
-ghost use Rattle.rows.specs.Lent.{shiftsOf};
-ghost use Rattle.table.specs.Layout.{segmentWords, segmentStamps, segmentAt, segmentsOf, table_of};
+ghost use Rattle.rows.specs.Lent.{shifts_of};
+ghost use Rattle.table.specs.Layout.{segment_words, segment_stamps, segment_at, segments_of, table_of};
 ghost use Rattle.table_rows.specs.Rows.{row_of, Rowed};
 
 use rules::Checked;
@@ -19,8 +19,8 @@ pub enum Filled {
 
 // The shift of segment k, an absent one as 0.
 fn shift_at(u: &[u64], t: &[i64], k: usize) -> i64
-    requires { (k * segmentWords + segmentWords ≤ length u.now) × (k * segmentStamps + segmentStamps ≤ length t.now) }
-    ensures { result ≡ (row_of (segmentAt u.now t.now k)).shift }
+    requires { (k * segment_words + segment_words ≤ length u.now) × (k * segment_stamps + segment_stamps ≤ length t.now) }
+    ensures { result ≡ (row_of (segment_at u.now t.now k)).shift }
 {
     if u[k * WORDS + 4] == 0 {
         return 0;
@@ -30,8 +30,8 @@ fn shift_at(u: &[u64], t: &[i64], k: usize) -> i64
 
 // The shifts of the rows.
 fn write_shifts(u: &[u64], t: &[i64], os: &mut [i64])
-    requires { (length u.now / segmentWords ≤ length t.now / segmentStamps) × (length u.now / segmentWords ≤ length os.old) }
-    ensures { os.new ≡ laid (shiftsOf (map row_of (segmentsOf u.now t.now))) os.old }
+    requires { (length u.now / segment_words ≤ length t.now / segment_stamps) × (length u.now / segment_words ≤ length os.old) }
+    ensures { os.new ≡ laid (shifts_of (map row_of (segments_of u.now t.now))) os.old }
 {
     let n = u.len() / WORDS;
     let mut k = 0;
@@ -63,7 +63,7 @@ pub fn rows_of_table(
         return Filled::NoRows(32, 0);
     }
     // a segment's unsigned words are its row's
-    slices::copy_words(u, ou);
+    slices::copy(u, ou);
     write_shifts(u, t, os);
     Filled::Rows(n)
 }

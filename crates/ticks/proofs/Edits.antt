@@ -6,17 +6,17 @@ use native.Mathlib.Omega.{arith}
 use lib.Dec.{ltb}
 use borrow.Author.Tests.{lt-ltb, le-ltb}
 use Rattle.ticks.specs.declared.MediaTicks.TheVariants.{Are, Beyond}
-use Rattle.ticks.specs.Ticks.{editTicks, mediaTicks}
+use Rattle.ticks.specs.Ticks.{edit_ticks, media_ticks}
 
 -- t the product, u the sum with half the movie's scale, q the quotient
-pub ticks-are : (d s m t u q : ℕ) → t ≡ d * s → u ≡ t + (0 + m / 2) → q ≡ u / m → q ≡ editTicks d s m
+pub ticks-are : (d s m t u q : ℕ) → t ≡ d * s → u ≡ t + (0 + m / 2) → q ≡ u / m → q ≡ edit_ticks d s m
 ticks-are d s m t u q et eu eq = let z : u ≡ d * s + m / 2 = omega arith in eq ∙ ap (λ n. n / m) z
 
-module _ (d s m : ℕ) {q : ℕ} (e : q ≡ editTicks d s m) where
-  pub ticks-held : q < 2 ^ 63 → Are q ≡ mediaTicks d s m
-  unfolding mediaTicks
+module _ (d s m : ℕ) {q : ℕ} (e : q ≡ edit_ticks d s m) where
+  pub ticks-held : q < 2 ^ 63 → Are q ≡ media_ticks d s m
+  unfolding media_ticks
   ticks-held h = (λ i. if sym (lt-ltb q 9223372036854775808 h) i then Are q else Beyond) ∙ (λ i. if ltb (e i) 9223372036854775808 then Are (e i) else Beyond)
 
-  pub ticks-past : 2 ^ 63 ≤ q → Beyond ≡ mediaTicks d s m
-  unfolding mediaTicks
+  pub ticks-past : 2 ^ 63 ≤ q → Beyond ≡ media_ticks d s m
+  unfolding media_ticks
   ticks-past h = (λ i. if sym (le-ltb q 9223372036854775808 h) i then Are q else Beyond) ∙ (λ i. if ltb (e i) 9223372036854775808 then Are (e i) else Beyond)

@@ -15,14 +15,14 @@ use Rattle.signed.proofs.Signs.{sign-mag, sign-times}
 use Rattle.wide.specs.declared.Wide.{Wide}
 use Rattle.wide.specs.Value.{value}
 use Rattle.wide.proofs.Rooms.{lt-eq, mul-room, sum_room}
-use Rattle.ticks.specs.Ticks.{endsNear}
+use Rattle.ticks.specs.Ticks.{ends_near}
 use Rattle.ticks.specs.Steps.{Allowed, Room}
 
 -- ---- the distance of two numbers, on one side of 0 and on both
-natAbs-neg : (z : ℤ) → nat_abs (neg_ℤ z) ≡ nat_abs z
-natAbs-neg (pos zero) = refl
-natAbs-neg (pos (suc n)) = refl
-natAbs-neg (negsuc n) = refl
+nat_abs-neg : (z : ℤ) → nat_abs (neg_ℤ z) ≡ nat_abs z
+nat_abs-neg (pos zero) = refl
+nat_abs-neg (pos (suc n)) = refl
+nat_abs-neg (negsuc n) = refl
 
 pub above : (a b : ℕ) → nat_abs (pos a -ℤ pos b) ≡ a - b + (b - a)
 above a zero = omega arith
@@ -39,7 +39,7 @@ turned : (x y : ℤ) → nat_abs (neg_ℤ x -ℤ y) ≡ nat_abs (x -ℤ neg_ℤ 
 turned x y =
     ap (λ (z : ℤ). nat_abs (neg_ℤ x +ℤ neg_ℤ z)) (sym (neg_ℤ-neg_ℤ y))
     ∙ ap nat_abs (sym (neg_ℤ-+ℤ x (neg_ℤ (neg_ℤ y))))
-    ∙ natAbs-neg (x -ℤ neg_ℤ y)
+    ∙ nat_abs-neg (x -ℤ neg_ℤ y)
 
 beside : (s : Bool) (a b : ℕ) → nat_abs (with_sign s a -ℤ with_sign s b) ≡ a - b + (b - a)
 beside false a b = above a b
@@ -105,22 +105,8 @@ module _ {z : ℤ} {w : Wide} (s : ℕ) (f : s < 2 ^ 32) (t : Twice z w) where
   signed_is : {neg : Bool} → lt_z z (pos 0) ≡ neg → pos 2 *ℤ z *ℤ pos 1000000 ≡ with_sign neg (value w)
   signed_is e = doubled-of z 1000000 ∙ (λ i. with_sign (e i) (sym t.is i))
 
-  pub allowed-below : lt_z z (pos 0) ≡ true → Allowed (pos 2 *ℤ z *ℤ pos 1000000 +ℤ pos s) (record { plus = record { hi = 0; lo = s }; minus = w })
-  allowed-below e = record {
-    is = ap (λ (n : ℕ). pos n -ℤ pos (value w)) (zero-add s) ∙ +ℤ_comm (pos s) (neg_ℤ (pos (value w))) ∙ sym (ap (λ (y : ℤ). y +ℤ pos s) (signed_is e));
-    plus-lt = lt-eq (zero-add s) (lt_of_lt_of_le f (lit≤ tt));
-    minus-lt = lt_of_lt_of_le t.lt (lit≤ tt);
-  }
-
   pub sum_fits : value w + (0 + s) < 2 ^ 118
   sum_fits = sum_room (2 ^ 85) (2 ^ 32) t.lt (lt-eq (zero-add s) f) (lit≤ tt)
-
-  pub allowed-above : {v : Wide} → value v ≡ value w + (0 + s) → lt_z z (pos 0) ≡ false → Allowed (pos 2 *ℤ z *ℤ pos 1000000 +ℤ pos s) (record { plus = v; minus = record { hi = 0; lo = 0 } })
-  allowed-above {v} ev e = record {
-    is = ap pos (add-zero (value v) ∙ ev ∙ ap (λ (n : ℕ). value w + n) (zero-add s)) ∙ sym (ap (λ (y : ℤ). y +ℤ pos s) (signed_is e));
-    plus-lt = lt-eq ev sum_fits;
-    minus-lt = lit< tt;
-  }
 
 -- a is 2·|us|·s, b is 2·|end|·1,000,000, and plus - minus is what is allowed
 pub record Compared (us nominal : ℤ) (n s a b plus minus : ℕ) : Type 0 where
@@ -145,15 +131,15 @@ compared {us} {nominal} {n} {s} {u} {p} fu fs fn eu ep ea eb ey hp hm = record {
 }
 
 module _ {us nominal : ℤ} {n s a b plus minus : ℕ} (neg : Bool) (C : Compared us nominal n s a b plus minus) where
-  by-distance : (d : ℕ) → nat_abs (with_sign (lt_z us (pos 0)) a -ℤ with_sign neg b) ≡ d → leb (d + minus) plus ≡ endsNear us (with_sign neg n) nominal s
-  unfolding endsNear
+  by-distance : (d : ℕ) → nat_abs (with_sign (lt_z us (pos 0)) a -ℤ with_sign neg b) ≡ d → leb (d + minus) plus ≡ ends_near us (with_sign neg n) nominal s
+  unfolding ends_near
   by-distance d e =
       at-most-difference d plus minus
       ∙ (λ i. le_z (pos (sym e i)) (C.by-is i))
       ∙ (λ i. le_z (pos (nat_abs ((ap (with_sign (lt_z us (pos 0))) C.a-is ∙ sym (doubled-of us s)) i -ℤ (ap (with_sign neg) C.b-is ∙ sym (doubled neg n 1000000)) i))) (pos 2 *ℤ nominal *ℤ pos 1000000 +ℤ pos s))
 
-  pub near-beside-is : {r : Bool} → beq (lt_z us (pos 0)) neg ≡ true → r ≡ leb (a - b + (b - a) + minus) plus → r ≡ endsNear us (with_sign neg n) nominal s
+  pub near-beside-is : {r : Bool} → beq (lt_z us (pos 0)) neg ≡ true → r ≡ leb (a - b + (b - a) + minus) plus → r ≡ ends_near us (with_sign neg n) nominal s
   near-beside-is e t = t ∙ by-distance (a - b + (b - a)) (ap (λ (s : Bool). nat_abs (with_sign s a -ℤ with_sign neg b)) (same_sign (lt_z us (pos 0)) neg e) ∙ beside neg a b)
 
-  pub near-across-is : {r : Bool} → beq (lt_z us (pos 0)) neg ≡ false → r ≡ leb (a + b + minus) plus → r ≡ endsNear us (with_sign neg n) nominal s
+  pub near-across-is : {r : Bool} → beq (lt_z us (pos 0)) neg ≡ false → r ≡ leb (a + b + minus) plus → r ≡ ends_near us (with_sign neg n) nominal s
   near-across-is e t = t ∙ by-distance (a + b) (across (lt_z us (pos 0)) neg a b e)

@@ -5,7 +5,7 @@ use Rattle.ticks.specs.declared.Us.{Us}
 use Rattle.ticks.specs.declared.Us.TheVariants.{At, Refused}
 use Rattle.ticks.specs.declared.MediaTicks.{MediaTicks}
 use Rattle.ticks.specs.declared.MediaTicks.TheVariants.{Are, Beyond}
-use Rattle.ticks.specs.Ticks.{microsOf, usOf, ticksToUs, endsNear, mediaTicks}
+use Rattle.ticks.specs.Ticks.{micros_of, us_of, ticks_to_us, ends_near, media_ticks}
 
 pub record Time : Type 0 where
   pub ticks : ℤ
@@ -28,8 +28,8 @@ times =
     ∷ record { ticks = neg_ℤ (pos 9223372036854775808); scale = 1000000; answer = At (neg_ℤ (pos 9223372036854775808)) }
     ∷ []
 
-pub times-hold : map (λ (t : Time). ticksToUs t.ticks t.scale) times ≡ map (λ (t : Time). t.answer) times
-unfolding when microsOf usOf ticksToUs
+pub times-hold : map (λ (t : Time). ticks_to_us t.ticks t.scale) times ≡ map (λ (t : Time). t.answer) times
+unfolding when micros_of us_of ticks_to_us
 times-hold = refl
 
 pub record End : Type 0 where
@@ -55,8 +55,8 @@ ends =
     ∷ record { us = pos 0; end = pos 0; nominal = neg_ℤ (pos 1); scale = 1999999; near = false }
     ∷ []
 
-pub ends-hold : map (λ (e : End). endsNear e.us e.end e.nominal e.scale) ends ≡ map (λ (e : End). e.near) ends
-unfolding endsNear
+pub ends-hold : map (λ (e : End). ends_near e.us e.end e.nominal e.scale) ends ≡ map (λ (e : End). e.near) ends
+unfolding ends_near
 ends-hold = refl
 
 pub record Edit : Type 0 where
@@ -74,6 +74,6 @@ edits =
     ∷ record { duration = 9223372036854775808; timescale = 1; movie = 1; answer = Beyond }
     ∷ []
 
-pub edits-hold : map (λ (e : Edit). mediaTicks e.duration e.timescale e.movie) edits ≡ map (λ (e : Edit). e.answer) edits
-unfolding mediaTicks
+pub edits-hold : map (λ (e : Edit). media_ticks e.duration e.timescale e.movie) edits ≡ map (λ (e : Edit). e.answer) edits
+unfolding media_ticks
 edits-hold = refl

@@ -6,8 +6,8 @@ use Rattle.wide.specs.Value.{value}
 use Rattle.ticks.specs.declared.Allowance.{Allowance}
 
 -- the most ticks whose product with 1,000,000 fits 63 bits with its sign
-abbrev pub smallTicks : ℕ
-smallTicks = 4611686018427
+abbrev pub small_ticks : ℕ
+small_ticks = 4611686018427
 
 -- z as a difference of two numbers, each with room to be added to others
 pub record Allowed (z : ℤ) (r : Allowance) : Type 0 where
@@ -23,5 +23,5 @@ pub record Room (a b plus minus : ℕ) : Type 0 where
   pub minus-lt : minus < 2 ^ 118
 
 -- an i64 as a sign and a magnitude of two words
-abbrev pub bigOf : ℤ → Big
-bigOf x = record { neg = lt_z x (pos 0); mag = record { hi = 0; lo = nat_abs x } }
+abbrev pub big_of : ℤ → Big
+big_of x = record { neg = lt_z x (pos 0); mag = record { hi = 0; lo = nat_abs x } }

@@ -12,35 +12,35 @@ use Rattle.ticks.specs.declared.MediaTicks.{MediaTicks}
 use Rattle.ticks.specs.declared.MediaTicks.TheVariants.{Are, Beyond}
 
 -- the largest scale, the refusal of a larger one, and that of a time that can't be had
-abbrev pub largestScale : ℕ
-largestScale = 4294967295
+abbrev pub largest_scale : ℕ
+largest_scale = 4294967295
 
-abbrev pub scaleOver : ℕ
-scaleOver = 20
+abbrev pub scale_over : ℕ
+scale_over = 20
 
-abbrev pub noTime : ℕ
-noTime = 23
+abbrev pub no_time : ℕ
+no_time = 23
 
 -- t ticks of the scale s: t × 1,000,000 / s to the nearest whole number, halves away from zero; none at scale 0 or outside i64
-unfoldable pub microsOf : ℤ → ℕ → Held
-microsOf t s = when (eqb s 0) Outside (within (rounded (t *ℤ pos 1000000) s))
+unfoldable pub micros_of : ℤ → ℕ → Held
+micros_of t s = when (eqb s 0) Outside (within (rounded (t *ℤ pos 1000000) s))
 
 -- the same, as a call answers it
-unfoldable pub usOf : Held → Us
-usOf (Is us) = At us
-usOf Outside = Refused noTime 0
+unfoldable pub us_of : Held → Us
+us_of (Is us) = At us
+us_of Outside = Refused no_time 0
 
-unfoldable pub ticksToUs : ℤ → ℕ → Us
-ticksToUs t s = when (ltb largestScale s) (Refused scaleOver 0) (usOf (microsOf t s))
+unfoldable pub ticks_to_us : ℤ → ℕ → Us
+ticks_to_us t s = when (ltb largest_scale s) (Refused scale_over 0) (us_of (micros_of t s))
 
 -- |2·us·s - 2·end·1,000,000| ≤ 2·nominal·1,000,000 + s
-unfoldable pub endsNear : ℤ → ℤ → ℤ → ℕ → Bool
-endsNear us end nominal s = le_z (pos (nat_abs (pos 2 *ℤ us *ℤ pos s -ℤ pos 2 *ℤ end *ℤ pos 1000000))) (pos 2 *ℤ nominal *ℤ pos 1000000 +ℤ pos s)
+unfoldable pub ends_near : ℤ → ℤ → ℤ → ℕ → Bool
+ends_near us end nominal s = le_z (pos (nat_abs (pos 2 *ℤ us *ℤ pos s -ℤ pos 2 *ℤ end *ℤ pos 1000000))) (pos 2 *ℤ nominal *ℤ pos 1000000 +ℤ pos s)
 
 -- a duration of the movie in the media's ticks: floor((duration × timescale + floor(movie / 2)) / movie)
-abbrev pub editTicks : ℕ → ℕ → ℕ → ℕ
-editTicks duration timescale movie = (duration * timescale + movie / 2) / movie
+abbrev pub edit_ticks : ℕ → ℕ → ℕ → ℕ
+edit_ticks duration timescale movie = (duration * timescale + movie / 2) / movie
 
 -- the same where an i64 holds it
-unfoldable pub mediaTicks : ℕ → ℕ → ℕ → MediaTicks
-mediaTicks duration timescale movie = if ltb (editTicks duration timescale movie) (2 ^ 63) then Are (editTicks duration timescale movie) else Beyond
+unfoldable pub media_ticks : ℕ → ℕ → ℕ → MediaTicks
+media_ticks duration timescale movie = if ltb (edit_ticks duration timescale movie) (2 ^ 63) then Are (edit_ticks duration timescale movie) else Beyond

@@ -4,8 +4,8 @@
 ghost use Rattle.std.specs.Prelude.{◌≡◌, ◌+◌, ◌-◌, ◌^◌, ◌≤◌, ◌<◌, leb, pos, nat_abs, ◌+ℤ◌, ◌*ℤ◌};
 ghost use Rattle.signed.specs.Rounded.{rounded};
 ghost use Rattle.wide.specs.Value.{value, number};
-ghost use Rattle.ticks.specs.Ticks.{microsOf, ticksToUs, endsNear, mediaTicks};
-ghost use Rattle.ticks.specs.Steps.{smallTicks, Allowed, Room, bigOf};
+ghost use Rattle.ticks.specs.Ticks.{micros_of, ticks_to_us, ends_near, media_ticks};
+ghost use Rattle.ticks.specs.Steps.{small_ticks, Allowed, Room, big_of};
 
 use signed::Held;
 use wide::{Big, Wide};
@@ -43,7 +43,7 @@ struct Allowance {
 
 // An i64 as a sign and a magnitude.
 pub fn big_of(x: i64) -> Big
-    ensures { result ≡ bigOf x }
+    ensures { result ≡ big_of x }
 {
     let m = signed::magnitude(x);
     Big {
@@ -55,7 +55,7 @@ pub fn big_of(x: i64) -> Big
 // Ticks of a scale in microseconds, from `ticks_to_us` of the Rust, which takes 128 bits: half the scale is added before the division.
 pub fn micros(ticks: Big, scale: u64) -> Held
     requires { (value ticks.mag < 2 ^ 96) × (scale < 2 ^ 32) }
-    ensures { result ≡ microsOf (number ticks) scale }
+    ensures { result ≡ micros_of (number ticks) scale }
 {
     if scale == 0 {
         return Held::Outside;
@@ -74,7 +74,7 @@ pub fn micros(ticks: Big, scale: u64) -> Held
 
 // The same of few ticks, by signed negation and division; their product with 1,000,000 fits 63 bits.
 fn small_micros(ticks: i64, scale: u64) -> i64
-    requires { (nat_abs ticks ≤ smallTicks) × (0 < scale) × (scale < 2 ^ 32) }
+    requires { (nat_abs ticks ≤ small_ticks) × (0 < scale) × (scale < 2 ^ 32) }
     ensures { result ≡ rounded (ticks *ℤ pos 1000000) scale }
 {
     signed::rounded_div(ticks * 1_000_000, scale as i64)
@@ -82,7 +82,7 @@ fn small_micros(ticks: i64, scale: u64) -> i64
 
 // Ticks of a scale in microseconds, from `ticks_to_us` of the Rust: few ticks by signed division, the rest by two words.
 pub fn ticks_to_us(ticks: i64, scale: u64) -> Us
-    ensures { result ≡ ticksToUs ticks scale }
+    ensures { result ≡ ticks_to_us ticks scale }
 {
     if LARGEST_SCALE < scale {
         return Us::Refused(SCALE_OVER, 0);
@@ -137,7 +137,7 @@ fn near_across(a: Wide, b: Wide, plus: Wide, minus: Wide) -> bool
 // Whether us microseconds are near the end of a video, from `ends_near` of the Rust. Nothing passes 118 bits.
 pub fn ends_near(us: i64, end: Big, nominal: i64, scale: u64) -> bool
     requires { (value end.mag < 2 ^ 96) × (scale < 2 ^ 32) }
-    ensures { result ≡ endsNear us (number end) nominal scale }
+    ensures { result ≡ ends_near us (number end) nominal scale }
 {
     let mag = end.mag;
     let a = wide::times(wide::product(signed::magnitude(us), scale), 2);
@@ -154,7 +154,7 @@ pub fn ends_near(us: i64, end: Big, nominal: i64, scale: u64) -> bool
 // A duration of the movie in the media's ticks, from `video_frame_times_of_moov` of the Rust.
 pub fn edit_ticks(duration: u64, scale: u64, movie: u64) -> MediaTicks
     requires { (scale < 2 ^ 32) × (0 < movie) × (movie < 2 ^ 32) }
-    ensures { result ≡ mediaTicks duration scale movie }
+    ensures { result ≡ media_ticks duration scale movie }
 {
     let half = Wide {
         hi: 0,

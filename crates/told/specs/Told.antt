@@ -28,70 +28,70 @@ use Rattle.maps.specs.declared.Traced.{Traced}
 use Rattle.maps.specs.declared.Traced.TheVariants as traced
 
 -- microseconds, and the refusal's index, 0 where it is accepted: so is every index below
-unfoldable pub usTold : Us → ℤ → ℕ × ℤ × ℕ
-usTold (us.At t) old = (0, t, 0)
-usTold (us.Refused n i) old = (n, old, i)
+unfoldable pub us_told : Us → ℤ → ℕ × ℤ × ℕ
+us_told (us.At t) old = (0, t, 0)
+us_told (us.Refused n i) old = (n, old, i)
 
 -- a box's size, its header's
-unfoldable pub sizeTold : Sized → ℕ → ℕ → ℕ × ℕ × ℕ × ℕ
-sizeTold (sized.Box s h) size header = (0, s, h, 0)
-sizeTold (sized.Refused n i) size header = (n, size, header, i)
+unfoldable pub size_told : Sized → ℕ → ℕ → ℕ × ℕ × ℕ × ℕ
+size_told (sized.Box s h) size header = (0, s, h, 0)
+size_told (sized.Refused n i) size header = (n, size, header, i)
 
 -- a box's type, its payload's start and length, the next box
-unfoldable pub reachedTold : Reached → ℕ → ℕ → ℕ → ℕ → ℕ × ℕ × ℕ × ℕ × ℕ × ℕ
-reachedTold (reached.Box k s l n) kind start length next = (0, k, s, l, n, 0)
-reachedTold (reached.Refused n i) kind start length next = (n, kind, start, length, next, i)
+unfoldable pub reached_told : Reached → ℕ → ℕ → ℕ → ℕ → ℕ × ℕ × ℕ × ℕ × ℕ × ℕ
+reached_told (reached.Box k s l n) kind start length next = (0, k, s, l, n, 0)
+reached_told (reached.Refused n i) kind start length next = (n, kind, start, length, next, i)
 
 -- start and length of a part of the caller's bytes
-unfoldable pub placeTold : Place → ℕ → ℕ → ℕ × ℕ × ℕ × ℕ
-placeTold (place.At s l) start length = (0, s, l, 0)
-placeTold (place.Refused n i) start length = (n, start, length, i)
+unfoldable pub place_told : Place → ℕ → ℕ → ℕ × ℕ × ℕ × ℕ
+place_told (place.At s l) start length = (0, s, l, 0)
+place_told (place.Refused n i) start length = (n, start, length, i)
 
 -- a frame total
-unfoldable pub checkedTold : Checked → ℕ → ℕ × ℕ × ℕ
-checkedTold (checked.Frames n) frames = (0, n, 0)
-checkedTold (checked.Refused n i) frames = (n, frames, i)
+unfoldable pub checked_told : Checked → ℕ → ℕ × ℕ × ℕ
+checked_told (checked.Frames n) frames = (0, n, 0)
+checked_told (checked.Refused n i) frames = (n, frames, i)
 
 -- the same without the total
-unfoldable pub refusalTold : Checked → ℕ × ℕ
-refusalTold (checked.Frames n) = (0, 0)
-refusalTold (checked.Refused n i) = (n, i)
+unfoldable pub refusal_told : Checked → ℕ × ℕ
+refusal_told (checked.Frames n) = (0, 0)
+refusal_told (checked.Refused n i) = (n, i)
 
 -- a segment
-unfoldable pub lookupTold : Lookup → ℕ → ℕ × ℕ × ℕ
-lookupTold (lookup.Index k) segment = (0, k, 0)
-lookupTold (lookup.NoIndex n i) segment = (n, segment, i)
+unfoldable pub lookup_told : Lookup → ℕ → ℕ × ℕ × ℕ
+lookup_told (lookup.Index k) segment = (0, k, 0)
+lookup_told (lookup.NoIndex n i) segment = (n, segment, i)
 
 -- 1 for yes, 0 for no
-unfoldable pub continuedTold : Continued → ℕ → ℕ × ℕ × ℕ
-continuedTold (continued.Answer b) old = (0, cond b 1 0, 0)
-continuedTold (continued.NoAnswer n i) old = (n, old, i)
+unfoldable pub continued_told : Continued → ℕ → ℕ × ℕ × ℕ
+continued_told (continued.Answer b) old = (0, cond b 1 0, 0)
+continued_told (continued.NoAnswer n i) old = (n, old, i)
 
 -- how many rows
-unfoldable pub filledTold : Filled → ℕ → ℕ × ℕ × ℕ
-filledTold (filled.Rows k) rows = (0, k, 0)
-filledTold (filled.NoRows n i) rows = (n, rows, i)
+unfoldable pub filled_told : Filled → ℕ → ℕ × ℕ × ℕ
+filled_told (filled.Rows k) rows = (0, k, 0)
+filled_told (filled.NoRows n i) rows = (n, rows, i)
 
 -- how many indices
-unfoldable pub indexedTold : Indexed → ℕ → ℕ × ℕ × ℕ
-indexedTold (indexed.Indices k) written = (0, k, 0)
-indexedTold (indexed.NoIndices n i) written = (n, written, i)
+unfoldable pub indexed_told : Indexed → ℕ → ℕ × ℕ × ℕ
+indexed_told (indexed.Indices k) written = (0, k, 0)
+indexed_told (indexed.NoIndices n i) written = (n, written, i)
 
-unfoldable pub mappedTold : Mapped → ℕ → ℕ × ℕ × ℕ
-mappedTold (mapped.Rows k) rows = (0, k, 0)
-mappedTold (mapped.Refused n i) rows = (n, rows, i)
+unfoldable pub mapped_told : Mapped → ℕ → ℕ × ℕ × ℕ
+mapped_told (mapped.Rows k) rows = (0, k, 0)
+mapped_told (mapped.Refused n i) rows = (n, rows, i)
 
 -- source, source frame, shift flag, shift
-unfoldable pub tracedTold : Traced → ℕ → ℕ → ℕ → ℤ → ℕ × ℕ × ℕ × ℕ × ℤ × ℕ
-tracedTold (traced.From s f g z) source frame flag shift = (0, s, f, g, z, 0)
-tracedTold (traced.Refused n i) source frame flag shift = (n, source, frame, flag, shift, i)
+unfoldable pub traced_told : Traced → ℕ → ℕ → ℕ → ℤ → ℕ × ℕ × ℕ × ℕ × ℤ × ℕ
+traced_told (traced.From s f g z) source frame flag shift = (0, s, f, g, z, 0)
+traced_told (traced.Refused n i) source frame flag shift = (n, source, frame, flag, shift, i)
 
 -- frame count, scale, nominal, end
-unfoldable pub timesTold : RecordingTimes → ℕ → ℕ → ℤ → ℤ → ℕ × ℕ × ℕ × ℤ × ℤ × ℕ
-timesTold (times.Timed f s m e) frames scale nominal end = (0, f, s, m, e, 0)
-timesTold (times.Refused n i) frames scale nominal end = (n, frames, scale, nominal, end, i)
+unfoldable pub times_told : RecordingTimes → ℕ → ℕ → ℤ → ℤ → ℕ × ℕ × ℕ × ℤ × ℤ × ℕ
+times_told (times.Timed f s m e) frames scale nominal end = (0, f, s, m, e, 0)
+times_told (times.Refused n i) frames scale nominal end = (n, frames, scale, nominal, end, i)
 
 -- the same of a moov
-unfoldable pub moovTold : FrameTimes → ℕ → ℕ → ℤ → ℤ → ℕ × ℕ × ℕ × ℤ × ℤ × ℕ
-moovTold (moov.Presented f s m e) frames scale nominal end = (0, f, s, m, e, 0)
-moovTold (moov.Refused n i) frames scale nominal end = (n, frames, scale, nominal, end, i)
+unfoldable pub moov_told : FrameTimes → ℕ → ℕ → ℤ → ℤ → ℕ × ℕ × ℕ × ℤ × ℤ × ℕ
+moov_told (moov.Presented f s m e) frames scale nominal end = (0, f, s, m, e, 0)
+moov_told (moov.Refused n i) frames scale nominal end = (n, frames, scale, nominal, end, i)

@@ -1,13 +1,13 @@
 // What is told of the answers about maps.
 ghost use Rattle.std.specs.Prelude.{◌≡◌};
-ghost use Rattle.told.specs.Told.{mappedTold, tracedTold};
+ghost use Rattle.told.specs.Told.{mapped_told, traced_told};
 
 use maps::{Mapped, Traced};
 
 // Tells how many rows were written.
-#[tactic(auto, unfolding(crate::specs::Told::mappedTold))]
+#[tactic(auto, unfolding(crate::specs::Told::mapped_told))]
 pub fn tell_mapped(answer: Mapped, rows: &mut u64, index: &mut u64) -> u64
-    ensures { (result, rows.new, index.new) ≡ mappedTold answer rows.old }
+    ensures { (result, rows.new, index.new) ≡ mapped_told answer rows.old }
 {
     match answer {
         Mapped::Rows(n) => {
@@ -23,7 +23,7 @@ pub fn tell_mapped(answer: Mapped, rows: &mut u64, index: &mut u64) -> u64
 }
 
 // Tells where a frame comes from.
-#[tactic(auto, unfolding(crate::specs::Told::tracedTold))]
+#[tactic(auto, unfolding(crate::specs::Told::traced_told))]
 pub fn tell_traced(
     answer: Traced,
     source: &mut u64,
@@ -32,7 +32,7 @@ pub fn tell_traced(
     shift: &mut i64,
     index: &mut u64,
 ) -> u64
-    ensures { (result, source.new, source_frame.new, flag.new, shift.new, index.new) ≡ tracedTold answer source.old source_frame.old flag.old shift.old }
+    ensures { (result, source.new, source_frame.new, flag.new, shift.new, index.new) ≡ traced_told answer source.old source_frame.old flag.old shift.old }
 {
     match answer {
         Traced::From(s, f, g, z) => {

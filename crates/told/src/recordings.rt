@@ -1,12 +1,12 @@
 // What is told of the answers about frame times.
 ghost use Rattle.std.specs.Prelude.{◌≡◌};
-ghost use Rattle.told.specs.Told.{moovTold, timesTold};
+ghost use Rattle.told.specs.Told.{moov_told, times_told};
 
 use frame_times::FrameTimes;
 use mcraw::RecordingTimes;
 
 // Tells frame count, scale, nominal and end.
-#[tactic(auto, unfolding(crate::specs::Told::timesTold))]
+#[tactic(auto, unfolding(crate::specs::Told::times_told))]
 pub fn tell_times(
     answer: RecordingTimes,
     frames: &mut u64,
@@ -15,7 +15,7 @@ pub fn tell_times(
     end: &mut i64,
     index: &mut u64,
 ) -> u64
-    ensures { (result, frames.new, scale.new, nominal.new, end.new, index.new) ≡ timesTold answer frames.old scale.old nominal.old end.old }
+    ensures { (result, frames.new, scale.new, nominal.new, end.new, index.new) ≡ times_told answer frames.old scale.old nominal.old end.old }
 {
     match answer {
         RecordingTimes::Timed {
@@ -39,7 +39,7 @@ pub fn tell_times(
 }
 
 // Tells the same of a moov.
-#[tactic(auto, unfolding(crate::specs::Told::moovTold))]
+#[tactic(auto, unfolding(crate::specs::Told::moov_told))]
 pub fn tell_moov(
     answer: FrameTimes,
     frames: &mut u64,
@@ -48,7 +48,7 @@ pub fn tell_moov(
     end: &mut i64,
     index: &mut u64,
 ) -> u64
-    ensures { (result, frames.new, scale.new, nominal.new, end.new, index.new) ≡ moovTold answer frames.old scale.old nominal.old end.old }
+    ensures { (result, frames.new, scale.new, nominal.new, end.new, index.new) ≡ moov_told answer frames.old scale.old nominal.old end.old }
 {
     match answer {
         FrameTimes::Presented {

@@ -1,15 +1,15 @@
 // What is told of the answers about tables.
 ghost use Rattle.std.specs.Prelude.{◌≡◌};
-ghost use Rattle.told.specs.Told.{checkedTold, continuedTold, filledTold, indexedTold, lookupTold};
+ghost use Rattle.told.specs.Told.{checked_told, continued_told, filled_told, indexed_told, lookup_told};
 
 use lookups::Indexed;
 use rules::{Checked, Continued, Lookup};
 use table_rows::Filled;
 
 // Tells a frame total.
-#[tactic(auto, unfolding(crate::specs::Told::checkedTold))]
+#[tactic(auto, unfolding(crate::specs::Told::checked_told))]
 pub fn tell_checked(answer: Checked, frames: &mut u64, index: &mut u64) -> u64
-    ensures { (result, frames.new, index.new) ≡ checkedTold answer frames.old }
+    ensures { (result, frames.new, index.new) ≡ checked_told answer frames.old }
 {
     match answer {
         Checked::Frames(n) => {
@@ -25,9 +25,9 @@ pub fn tell_checked(answer: Checked, frames: &mut u64, index: &mut u64) -> u64
 }
 
 // Tells a segment.
-#[tactic(auto, unfolding(crate::specs::Told::lookupTold))]
+#[tactic(auto, unfolding(crate::specs::Told::lookup_told))]
 pub fn tell_lookup(answer: Lookup, segment: &mut u64, index: &mut u64) -> u64
-    ensures { (result, segment.new, index.new) ≡ lookupTold answer segment.old }
+    ensures { (result, segment.new, index.new) ≡ lookup_told answer segment.old }
 {
     match answer {
         Lookup::Index(k) => {
@@ -43,9 +43,9 @@ pub fn tell_lookup(answer: Lookup, segment: &mut u64, index: &mut u64) -> u64
 }
 
 // Tells how many indices were written.
-#[tactic(auto, unfolding(crate::specs::Told::indexedTold))]
+#[tactic(auto, unfolding(crate::specs::Told::indexed_told))]
 pub fn tell_indexed(answer: Indexed, written: &mut u64, index: &mut u64) -> u64
-    ensures { (result, written.new, index.new) ≡ indexedTold answer written.old }
+    ensures { (result, written.new, index.new) ≡ indexed_told answer written.old }
 {
     match answer {
         Indexed::Indices(n) => {
@@ -61,9 +61,9 @@ pub fn tell_indexed(answer: Indexed, written: &mut u64, index: &mut u64) -> u64
 }
 
 // Tells whether a segment continues the one before.
-#[tactic(auto, unfolding(crate::specs::Told::continuedTold))]
+#[tactic(auto, unfolding(crate::specs::Told::continued_told))]
 pub fn tell_continued(answer: Continued, yes: &mut u64, index: &mut u64) -> u64
-    ensures { (result, yes.new, index.new) ≡ continuedTold answer yes.old }
+    ensures { (result, yes.new, index.new) ≡ continued_told answer yes.old }
 {
     match answer {
         Continued::Answer(b) => {
@@ -79,9 +79,9 @@ pub fn tell_continued(answer: Continued, yes: &mut u64, index: &mut u64) -> u64
 }
 
 // Tells how many rows were written.
-#[tactic(auto, unfolding(crate::specs::Told::filledTold))]
+#[tactic(auto, unfolding(crate::specs::Told::filled_told))]
 pub fn tell_filled(answer: Filled, rows: &mut u64, index: &mut u64) -> u64
-    ensures { (result, rows.new, index.new) ≡ filledTold answer rows.old }
+    ensures { (result, rows.new, index.new) ≡ filled_told answer rows.old }
 {
     match answer {
         Filled::Rows(n) => {

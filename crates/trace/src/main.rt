@@ -26,20 +26,8 @@ struct Held {
     joining: bool,
 }
 
-// Copies words over the first of those lent, if there is room.
-fn copy_words(from: &[u64], to: &mut [u64]) {
-    if to.len() < from.len() {
-        return;
-    }
-    let mut i = 0;
-    while i < from.len() {
-        to[i] = from[i];
-        i += 1;
-    }
-}
-
-// The same of shifts.
-fn copy_shifts(from: &[i64], to: &mut [i64]) {
+// Copies what a call wrote over the first of what is lent, if there is room.
+fn copy_over<T: Copy>(from: &[T], to: &mut [T]) {
     if from.len() <= to.len() {
         slices::copy(from, to);
     }
@@ -61,8 +49,8 @@ fn keep(
             had
         }
         Mapped::Rows(k) => {
-            copy_words(maptext::words(ou, k), u);
-            copy_shifts(maptext::shifts(os, k), s);
+            copy_over(maptext::words(ou, k), u);
+            copy_over(maptext::shifts(os, k), s);
             maptext::say_map(rt, maptext::words(u, k), maptext::shifts(s, k));
             k
         }

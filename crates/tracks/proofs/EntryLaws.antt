@@ -11,57 +11,57 @@ use borrow.Author.Tests.{ltb-false}
 use Rattle.choice.proofs.Tests.{either}
 use Rattle.slices.specs.Slices.{laid, All}
 use Rattle.slices.proofs.Every.{all_append}
-use Rattle.boxes.specs.Bytes.{be32At}
+use Rattle.boxes.specs.Bytes.{be32_at}
 use Rattle.tracks.specs.declared.Rows.{Rows}
 use Rattle.tracks.specs.declared.Rows.TheVariants.{Whole, Torn}
 use Rattle.tracks.specs.Steps.{Spread}
-use Rattle.tracks.specs.Tables.{Entry, tableRows, optionalRows, entriesFrom, entriesOf, entryTotal, perFrame, durations}
+use Rattle.tracks.specs.Tables.{Entry, table_rows, optional_rows, entries_from, entries_of, entry_total, per_frame, durations}
 
 -- one entry more
 entries-step : (n : ℕ) (p : List ℕ) (at : ℕ) → (n ≡ 0 → ⊥)
-    → entriesFrom n p at ≡ record { count = be32At p at; value = be32At p (at + 4) } ∷ entriesFrom (n - 1) p (at + 8)
-unfolding entriesFrom
+    → entries_from n p at ≡ record { count = be32_at p at; value = be32_at p (at + 4) } ∷ entries_from (n - 1) p (at + 8)
+unfolding entries_from
 entries-step zero p at h = absurd (h refl)
-entries-step (suc n) p at h = let e : n ≡ suc n - 1 = omega arith in ap (λ m. record { count = be32At p at; value = be32At p (at + 4) } ∷ entriesFrom m p (at + 8)) e
+entries-step (suc n) p at h = let e : n ≡ suc n - 1 = omega arith in ap (λ m. record { count = be32_at p at; value = be32_at p (at + 4) } ∷ entries_from m p (at + 8)) e
 
 per-frame-step : (n : ℕ) (p : List ℕ) (at : ℕ) → (n ≡ 0 → ⊥)
-    → perFrame (entriesFrom n p at) ≡ replicate (be32At p at) (be32At p (at + 4)) ++ perFrame (entriesFrom (n - 1) p (at + 8))
-unfolding perFrame
+    → per_frame (entries_from n p at) ≡ replicate (be32_at p at) (be32_at p (at + 4)) ++ per_frame (entries_from (n - 1) p (at + 8))
+unfolding per_frame
 per-frame-step n p at h = rw (entries-step n p at h)
 
-per-frame-none : (n : ℕ) (p : List ℕ) (at : ℕ) → n ≡ 0 → perFrame (entriesFrom n p at) ≡ []
-unfolding perFrame entriesFrom
+per-frame-none : (n : ℕ) (p : List ℕ) (at : ℕ) → n ≡ 0 → per_frame (entries_from n p at) ≡ []
+unfolding per_frame entries_from
 per-frame-none n p at h = rw h
 
-pub total-step : (n : ℕ) (p : List ℕ) (at : ℕ) → (n ≡ 0 → ⊥) → entryTotal (entriesFrom n p at) ≡ be32At p at + entryTotal (entriesFrom (n - 1) p (at + 8))
-unfolding entryTotal
+pub total-step : (n : ℕ) (p : List ℕ) (at : ℕ) → (n ≡ 0 → ⊥) → entry_total (entries_from n p at) ≡ be32_at p at + entry_total (entries_from (n - 1) p (at + 8))
+unfolding entry_total
 total-step n p at h = rw (entries-step n p at h)
 
-pub total-none : (n : ℕ) (p : List ℕ) (at : ℕ) → n ≡ 0 → entryTotal (entriesFrom n p at) ≡ 0
-unfolding entryTotal entriesFrom
+pub total-none : (n : ℕ) (p : List ℕ) (at : ℕ) → n ≡ 0 → entry_total (entries_from n p at) ≡ 0
+unfolding entry_total entries_from
 total-none n p at h = rw h
 
-pub length-per-frame : (es : List Entry) → length (perFrame es) ≡ entryTotal es
-unfolding perFrame entryTotal
+pub length-per-frame : (es : List Entry) → length (per_frame es) ≡ entry_total es
+unfolding per_frame entry_total
 length-per-frame [] = refl
-length-per-frame (e ∷ es) = length-append (replicate e.count e.value) (perFrame es) ∙ (λ i. length-replicate e.count e.value i + length-per-frame es i)
+length-per-frame (e ∷ es) = length-append (replicate e.count e.value) (per_frame es) ∙ (λ i. length-replicate e.count e.value i + length-per-frame es i)
 
 -- ---- one frame on
-module _ (p : List ℕ) (left at count value : ℕ) (whole : List ℕ) (h : replicate count value ++ perFrame (entriesFrom left p at) ≡ whole) where
+module _ (p : List ℕ) (left at count value : ℕ) (whole : List ℕ) (h : replicate count value ++ per_frame (entries_from left p at) ≡ whole) where
   -- an entry is opened
-  pub opened : {c v : ℕ} → count ≡ 0 → (left ≡ 0 → ⊥) → c ≡ be32At p at → v ≡ be32At p (at + 4) → replicate c v ++ perFrame (entriesFrom (left - 1) p (at + 8)) ≡ whole
+  pub opened : {c v : ℕ} → count ≡ 0 → (left ≡ 0 → ⊥) → c ≡ be32_at p at → v ≡ be32_at p (at + 4) → replicate c v ++ per_frame (entries_from (left - 1) p (at + 8)) ≡ whole
   opened none some c v = rw (c, v) (sym (per-frame-step left p at some) ∙ (rw none at h))
 
   -- none is left
-  pub ended : count ≡ 0 → left ≡ 0 → (0 ≡ get_or whole 0 0) × (replicate 0 0 ++ perFrame (entriesFrom 0 p at) ≡ drop 1 whole)
-  unfolding perFrame entriesFrom
+  pub ended : count ≡ 0 → left ≡ 0 → (0 ≡ get_or whole 0 0) × (replicate 0 0 ++ per_frame (entries_from 0 p at) ≡ drop 1 whole)
+  unfolding per_frame entries_from
   ended none done = let e : [] ≡ whole = rw (none, done) at h in rw (← e) (refl, refl)
 
   -- a frame is passed
-  pub passed : (count ≡ 0 → ⊥) → (value ≡ get_or whole 0 0) × (replicate (count - 1) value ++ perFrame (entriesFrom left p at) ≡ drop 1 whole)
+  pub passed : (count ≡ 0 → ⊥) → (value ≡ get_or whole 0 0) × (replicate (count - 1) value ++ per_frame (entries_from left p at) ≡ drop 1 whole)
   passed some =
       let n : count ≡ suc (count - 1) = some-count count some in
-      let e : value ∷ (replicate (count - 1) value ++ perFrame (entriesFrom left p at)) ≡ whole = rw n at h in
+      let e : value ∷ (replicate (count - 1) value ++ per_frame (entries_from left p at)) ≡ whole = rw n at h in
       rw (← e) (refl, refl)
     where
       some-count : (k : ℕ) → (k ≡ 0 → ⊥) → k ≡ suc (k - 1)
@@ -73,9 +73,9 @@ pub record Laying (p : List ℕ) (n most : ℕ) (out₀ out : List ℤ) (sum lef
   pub long : length out ≡ length out₀
   pub there : left * 8 ≤ length p - at
   pub under : sum ≤ most
-  pub sums : sum + entryTotal (entriesFrom left p at) ≡ entryTotal (entriesOf n p)
+  pub sums : sum + entry_total (entries_from left p at) ≡ entry_total (entries_of n p)
   pub done : List ℕ
-  pub is : done ++ perFrame (entriesFrom left p at) ≡ durations n p
+  pub is : done ++ per_frame (entries_from left p at) ≡ durations n p
   pub count : length done ≡ sum
   pub laid : sum ≤ length out₀ → out ≡ laid (map pos done) out₀
 
@@ -91,9 +91,9 @@ map-replicate : (f : ℕ → ℤ) (n x : ℕ) → map f (replicate n x) ≡ repl
 map-replicate f zero x = refl
 map-replicate f (suc n) x = ap (λ l. f x ∷ l) (map-replicate f n x)
 
-module _ (p : List ℕ) (n most : ℕ) (out₀ out : List ℤ) (sum left at : ℕ) (h : Laying p n most out₀ out sum left at) (some : left ≡ 0 → ⊥) (c v : ℕ) (ec : c ≡ be32At p at) (ev : v ≡ be32At p (at + 4)) where
+module _ (p : List ℕ) (n most : ℕ) (out₀ out : List ℤ) (sum left at : ℕ) (h : Laying p n most out₀ out sum left at) (some : left ≡ 0 → ⊥) (c v : ℕ) (ec : c ≡ be32_at p at) (ev : v ≡ be32_at p (at + 4)) where
   -- over the most
-  pub lay-more : most - sum < c → most + 1 ≡ min (entryTotal (entriesOf n p)) (most + 1)
+  pub lay-more : most - sum < c → most + 1 ≡ min (entry_total (entries_of n p)) (most + 1)
   lay-more l = omega (arith, h.sums, h.under, total-step left p at some)
 
   module _ (fits : c ≤ most - sum) where
@@ -104,7 +104,7 @@ module _ (p : List ℕ) (n most : ℕ) (out₀ out : List ℤ) (sum left at : �
       under = omega (arith, h.under);
       sums = omega (arith, h.sums, total-step left p at some);
       done = h.done ++ replicate c v;
-      is = append_assoc h.done (replicate c v) (perFrame (entriesFrom (left - 1) p (at + 8))) ∙ ap (λ x. h.done ++ x) ((λ i. replicate (ec i) (ev i) ++ perFrame (entriesFrom (left - 1) p (at + 8))) ∙ sym (per-frame-step left p at some)) ∙ h.is;
+      is = append_assoc h.done (replicate c v) (per_frame (entries_from (left - 1) p (at + 8))) ∙ ap (λ x. h.done ++ x) ((λ i. replicate (ec i) (ev i) ++ per_frame (entries_from (left - 1) p (at + 8))) ∙ sym (per-frame-step left p at some)) ∙ h.is;
       count = length-append h.done (replicate c v) ∙ (λ i. h.count i + length-replicate c v i);
       laid = g;
     }
@@ -142,24 +142,24 @@ abbrev Optional : ℕ → Rows → Type 0
 Optional l Torn = Unit {0}
 Optional l (Whole n) = n * 8 ≤ l - 8
 
-there : (p : List ℕ) → There (length p) (tableRows p)
-unfolding tableRows
+there : (p : List ℕ) → There (length p) (table_rows p)
+unfolding table_rows
 there p =
     either (There (length p)) (ltb (length p) 8) (λ h. tt)
-    (λ h. either (There (length p)) (ltb (length p) (be32At p 4 * 8 + 8)) (λ k. tt) (λ k. ltb-false (length p) (be32At p 4 * 8 + 8) k))
+    (λ h. either (There (length p)) (ltb (length p) (be32_at p 4 * 8 + 8)) (λ k. tt) (λ k. ltb-false (length p) (be32_at p 4 * 8 + 8) k))
 
 loosen : (l : ℕ) (r : Rows) → There l r → Optional l r
 loosen l Torn h = tt
 loosen l (Whole n) h = omega arith
 
-optional : (p : List ℕ) → Optional (length p) (optionalRows p)
-unfolding optionalRows
-optional p = either (Optional (length p)) (ltb (length p) 4) (λ h. omega arith) (λ h. loosen (length p) (tableRows p) (there p))
+optional : (p : List ℕ) → Optional (length p) (optional_rows p)
+unfolding optional_rows
+optional p = either (Optional (length p)) (ltb (length p) 4) (λ h. omega arith) (λ h. loosen (length p) (table_rows p) (there p))
 
-pub rows-there : (p : List ℕ) (n : ℕ) → tableRows p ≡ Whole n → n * 8 ≤ length p - 8
-rows-there p n e = subst (Optional (length p)) e (loosen (length p) (tableRows p) (there p))
+pub rows-there : (p : List ℕ) (n : ℕ) → table_rows p ≡ Whole n → n * 8 ≤ length p - 8
+rows-there p n e = subst (Optional (length p)) e (loosen (length p) (table_rows p) (there p))
 
-pub optional-there : (p : List ℕ) (n : ℕ) → optionalRows p ≡ Whole n → n * 8 ≤ length p - 8
+pub optional-there : (p : List ℕ) (n : ℕ) → optional_rows p ≡ Whole n → n * 8 ≤ length p - 8
 optional-there p n e = subst (Optional (length p)) e (optional p)
 
 -- what holds of each entry's value holds of each frame's
@@ -167,7 +167,7 @@ all_replicate : (P : ℕ → Type 0) (n x : ℕ) → P x → All P (replicate n 
 all_replicate P zero x h = tt
 all_replicate P (suc n) x h = (h, all_replicate P n x h)
 
-pub all-per-frame : (P : ℕ → Type 0) (es : List Entry) → All (λ (e : Entry). P e.value) es → All P (perFrame es)
-unfolding perFrame
+pub all-per-frame : (P : ℕ → Type 0) (es : List Entry) → All (λ (e : Entry). P e.value) es → All P (per_frame es)
+unfolding per_frame
 all-per-frame P [] h = tt
-all-per-frame P (e ∷ es) h = all_append P (replicate e.count e.value) (perFrame es) (all_replicate P e.count e.value h.0) (all-per-frame P es h.1)
+all-per-frame P (e ∷ es) h = all_append P (replicate e.count e.value) (per_frame es) (all_replicate P e.count e.value h.0) (all-per-frame P es h.1)

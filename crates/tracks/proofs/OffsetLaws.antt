@@ -10,13 +10,9 @@ use borrow.Author.Tests.{lt-ltb}
 use Rattle.choice.proofs.Tests.{either}
 use Rattle.signed.specs.Signed.{of_bits}
 use Rattle.tracks.specs.Tables.{offset_of}
-use Rattle.tracks.specs.Steps.{offsetWrap, wrapped}
+use Rattle.tracks.specs.Steps.{offset_wrap, wrapped}
 
-pub wrap-small : (u : Bool) → offsetWrap u ≤ 2 ^ 32
-wrap-small true = omega arith
-wrap-small false = omega arith
-
-pub offset-wrapped : (u : Bool) (x : ℕ) → wrapped (offsetWrap u) x ≡ offset_of u x
+pub offset-wrapped : (u : Bool) (x : ℕ) → wrapped (offset_wrap u) x ≡ offset_of u x
 unfolding of_bits
 offset-wrapped true x = either (λ z. z ≡ pos x) (ltb x 2147483648) (λ t. refl) (λ t. let e : x + 0 ≡ x = omega arith in ap pos e)
 offset-wrapped false x = refl

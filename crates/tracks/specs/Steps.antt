@@ -5,15 +5,15 @@ use Rattle.signed.specs.Steps.{I64}
 use Rattle.slices.specs.Slices.{laid}
 use Rattle.tracks.specs.declared.Cursor.{Cursor}
 use Rattle.tracks.specs.declared.Edit.{Edit}
-use Rattle.tracks.specs.Tables.{entriesFrom, entriesOf, entryTotal, perFrame, durations}
+use Rattle.tracks.specs.Tables.{entries_from, entries_of, entry_total, per_frame, durations}
 
 -- the values of the frames that a walk hasn't passed
 abbrev pub rest : List ℕ → Cursor → List ℕ
-rest p c = replicate c.count c.value ++ perFrame (entriesFrom c.left p c.at)
+rest p c = replicate c.count c.value ++ per_frame (entries_from c.left p c.at)
 
 -- before the first of n entries
-abbrev pub atFirst : ℕ → Cursor
-atFirst n = record { left = n; at = 8; count = 0; value = 0 }
+abbrev pub at_first : ℕ → Cursor
+at_first n = record { left = n; at = 8; count = 0; value = 0 }
 
 -- the entries that follow are there
 abbrev pub There : List ℕ → Cursor → Type 0
@@ -27,13 +27,13 @@ pub record Next (p : List ℕ) (c r : Cursor) : Type 0 where
 
 -- r is how many frames a table's n entries are for, but no more than most + 1; where out has room for them, their values are laid over it
 pub record Spread (p : List ℕ) (n most r : ℕ) (before after : List ℤ) : Type 0 where
-  pub frames : r ≡ min (entryTotal (entriesOf n p)) (most + 1)
+  pub frames : r ≡ min (entry_total (entries_of n p)) (most + 1)
   pub laid : r ≤ most → r ≤ length before → after ≡ laid (map pos (durations n p)) before
 
 -- what is taken off an offset whose top bit is set: nothing where offsets are unsigned, 2^32 where they are signed
-abbrev pub offsetWrap : Bool → ℕ
-offsetWrap true = 0
-offsetWrap false = 2 ^ 32
+abbrev pub offset_wrap : Bool → ℕ
+offset_wrap true = 0
+offset_wrap false = 2 ^ 32
 
 -- an offset, of its four bytes and of what is taken off
 abbrev pub wrapped : ℕ → ℕ → ℤ

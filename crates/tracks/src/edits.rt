@@ -1,6 +1,6 @@
 // The edit list.
 ghost use Rattle.std.specs.Prelude.{◌≡◌, ◌+◌, ◌≤◌, ◌<◌, ◌^◌, length};
-ghost use Rattle.tracks.specs.Edits.{line_at, lineBytes, noEdit, endingAfter, fromTime, keptLine, twoLines, lines_of, elstOf, editOf};
+ghost use Rattle.tracks.specs.Edits.{line_at, line_bytes, no_edit, ending_after, from_time, kept_line, two_lines, lines_of, elst_of, edit_of};
 
 use crate::{Edit, Edited, Line};
 use boxes::Walk;
@@ -17,7 +17,7 @@ const TOP: u64 = 0x8000_0000_0000_0000;
 
 // How many bytes an entry has: 20 in version 1.
 fn line_bytes(long: bool) -> usize
-    ensures { result ≡ lineBytes long }
+    ensures { result ≡ line_bytes long }
 {
     if long {
         return 20;
@@ -28,7 +28,7 @@ fn line_bytes(long: bool) -> usize
 // The entry at at: the closure entry of video_frame_times_of_moov.
 #[tactic(auto, using(choice::proofs::Tests::tests), unfolding(crate::specs::Edits::line_at))]
 fn line_at(long: bool, p: &[u8], at: usize) -> Line
-    requires { at + lineBytes long ≤ length p.now }
+    requires { at + line_bytes long ≤ length p.now }
     ensures { result ≡ line_at long p.now at }
 {
     if long {
@@ -47,7 +47,7 @@ fn line_at(long: bool, p: &[u8], at: usize) -> Line
 
 // No edit: everything is kept, from 0 on.
 fn no_edit() -> Edited
-    ensures { result ≡ Edited.By noEdit }
+    ensures { result ≡ Edited.By no_edit }
 {
     Edited::By(Edit {
         edited: false,
@@ -61,7 +61,7 @@ fn no_edit() -> Edited
 // The edit from t on that ends so many ticks later.
 fn ending_after(d: MediaTicks, t: u64, empty: i64) -> Edited
     requires { t < 2 ^ 63 }
-    ensures { result ≡ endingAfter d t empty }
+    ensures { result ≡ ending_after d t empty }
 {
     let MediaTicks::Are(n) = d else {
         return Edited::Bad;
@@ -81,7 +81,7 @@ fn ending_after(d: MediaTicks, t: u64, empty: i64) -> Edited
 // The edit from a time on, over a duration of the movie.
 fn from_time(t: i64, duration: u64, scale: u64, movie: u64, empty: i64) -> Edited
     requires { (scale < 2 ^ 32) × (0 < movie) × (movie < 2 ^ 32) }
-    ensures { result ≡ fromTime t duration scale movie empty }
+    ensures { result ≡ from_time t duration scale movie empty }
 {
     if t < 0 {
         return Edited::Bad;
@@ -99,10 +99,10 @@ fn from_time(t: i64, duration: u64, scale: u64, movie: u64, empty: i64) -> Edite
 }
 
 // The edit of the entry that is kept.
-#[tactic(auto, using(choice::proofs::Tests::tests), unfolding(crate::specs::Edits::keptLine))]
+#[tactic(auto, using(choice::proofs::Tests::tests), unfolding(crate::specs::Edits::kept_line))]
 fn kept_line(l: Line, scale: u64, movie: u64, empty: i64) -> Edited
     requires { (scale < 2 ^ 32) × (0 < movie) × (movie < 2 ^ 32) }
-    ensures { result ≡ keptLine l scale movie empty }
+    ensures { result ≡ kept_line l scale movie empty }
 {
     if l.rate == RATE_ONE {
         return from_time(l.time, l.duration, scale, movie, empty);
@@ -111,10 +111,10 @@ fn kept_line(l: Line, scale: u64, movie: u64, empty: i64) -> Edited
 }
 
 // The edit of two entries, the first an empty edit, whose rate isn't looked at.
-#[tactic(auto, using(choice::proofs::Tests::tests), unfolding(crate::specs::Edits::twoLines))]
+#[tactic(auto, using(choice::proofs::Tests::tests), unfolding(crate::specs::Edits::two_lines))]
 fn two_lines(first: Line, l: Line, scale: u64, movie: u64) -> Edited
     requires { (scale < 2 ^ 32) × (0 < movie) × (movie < 2 ^ 32) }
-    ensures { result ≡ twoLines first l scale movie }
+    ensures { result ≡ two_lines first l scale movie }
 {
     let d = first.duration;
     if first.time != -1 {
@@ -153,10 +153,10 @@ fn lines(n: usize, long: bool, p: &[u8], scale: u64, movie: u64) -> Edited
 }
 
 // The edit of an elst's payload.
-#[tactic(auto, using(choice::proofs::Tests::tests), unfolding(crate::specs::Edits::elstOf))]
+#[tactic(auto, using(choice::proofs::Tests::tests), unfolding(crate::specs::Edits::elst_of))]
 fn elst(p: &[u8], scale: u64, movie: u64) -> Edited
     requires { (scale < 2 ^ 32) × (0 < movie) × (movie < 2 ^ 32) }
-    ensures { result ≡ elstOf p.now scale movie }
+    ensures { result ≡ elst_of p.now scale movie }
 {
     if p.len() < 8 {
         return Edited::Bad;
@@ -165,10 +165,10 @@ fn elst(p: &[u8], scale: u64, movie: u64) -> Edited
 }
 
 // The edit of an edts' payload, which is empty where a track has none: the edit list of video_frame_times_of_moov.
-#[tactic(auto, using(choice::proofs::Tests::tests), unfolding(crate::specs::Edits::editOf))]
+#[tactic(auto, using(choice::proofs::Tests::tests), unfolding(crate::specs::Edits::edit_of))]
 pub fn edit_of(edts: &[u8], scale: u64, movie: u64) -> Edited
     requires { (scale < 2 ^ 32) × (0 < movie) × (movie < 2 ^ 32) }
-    ensures { result ≡ editOf edts.now scale movie }
+    ensures { result ≡ edit_of edts.now scale movie }
 {
     let w = find_child(edts, code(b"elst"));
     if let Walk::Found { start: _, len: _ } = w {

@@ -1,7 +1,7 @@
 // Timescales, and the tables that have a count and a value in each entry: durations (stts) and offsets (ctts).
 ghost use Rattle.std.specs.Prelude.{◌≡◌, ◌+◌, ◌-◌, ◌*◌, ◌≤◌, ◌^◌, length, replicate};
-ghost use Rattle.tracks.specs.Tables.{scale_at, scale_of, hasScale, tableRows, optionalRows, isUnsigned};
-ghost use Rattle.tracks.specs.Steps.{atFirst, Next, Spread, offsetWrap, wrapped};
+ghost use Rattle.tracks.specs.Tables.{scale_at, scale_of, has_scale, table_rows, optional_rows, is_unsigned};
+ghost use Rattle.tracks.specs.Steps.{at_first, Next, Spread, offset_wrap, wrapped};
 
 use crate::{Cursor, Rows};
 use boxes::read::be32;
@@ -32,9 +32,9 @@ pub fn scale(p: &[u8]) -> u32
 }
 
 // Whether that timescale is whole: where it isn't, the Rust looks for no track.
-#[tactic(auto, using(choice::proofs::Tests::tests), unfolding(crate::specs::Tables::hasScale))]
+#[tactic(auto, using(choice::proofs::Tests::tests), unfolding(crate::specs::Tables::has_scale))]
 pub fn has_scale(p: &[u8]) -> bool
-    ensures { result ≡ hasScale p.now }
+    ensures { result ≡ has_scale p.now }
 {
     if p.len() < 16 {
         return false;
@@ -46,9 +46,9 @@ pub fn has_scale(p: &[u8]) -> bool
 }
 
 // How many entries a table has: one length tells whether they are all there.
-#[tactic(auto, using(choice::proofs::Tests::tests), unfolding(crate::specs::Tables::tableRows))]
+#[tactic(auto, using(choice::proofs::Tests::tests), unfolding(crate::specs::Tables::table_rows))]
 pub fn count_rows(p: &[u8]) -> Rows
-    ensures { result ≡ tableRows p.now }
+    ensures { result ≡ table_rows p.now }
 {
     if p.len() < 8 {
         return Rows::Torn;
@@ -61,9 +61,9 @@ pub fn count_rows(p: &[u8]) -> Rows
 }
 
 // The same of a table that may be absent.
-#[tactic(auto, using(choice::proofs::Tests::tests), unfolding(crate::specs::Tables::optionalRows))]
+#[tactic(auto, using(choice::proofs::Tests::tests), unfolding(crate::specs::Tables::optional_rows))]
 pub fn optional_rows(p: &[u8]) -> Rows
-    ensures { result ≡ optionalRows p.now }
+    ensures { result ≡ optional_rows p.now }
 {
     if p.len() < 4 {
         return Rows::Whole(0);
@@ -73,7 +73,7 @@ pub fn optional_rows(p: &[u8]) -> Rows
 
 // Whether the offsets of a ctts are unsigned: by the standard those of version 0, by the Rust none. An absent ctts has no offsets; its version counts as 0.
 fn is_unsigned(standard: bool, ctts: &[u8]) -> bool
-    ensures { result ≡ isUnsigned standard ctts.now }
+    ensures { result ≡ is_unsigned standard ctts.now }
 {
     if ctts.len() == 0 {
         return standard;
@@ -83,7 +83,7 @@ fn is_unsigned(standard: bool, ctts: &[u8]) -> bool
 
 // What is taken off an offset of a ctts whose top bit is set. It is found once, so that either reading costs the same for each frame.
 pub fn offset_wrap(standard: bool, ctts: &[u8]) -> u64
-    ensures { result ≡ offsetWrap (isUnsigned standard ctts.now) }
+    ensures { result ≡ offset_wrap (is_unsigned standard ctts.now) }
 {
     if is_unsigned(standard, ctts) {
         return 0;
@@ -104,7 +104,7 @@ pub fn offset(wrap: u64, x: u32) -> i64
 
 // A walk over n entries, before the first.
 pub fn at_first(n: usize) -> Cursor
-    ensures { result ≡ atFirst n }
+    ensures { result ≡ at_first n }
 {
     Cursor {
         left: n,

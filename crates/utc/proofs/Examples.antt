@@ -4,7 +4,7 @@ use mathlib.Core.Path.{◌≡◌, refl}
 use mathlib.Core.Bool.{Bool, true, false}
 use mathlib.Core.List.{List, [], ◌∷◌, map}
 use Rattle.choice.specs.Choice.{when}
-use Rattle.utc.specs.Utc.{utcSecond, utcBytes, two, days}
+use Rattle.utc.specs.Utc.{utc_second, utc_bytes, two, days}
 
 pub record Case : Type 0 where
   pub bytes : List ℕ
@@ -34,6 +34,6 @@ cases =
     ∷ record { bytes = 50 ∷ 48 ∷ 50 ∷ 54 ∷ 45 ∷ 49 ∷ 51 ∷ 45 ∷ 49 ∷ 53 ∷ 84 ∷ 48 ∷ 52 ∷ 58 ∷ 50 ∷ 48 ∷ 58 ∷ 48 ∷ 48 ∷ 90 ∷ []; passes = false }
     ∷ []
 
-pub cases-hold : map (λ (c : Case). utcSecond c.bytes) cases ≡ map (λ (c : Case). c.passes) cases
-unfolding utcSecond utcBytes two days when
+pub cases-hold : map (λ (c : Case). utc_second c.bytes) cases ≡ map (λ (c : Case). c.passes) cases
+unfolding utc_second utc_bytes two days when
 cases-hold = refl

@@ -11,8 +11,8 @@ unfoldable pub two : List ℕ → ℕ → ℕ
 two b i = (get_or b i 0 - 48) * 10 + (get_or b (i + 1) 0 - 48)
 
 -- figures of year, month, day, hour, minute and second
-abbrev pub allFigures : List ℕ → Bool
-allFigures b =
+abbrev pub all_figures : List ℕ → Bool
+all_figures b =
     ((figures b 0 && figures b 2) && (figures b 5 && figures b 8)) && ((figures b 11 && figures b 14) && figures b 17)
 
 -- `-` (45), `-`, `T` (84), `:` (58), `:` and `Z` (90) at their places
@@ -34,15 +34,15 @@ abbrev pub dated : ℕ → ℕ → ℕ → Bool
 dated y m d = (leb 1 m && leb m 12) && (leb 1 d && leb d (days y m))
 
 -- a time of day, with no leap second
-abbrev pub timeOfDay : ℕ → ℕ → ℕ → Bool
-timeOfDay h m s = (ltb h 24 && ltb m 60) && ltb s 60
+abbrev pub time_of_day : ℕ → ℕ → ℕ → Bool
+time_of_day h m s = (ltb h 24 && ltb m 60) && ltb s 60
 
 -- the rule for 20 bytes
-unfoldable pub utcBytes : List ℕ → Bool
-utcBytes b =
-    (marks b && allFigures b)
-    && (dated (two b 0 * 100 + two b 2) (two b 5) (two b 8) && timeOfDay (two b 11) (two b 14) (two b 17))
+unfoldable pub utc_bytes : List ℕ → Bool
+utc_bytes b =
+    (marks b && all_figures b)
+    && (dated (two b 0 * 100 + two b 2) (two b 5) (two b 8) && time_of_day (two b 11) (two b 14) (two b 17))
 
 -- the UTC rule, of any bytes
-unfoldable pub utcSecond : List ℕ → Bool
-utcSecond b = eqb (length b) 20 && utcBytes b
+unfoldable pub utc_second : List ℕ → Bool
+utc_second b = eqb (length b) 20 && utc_bytes b

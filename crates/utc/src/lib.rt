@@ -2,7 +2,7 @@
 #![tactic(auto)]
 
 ghost use Rattle.std.specs.Prelude.{◌≡◌, ◌+◌, ◌*◌, ◌-◌, ◌<◌, length};
-ghost use Rattle.utc.specs.Utc.{figures, two, allFigures, marks, leap, days, dated, timeOfDay, utcBytes, utcSecond};
+ghost use Rattle.utc.specs.Utc.{figures, two, all_figures, marks, leap, days, dated, time_of_day, utc_bytes, utc_second};
 
 // What a figure is worth; 0 for a byte below `0`, which no answer rests on.
 fn value(c: u8) -> u64
@@ -34,7 +34,7 @@ fn figures_at(b: &[u8], i: usize) -> bool
 // Whether figures stand where figures must.
 fn all_figures(b: &[u8]) -> bool
     requires { length b.now ≡ 20 }
-    ensures { result ≡ allFigures b.now }
+    ensures { result ≡ all_figures b.now }
 {
     let date = (figures_at(b, 0) & figures_at(b, 2)) & (figures_at(b, 5) & figures_at(b, 8));
     date & ((figures_at(b, 11) & figures_at(b, 14)) & figures_at(b, 17))
@@ -75,16 +75,16 @@ fn is_dated(y: u64, m: u64, d: u64) -> bool
 
 // Whether there is such a time of day.
 fn is_timed(h: u64, m: u64, s: u64) -> bool
-    ensures { result ≡ timeOfDay h m s }
+    ensures { result ≡ time_of_day h m s }
 {
     ((h < 24) & (m < 60)) & (s < 60)
 }
 
 // The rule for 20 bytes.
-#[tactic(auto, unfolding(crate::specs::Utc::utcBytes))]
+#[tactic(auto, unfolding(crate::specs::Utc::utc_bytes))]
 fn utc_bytes(b: &[u8]) -> bool
     requires { length b.now ≡ 20 }
-    ensures { result ≡ utcBytes b.now }
+    ensures { result ≡ utc_bytes b.now }
 {
     let shape = all_marks(b) & all_figures(b);
     let year = two_at(b, 0) * 100 + two_at(b, 2);
@@ -94,9 +94,9 @@ fn utc_bytes(b: &[u8]) -> bool
 }
 
 // Whether some bytes are a time of day of a date, to the second, in UTC. The Rust's is_utc_second.
-#[tactic(auto, unfolding(crate::specs::Utc::utcSecond))]
+#[tactic(auto, unfolding(crate::specs::Utc::utc_second))]
 pub fn is_utc_second(b: &[u8]) -> bool
-    ensures { result ≡ utcSecond b.now }
+    ensures { result ≡ utc_second b.now }
 {
     if b.len() != 20 {
         return false;

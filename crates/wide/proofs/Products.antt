@@ -13,27 +13,9 @@ words_product u v w t x ew et ex =
     (omega arith) (omega arith) (omega arith)
     ∙ (λ i. div-add-mod' u 4294967296 i * div-add-mod' v 4294967296 i)
 
-digits_product : (a b : ℕ) → a < 2 ^ 32 → b < 2 ^ 32 → a * b ≤ 18446744065119617025
-digits_product a b ha hb = mul-le-mul {n₁ = a} {m₁ = b} {n₂ = 4294967295} {m₂ = 4294967295} (omega arith) (omega arith)
-
 -- the four products of the digits of two words leave room for a carry
 pub record Products (u v : ℕ) : Type 0 where
   pub ll : u % 4294967296 * (v % 4294967296) ≤ 18446744065119617025
   pub lh : u % 4294967296 * (v / 4294967296) ≤ 18446744065119617025
   pub hl : u / 4294967296 * (v % 4294967296) ≤ 18446744065119617025
   pub hh : u / 4294967296 * (v / 4294967296) ≤ 18446744065119617025
-
-pub products : (u v : ℕ) → u < 2 ^ 64 → v < 2 ^ 64 → Products u v
-products u v hu hv = record {
-  ll = digits_product (u % 4294967296) (v % 4294967296) (omega arith) (omega arith);
-  lh = digits_product (u % 4294967296) (v / 4294967296) (omega arith) (omega arith);
-  hl = digits_product (u / 4294967296) (v % 4294967296) (omega arith) (omega arith);
-  hh = digits_product (u / 4294967296) (v / 4294967296) (omega arith) (omega arith);
-}
-
--- a two-word number times a word: what its upper word comes to, in any base P
-pub upper-times : (P K h l m : ℕ) → (h * P + l) * m < K * P → h * m < K
-upper-times P K h l m f = lt_of_mul-lt-mul_right P {m = h * m} {n = K} (omega arith)
-
-pub upper-sum : (P K h l m ph pl : ℕ) → ph * P + pl ≡ l * m → (h * P + l) * m < K * P → ph + h * m < K
-upper-sum P K h l m ph pl e f = lt_of_mul-lt-mul_right P {m = ph + h * m} {n = K} (omega arith)

@@ -1,20 +1,9 @@
 -- Sums and orders of two-word numbers, in any base P: omega reads no number as large as 2^128. Assumes nothing.
 use Rattle.std.proofs.Common.{◌≡◌, ℕ, suc, ◌+◌, ◌*◌, ◌%◌, ◌^◌, ◌<◌, ◌≤◌, ap, mul-le-mul_right, lt_of_mul-lt-mul_right, arith}
 
--- what the sum's upper word comes to, without and with a carry
-pub hi-fits : (P K ah al bh bl : ℕ) → (ah * P + al) + (bh * P + bl) < K * P → ah + bh < K
-hi-fits P K ah al bh bl h = lt_of_mul-lt-mul_right P {m = ah + bh} {n = K} (omega arith)
-
-pub carry-fits : (P K ah al bh bl lo : ℕ) → al + bl ≡ lo + P → (ah * P + al) + (bh * P + bl) < K * P → ah + bh + 1 < K
-carry-fits P K ah al bh bl lo e h = lt_of_mul-lt-mul_right P {m = ah + bh + 1} {n = K} (omega arith)
-
 -- the carry, found from the result
 pub carried : (al bl lo : ℕ) → al < 2 ^ 64 → bl < 2 ^ 64 → lo ≡ (al + bl) % 2 ^ 64 → lo < al → al + bl ≡ lo + 2 ^ 64
 carried al bl lo fa fb e h = omega arith
-
--- the higher upper word decides
-pub words-lt : (P ah al bh bl : ℕ) → al < P → ah < bh → ah * P + al < bh * P + bl
-words-lt P ah al bh bl f h = omega (arith, mul-le-mul_right {m = suc ah} {n = bh} P h)
 
 -- a number whose upper word is 0 is its low word, and one whose upper word is not is at least P
 pub low_word : (P hi lo : ℕ) → hi ≡ 0 → hi * P + lo ≡ lo

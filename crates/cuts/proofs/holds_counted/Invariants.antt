@@ -1,6 +1,6 @@
 use Rattle.std.proofs.Common.{◌≡◌, ◌-◌, ◌≤◌, leb, length}
 use Rattle.rows.specs.Lent.{rows}
-use Rattle.cuts.specs.Answers.{rangeAt, rangesOf, cuts_of, concat}
+use Rattle.cuts.specs.Answers.{range_at, ranges_of, cuts_of, concat}
 use Rattle.cuts.proofs.Rows.{rest}
 use Rattle.cuts.proofs.holds_counted.Given as goal
 
@@ -9,8 +9,8 @@ invariant-loop-k l =
     record {
       within : l.k ≤ l.n;
       same :
-          leb (length (rest (rows l.u l.s) (rangeAt l.ranges) l.k l.n)) l.left
-          ≡ leb (length (concat (cuts_of (rows l.u l.s) (rangesOf l.ranges)))) l.room;
+          leb (length (rest (rows l.u l.s) (range_at l.ranges) l.k l.n)) l.left
+          ≡ leb (length (concat (cuts_of (rows l.u l.s) (ranges_of l.ranges)))) l.room;
     }
 
 abbrev pub decreases-loop-k : goal.decreases-loop-k

@@ -1,13 +1,13 @@
 use Rattle.std.proofs.Common.{◌≡◌, ◌-◌, ◌≤◌}
-use Rattle.choice.specs.Records.{run, firstRefused}
-use Rattle.cuts.specs.Answers.{rangeAt, rangeRefusal, rangesRefusal}
+use Rattle.choice.specs.Records.{run, first_refused}
+use Rattle.cuts.specs.Answers.{range_at, range_refusal, ranges_refusal}
 use Rattle.cuts.proofs.refuse_ranges.Given as goal
 
 abbrev pub invariant-loop-k : goal.invariant-loop-k
 invariant-loop-k l =
     record {
       within : l.k ≤ l.n;
-      left : firstRefused (rangeRefusal l.t) l.k (run (rangeAt l.ranges) l.k (l.n - l.k)) ≡ rangesRefusal l.t l.ranges;
+      left : first_refused (range_refusal l.t) l.k (run (range_at l.ranges) l.k (l.n - l.k)) ≡ ranges_refusal l.t l.ranges;
     }
 
 abbrev pub decreases-loop-k : goal.decreases-loop-k

@@ -1,7 +1,7 @@
 use Rattle.std.proofs.Common.{◌^◌, pos, ap, ◌∙◌, le_of_lt, lit<, lit≤, arith, rules}
 use Rattle.signed.proofs.Bits.{reads, fits-of}
 use Rattle.wide.proofs.Rooms.{lt-eq, mul-room}
-use Rattle.ticks.specs.Ticks.{endsNear}
+use Rattle.ticks.specs.Ticks.{ends_near}
 use Rattle.ticks.proofs.Microseconds.{big-is, big-small}
 use Rattle.judge.specs.Video.{Shown}
 use Rattle.judge.proofs.Lent.{shown-nothing, shown-constant, shown-times, rates-fit, scale-fits}
@@ -20,8 +20,8 @@ ends_near-requires-in-Times c =
     (big-small c.in-Times.end c.big_of.result (fits-of (search rules)) c.big_of.ensures, scale-fits _ c.in-Times.is c.requires)
 
 pub returns-in-Nothing : goal.returns-in-Nothing
-unfolding endsNear
-returns-in-Nothing c = ap (λ (v : Shown). endsNear c.args.us v.end v.nominal v.scale) (shown-nothing _ c.in-Nothing.is)
+unfolding ends_near
+returns-in-Nothing c = ap (λ (v : Shown). ends_near c.args.us v.end v.nominal v.scale) (shown-nothing _ c.in-Nothing.is)
 
 pub returns-in-Constant : goal.returns-in-Constant
 returns-in-Constant c =
@@ -29,12 +29,12 @@ returns-in-Constant c =
     let r = rates-fit _ v.is c.requires in
     let d = reads (fits-of {z = pos v.den} (omega arith)) in
     c.ends_near.ensures
-    ∙ (λ i. endsNear (reads c.ranges.us i) (pos (c.product-mag.ensures i)) (d i) v.num)
-    ∙ ap (λ (x : Shown). endsNear c.args.us x.end x.nominal x.scale) (shown-constant _ v.is)
+    ∙ (λ i. ends_near (reads c.ranges.us i) (pos (c.product-mag.ensures i)) (d i) v.num)
+    ∙ ap (λ (x : Shown). ends_near c.args.us x.end x.nominal x.scale) (shown-constant _ v.is)
 
 pub returns-in-Times : goal.returns-in-Times
 returns-in-Times c =
     let v = c.in-Times in
     c.ends_near-in-Times.ensures
-    ∙ (λ i. endsNear (reads c.ranges.us i) (big-is v.end c.big_of.result (fits-of (search rules)) c.big_of.ensures i) (reads (fits-of {z = v.nominal} (search rules)) i) v.scale)
-    ∙ ap (λ (x : Shown). endsNear c.args.us x.end x.nominal x.scale) (shown-times _ v.is)
+    ∙ (λ i. ends_near (reads c.ranges.us i) (big-is v.end c.big_of.result (fits-of (search rules)) c.big_of.ensures i) (reads (fits-of {z = v.nominal} (search rules)) i) v.scale)
+    ∙ ap (λ (x : Shown). ends_near c.args.us x.end x.nominal x.scale) (shown-times _ v.is)

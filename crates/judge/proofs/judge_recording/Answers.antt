@@ -1,5 +1,5 @@
 use Rattle.table.specs.Layout.{table_of}
-use Rattle.judge.specs.Judge.{checkMcraw}
+use Rattle.judge.specs.Judge.{check_mcraw}
 use Rattle.judge.proofs.Chains.{check-refuses, rest-refuses, rest-accepts}
 use Rattle.judge.proofs.Ready.{ready, source-there}
 use Rattle.judge.proofs.judge_recording.Goals as goal
@@ -10,17 +10,17 @@ recording_refusal-requires c =
     (ready a.sources.now a.u.now a.t.now a.log a.text.now c.check.ensures c.in-Frames.is, source-there a.sources.now a.u.now a.t.now a.log a.text.now c.check.ensures c.in-Frames.is)
 
 pub returns-in-Refused : goal.returns-in-Refused
-unfolding checkMcraw
+unfolding check_mcraw
 returns-in-Refused c = let a = c.args in check-refuses (table_of a.sources.now a.u.now a.t.now a.log a.text.now) c.check.ensures _ c.in-Refused.is
 
 pub returns-in-At : goal.returns-in-At
-unfolding checkMcraw table_of
+unfolding check_mcraw table_of
 returns-in-At c =
     let a = c.args in
     rest-refuses (table_of a.sources.now a.u.now a.t.now a.log a.text.now) c.check.ensures c.in-Frames.is c.recording_refusal.ensures c.in-At.is
 
 pub returns-in-Never : goal.returns-in-Never
-unfolding checkMcraw table_of
+unfolding check_mcraw table_of
 returns-in-Never c =
     let a = c.args in
     rest-accepts (table_of a.sources.now a.u.now a.t.now a.log a.text.now) c.check.ensures c.in-Frames.is c.recording_refusal.ensures c.in-Never.is

@@ -4,10 +4,10 @@ use Rattle.choice.specs.declared.Refusal.{Refusal}
 use Rattle.choice.specs.declared.Refusal.TheVariants.{Never, At}
 use Rattle.signed.specs.Steps.{I64}
 use Rattle.signed.proofs.Bits.{reads, fits-of}
-use Rattle.ticks.specs.Ticks.{endsNear}
-use Rattle.rules.specs.Records.{Segment, outEndUs}
-use Rattle.table.specs.Layout.{segmentsOf}
-use Rattle.judge.specs.Video.{shownBy}
+use Rattle.ticks.specs.Ticks.{ends_near}
+use Rattle.rules.specs.Records.{Segment, out_end_us}
+use Rattle.table.specs.Layout.{segments_of}
+use Rattle.judge.specs.Video.{shown_by}
 use Rattle.judge.proofs.Lent.{last-lent}
 use Rattle.judge.proofs.Chains.{no-video, over-limit, other-count, wrong_start, far, fits}
 use Rattle.judge.proofs.video_refusal.Goals as goal
@@ -20,33 +20,33 @@ never_of (At n i) h = absurd (h n i refl)
 pub returns-then-not-is_given : goal.returns-then-not-is_given
 returns-then-not-is_given c =
     let a = c.args in
-    let all = segmentsOf a.u.now a.t.now in
-    let v = shownBy a.video a.starts.now in
+    let all = segments_of a.u.now a.t.now in
+    let v = shown_by a.video a.starts.now in
     no-video all v (sym (c.is_given.ensures a.starts.now) ∙ c.if-not-is_given.true)
 
 pub returns-then-is_over : goal.returns-then-is_over
 returns-then-is_over c =
     let a = c.args in
-    let all = segmentsOf a.u.now a.t.now in
-    let v = shownBy a.video a.starts.now in
+    let all = segments_of a.u.now a.t.now in
+    let v = shown_by a.video a.starts.now in
     let given = sym (c.is_given.ensures a.starts.now) ∙ c.if-not-is_given.false in
     over-limit all v given (sym c.is_over.ensures ∙ c.if-is_over.true)
 
 pub returns-then-n-frame_count : goal.returns-then-n-frame_count
 returns-then-n-frame_count c =
     let a = c.args in
-    let all = segmentsOf a.u.now a.t.now in
-    let v = shownBy a.video a.starts.now in
+    let all = segments_of a.u.now a.t.now in
+    let v = shown_by a.video a.starts.now in
     let given = sym (c.is_given.ensures a.starts.now) ∙ c.if-not-is_given.false in
     let within = sym c.is_over.ensures ∙ c.if-is_over.false in
     other-count all v given within (λ e. c.if-n-frame_count.true (sym c.requires.frames ∙ e ∙ sym c.frame_count.ensures))
 
 pub returns-in-At : goal.returns-in-At
-unfolding segmentsOf
+unfolding segments_of
 returns-in-At c =
     let a = c.args in
-    let all = segmentsOf a.u.now a.t.now in
-    let v = shownBy a.video a.starts.now in
+    let all = segments_of a.u.now a.t.now in
+    let v = shown_by a.video a.starts.now in
     let given = sym (c.is_given.ensures a.starts.now) ∙ c.if-not-is_given.false in
     let within = sym c.is_over.ensures ∙ c.if-is_over.false in
     let counted = c.requires.frames ∙ c.if-n-frame_count.false ∙ c.frame_count.ensures in
@@ -55,17 +55,17 @@ returns-in-At c =
 pub end_us_at-requires : goal.end_us_at-requires
 end_us_at-requires c =
     let p = c.requires in
-    (omega arith, subst (λ (e : Segment). I64 (outEndUs e)) (last-lent c.args.u.now c.args.t.now p.some) p.end)
+    (omega arith, subst (λ (e : Segment). I64 (out_end_us e)) (last-lent c.args.u.now c.args.t.now p.some) p.end)
 
 pub returns-then-not-is_near : goal.returns-then-not-is_near
-unfolding segmentsOf
+unfolding segments_of
 returns-then-not-is_near c =
     let a = c.args in
-    let all = segmentsOf a.u.now a.t.now in
-    let v = shownBy a.video a.starts.now in
+    let all = segments_of a.u.now a.t.now in
+    let v = shown_by a.video a.starts.now in
     let l = c.end_us_at in
-    let end = reads (fits-of {z = l.result} l.type_inv) ∙ l.ensures ∙ sym (ap outEndUs (last-lent a.u.now a.t.now c.requires.some)) in
-    let near = c.is_near.ensures ∙ ap (λ z. endsNear z v.end v.nominal v.scale) end in
+    let end = reads (fits-of {z = l.result} l.type_inv) ∙ l.ensures ∙ sym (ap out_end_us (last-lent a.u.now a.t.now c.requires.some)) in
+    let near = c.is_near.ensures ∙ ap (λ z. ends_near z v.end v.nominal v.scale) end in
     let given = sym (c.is_given.ensures a.starts.now) ∙ c.if-not-is_given.false in
     let within = sym c.is_over.ensures ∙ c.if-is_over.false in
     let counted = c.requires.frames ∙ c.if-n-frame_count.false ∙ c.frame_count.ensures in
@@ -73,14 +73,14 @@ returns-then-not-is_near c =
     far all v given within counted never (sym near ∙ c.if-not-is_near.true)
 
 pub returns : goal.returns
-unfolding segmentsOf
+unfolding segments_of
 returns c =
     let a = c.args in
-    let all = segmentsOf a.u.now a.t.now in
-    let v = shownBy a.video a.starts.now in
+    let all = segments_of a.u.now a.t.now in
+    let v = shown_by a.video a.starts.now in
     let l = c.end_us_at in
-    let end = reads (fits-of {z = l.result} l.type_inv) ∙ l.ensures ∙ sym (ap outEndUs (last-lent a.u.now a.t.now c.requires.some)) in
-    let near = c.is_near.ensures ∙ ap (λ z. endsNear z v.end v.nominal v.scale) end in
+    let end = reads (fits-of {z = l.result} l.type_inv) ∙ l.ensures ∙ sym (ap out_end_us (last-lent a.u.now a.t.now c.requires.some)) in
+    let near = c.is_near.ensures ∙ ap (λ z. ends_near z v.end v.nominal v.scale) end in
     let given = sym (c.is_given.ensures a.starts.now) ∙ c.if-not-is_given.false in
     let within = sym c.is_over.ensures ∙ c.if-is_over.false in
     let counted = c.requires.frames ∙ c.if-n-frame_count.false ∙ c.frame_count.ensures in

@@ -1,5 +1,5 @@
 use Rattle.std.proofs.Common.{length, sym, ap, arith}
-use Rattle.rows.specs.Lent.{rowAt}
+use Rattle.rows.specs.Lent.{row_at}
 use Rattle.maps.proofs.Spans.{row-source}
 use Rattle.maps.proofs.Written.{merge-start, merge-glues, merge-parts, merge-end, glue-fits}
 use Rattle.maps.proofs.count_merge.Goals as goal
@@ -44,7 +44,7 @@ loop-i-preserved c =
             arith,
             l.invariant.left,
             ap length
-                (merge-parts (rowAt c.args.u.now c.args.s.now) l.i (length c.args.s.now) l.c r e c.loop-i-test.true (sym c.if-runs_on.ensures)),
+                (merge-parts (row_at c.args.u.now c.args.s.now) l.i (length c.args.s.now) l.c r e c.loop-i-test.true (sym c.if-runs_on.ensures)),
           );
     }
 
@@ -53,5 +53,5 @@ returns c =
     omega (
       arith,
       c.loop-i.invariant.left,
-      ap length (merge-end (rowAt c.args.u.now c.args.s.now) c.loop-i.i (length c.args.s.now) c.loop-i.c c.loop-i-test.false),
+      ap length (merge-end (row_at c.args.u.now c.args.s.now) c.loop-i.i (length c.args.s.now) c.loop-i.c c.loop-i-test.false),
     )

@@ -1,8 +1,8 @@
 use Rattle.std.proofs.Common.{◌≡◌, ◌+◌, ◌-◌, ◌<◌, ◌≤◌, length}
 use Rattle.choice.specs.Records.{run}
-use Rattle.choice.specs.Choice.{maxU64}
-use Rattle.rows.specs.Rows.{merge, mergeInto}
-use Rattle.rows.specs.Lent.{rowAt, rows}
+use Rattle.choice.specs.Choice.{max_u64}
+use Rattle.rows.specs.Rows.{merge, merge_into}
+use Rattle.rows.specs.Lent.{row_at, rows}
 use Rattle.maps.proofs.count_merge.Given as goal
 
 abbrev pub invariant-loop-i : goal.invariant-loop-i
@@ -10,8 +10,8 @@ invariant-loop-i l =
     record {
       within : l.i ≤ length l.s;
       fewer : l.w < l.i;
-      fits : l.c.first + l.c.count ≤ maxU64;
-      left : l.w + length (mergeInto l.c (run (rowAt l.u l.s) l.i (length l.s - l.i))) ≡ length (merge (rows l.u l.s));
+      fits : l.c.first + l.c.count ≤ max_u64;
+      left : l.w + length (merge_into l.c (run (row_at l.u l.s) l.i (length l.s - l.i))) ≡ length (merge (rows l.u l.s));
     }
 
 abbrev pub decreases-loop-i : goal.decreases-loop-i

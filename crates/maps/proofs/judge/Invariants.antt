@@ -1,8 +1,8 @@
 use Rattle.std.proofs.Common.{◌≡◌, ◌+◌, ◌-◌, ◌≤◌, length}
 use Rattle.choice.specs.Records.{run}
 use Rattle.rows.specs.Rows.{total}
-use Rattle.rows.specs.Lent.{rowAt, rows}
-use Rattle.maps.specs.Answers.{firstBad}
+use Rattle.rows.specs.Lent.{row_at, rows}
+use Rattle.maps.specs.Answers.{first_bad}
 use Rattle.maps.specs.Steps.{counted}
 use Rattle.maps.proofs.judge.Given as goal
 
@@ -11,8 +11,8 @@ invariant-loop-i l =
     record {
       within : l.i ≤ length l.s;
       left :
-          counted (firstBad l.p l.i (run (rowAt l.u l.s) l.i (length l.s - l.i))) (l.p + total (run (rowAt l.u l.s) l.i (length l.s - l.i)))
-          ≡ counted (firstBad 0 0 (rows l.u l.s)) (total (rows l.u l.s));
+          counted (first_bad l.p l.i (run (row_at l.u l.s) l.i (length l.s - l.i))) (l.p + total (run (row_at l.u l.s) l.i (length l.s - l.i)))
+          ≡ counted (first_bad 0 0 (rows l.u l.s)) (total (rows l.u l.s));
     }
 
 abbrev pub decreases-loop-i : goal.decreases-loop-i

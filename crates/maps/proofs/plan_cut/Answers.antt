@@ -1,5 +1,5 @@
 use Rattle.std.proofs.Common.{ℕ, sym, ap, ◌∙◌, arith}
-use Rattle.maps.specs.Answers.{roomRefusal}
+use Rattle.maps.specs.Answers.{room_refusal}
 use Rattle.maps.proofs.Chains.{counted-map, counted-refused, sound, room-on, room-off, cut-malformed, cut-rows-in, cut-empty, cut-beyond, cut-room}
 use Rattle.maps.proofs.Spans.{span-length}
 use Rattle.maps.proofs.plan_cut.Goals as goal
@@ -28,7 +28,7 @@ pub returns-then-not-has_room : goal.returns-then-not-has_room
 returns-then-not-has_room c =
     let m = counted-map c.args.u.now c.args.s.now c.in-Are.ensures in
     cut-room _ _ _ _ _ _ m.0 c.if-s-gt-MOST_ROWS.false c.if-b-a.false (omega arith)
-    ∙ ap (λ (k : ℕ). roomRefusal k c.args.nu c.args.ns) (span-length c.part_of-part.ensures)
+    ∙ ap (λ (k : ℕ). room_refusal k c.args.nu c.args.ns) (span-length c.part_of-part.ensures)
     ∙ room-on _ _ _ (sym c.if-not-has_room.ensures)
 
 pub returns-in-Refused : goal.returns-in-Refused
@@ -38,7 +38,7 @@ pub returns-else-not-has_room : goal.returns-else-not-has_room
 returns-else-not-has_room c =
     let m = counted-map c.args.u.now c.args.s.now c.in-Are.ensures in (
       cut-room _ _ _ _ _ _ m.0 c.if-s-gt-MOST_ROWS.false c.if-b-a.false (omega arith)
-          ∙ ap (λ (k : ℕ). roomRefusal k c.args.nu c.args.ns) (span-length c.part_of-part.ensures)
+          ∙ ap (λ (k : ℕ). room_refusal k c.args.nu c.args.ns) (span-length c.part_of-part.ensures)
           ∙ room-off _ _ _ (sym c.if-not-has_room.ensures),
       c.part_of-part.ensures,
     )

@@ -1,5 +1,5 @@
 use Rattle.std.proofs.Common.{ℕ, sym, ap, ◌∙◌}
-use Rattle.maps.specs.Answers.{roomRefusal}
+use Rattle.maps.specs.Answers.{room_refusal}
 use Rattle.maps.proofs.Chains.{counted-map, counted-refused, sound, room-on, room-off, merge-malformed, merge-rows-in, merge-room, merge-roomy}
 use Rattle.maps.proofs.refuse_merge.Goals as goal
 
@@ -23,7 +23,7 @@ returns-then-has_room-2 c =
     let m = counted-map c.args.u.now c.args.s.now c.in-Are.ensures in
     sym
     (merge-room _ _ _ _ m.0 c.if-s-gt-MOST_ROWS.false
-    ∙ ap (λ (k : ℕ). roomRefusal k c.args.nu c.args.ns) (sym c.count_merge.ensures)
+    ∙ ap (λ (k : ℕ). room_refusal k c.args.nu c.args.ns) (sym c.count_merge.ensures)
     ∙ room-off _ _ _ (sym c.if-has_room-2.ensures))
 
 pub returns-in-Refused : goal.returns-in-Refused
@@ -34,5 +34,5 @@ returns-else-has_room-2 c =
     let m = counted-map c.args.u.now c.args.s.now c.in-Are.ensures in
     sym
     (merge-room _ _ _ _ m.0 c.if-s-gt-MOST_ROWS.false
-    ∙ ap (λ (k : ℕ). roomRefusal k c.args.nu c.args.ns) (sym c.count_merge.ensures)
+    ∙ ap (λ (k : ℕ). room_refusal k c.args.nu c.args.ns) (sym c.count_merge.ensures)
     ∙ room-on _ _ _ (sym c.if-has_room-2.ensures))

@@ -1,7 +1,7 @@
 use Rattle.std.proofs.Common.{◌+◌, ◌-◌, ◌≤◌}
 use Rattle.choice.specs.Records.{run}
 use Rattle.rows.specs.Rows.{clip, cut}
-use Rattle.rows.specs.Lent.{rowAt, rows}
+use Rattle.rows.specs.Lent.{row_at, rows}
 use Rattle.maps.proofs.Written.{Written}
 use Rattle.maps.proofs.write_cut.Given as goal
 
@@ -9,7 +9,7 @@ abbrev pub invariant-loop-w : goal.invariant-loop-w
 invariant-loop-w l =
     record {
       within : l.w ≤ l.k;
-      written : Written (cut l.a l.b (rows l.u l.s)) (run (λ j. clip l.a l.b (rowAt l.u l.s (l.i + j))) l.w (l.k - l.w)) l.fn.ou l.fn.os l.ou l.os l.w;
+      written : Written (cut l.a l.b (rows l.u l.s)) (run (λ j. clip l.a l.b (row_at l.u l.s (l.i + j))) l.w (l.k - l.w)) l.fn.ou l.fn.os l.ou l.os l.w;
     }
 
 abbrev pub decreases-loop-w : goal.decreases-loop-w

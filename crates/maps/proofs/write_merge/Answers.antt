@@ -1,5 +1,5 @@
 use Rattle.std.proofs.Common.{refl, sym, arith}
-use Rattle.rows.specs.Lent.{rowAt}
+use Rattle.rows.specs.Lent.{row_at}
 use Rattle.maps.proofs.Spans.{row-source}
 use Rattle.maps.proofs.Written.{written_none, written_all, rows_all, put-room, put_step, merge-start, merge-glues, merge-parts, merge-end, glue-fits}
 use Rattle.maps.proofs.write_merge.Goals as goal
@@ -59,7 +59,7 @@ pub returns : goal.returns
 returns c =
     let l = c.loop-i in
     let w =
-    put_step c.requires.1 l.invariant.written (merge-end (rowAt c.args.u.now c.args.s.now) l.i _ l.c c.loop-i-test.false) l.c _ _ refl c.put_row-2.ensures.0
+    put_step c.requires.1 l.invariant.written (merge-end (row_at c.args.u.now c.args.s.now) l.i _ l.c c.loop-i-test.false) l.c _ _ refl c.put_row-2.ensures.0
     c.put_row-2.ensures.1 in
     let a = written_all w refl in
     (omega (arith, rows_all c.requires.1 w), a.0, a.1)

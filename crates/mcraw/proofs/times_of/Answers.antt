@@ -4,10 +4,10 @@ use borrow.Author.Tests.{ltb-false}
 use lib.Dec.{ltb}
 use Rattle.choice.specs.declared.Refusal.TheVariants.{Never}
 use Rattle.choice.proofs.Tests.{or-false}
-use Rattle.signed.specs.Signed.{isOutside}
+use Rattle.signed.specs.Signed.{is_outside}
 use Rattle.signed.proofs.Bits.{back}
 use Rattle.mcraw.specs.declared.RecordingTimes.TheVariants.{Timed}
-use Rattle.mcraw.specs.Mcraw.{mostTimestamps, nanoseconds, span, end, fallOf}
+use Rattle.mcraw.specs.Mcraw.{most_timestamps, nanoseconds, span, end, fall_of}
 use Rattle.mcraw.proofs.Gaps.{no-fall}
 use Rattle.mcraw.proofs.Spans.{gaps-fit}
 use Rattle.mcraw.proofs.Holds.{inside, stands, span-held, span-lost, end-held, end-lost}
@@ -15,7 +15,7 @@ use Rattle.mcraw.proofs.Answers.{Passed, many, none, fell, far, tight, still, la
 use Rattle.mcraw.proofs.times_of.Goals as goal
 
 -- past the test of the room
-passed : (ts : List ℤ) (s w : ℕ) → length ts ≤ mostTimestamps → 2 ≤ length ts → fallOf ts ≡ Never → isOutside (span ts) ≡ false
+passed : (ts : List ℤ) (s w : ℕ) → length ts ≤ most_timestamps → 2 ≤ length ts → fall_of ts ≡ Never → is_outside (span ts) ≡ false
     → ltb s (length ts) || ltb w (length ts) ≡ false → Passed ts s w
 passed ts s w few two rise near room =
     let o = or-false (ltb s (length ts)) (ltb w (length ts)) room in
@@ -51,7 +51,7 @@ returns-then-room-n c =
     tight ts c.args.room (length c.args.work.now) (omega arith) (omega arith) (sym c.in_default.ensures) sp.0 c.if-room-n.true
 
 pub middle_interval-nominal-requires : goal.middle_interval-nominal-requires
-unfolding fallOf
+unfolding fall_of
 middle_interval-nominal-requires c =
     let ts = c.args.ts.now in
     let sp = span-held ts c.difference.result c.in-Is.span (omega arith) (omega arith) c.difference.ensures c.in-Is.is in

@@ -1,7 +1,7 @@
 use Rattle.std.proofs.Common.{◌<◌, length, get_or, set, pos, ◌-ℤ◌, arith, sym, ap, ◌∙◌}
 use Rattle.signed.proofs.Bits.{back}
 use Rattle.slices.proofs.Lists.{copy_more, copy-all}
-use Rattle.mcraw.specs.Mcraw.{startsOf}
+use Rattle.mcraw.specs.Mcraw.{starts_of}
 use Rattle.mcraw.proofs.Spans.{length-starts, start-at, start_fits}
 use Rattle.mcraw.proofs.write_starts.Goals as goal
 
@@ -22,12 +22,12 @@ loop-i-preserved c =
     rw (back x (omega arith), back f (omega arith), back (x -ℤ f) (start_fits ts l.i inside c.requires.1)) (
       omega arith,
       ap (set l.starts l.i) (sym (start-at ts l.i inside))
-          ∙ ap (λ t. set t l.i (get_or (startsOf ts) l.i (pos 0))) l.invariant.1
-          ∙ copy_more (startsOf ts) c.args.starts.now l.i (pos 0) (omega (arith, length-starts ts)) (omega arith),
+          ∙ ap (λ t. set t l.i (get_or (starts_of ts) l.i (pos 0))) l.invariant.1
+          ∙ copy_more (starts_of ts) c.args.starts.now l.i (pos 0) (omega (arith, length-starts ts)) (omega arith),
     )
 
 pub returns : goal.returns
 returns c =
     let l = c.loop-i in
     let ts = c.args.ts.now in
-    l.invariant.1 ∙ copy-all (startsOf ts) c.args.starts.now l.i (omega (arith, length-starts ts))
+    l.invariant.1 ∙ copy-all (starts_of ts) c.args.starts.now l.i (omega (arith, length-starts ts))

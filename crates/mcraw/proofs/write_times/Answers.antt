@@ -1,13 +1,13 @@
 use Rattle.std.proofs.Common.{List, ℤ, length, sym, ap, ◌∙◌}
 use Rattle.slices.specs.Slices.{laid}
-use Rattle.mcraw.specs.Mcraw.{fallOf}
+use Rattle.mcraw.specs.Mcraw.{fall_of}
 use Rattle.mcraw.proofs.Gaps.{no-fall}
 use Rattle.mcraw.proofs.Spans.{starts_fit}
 use Rattle.mcraw.proofs.Answers.{accepted, wrote, wrote_none}
 use Rattle.mcraw.proofs.write_times.Goals as goal
 
 pub write_starts-requires : goal.write_starts-requires
-unfolding fallOf
+unfolding fall_of
 write_starts-requires c =
     let ts = c.args.ts.now in
     let r = c.in-Timed in

@@ -1,10 +1,10 @@
 use Rattle.std.proofs.Common.{arith}
 use Rattle.signed.proofs.Bits.{back}
-use Rattle.rules.specs.Rules.{stampTimes}
+use Rattle.rules.specs.Rules.{stamp_times}
 use Rattle.records.proofs.times_of.Goals as goal
 
 pub returns : goal.returns
-unfolding stampTimes
+unfolding stamp_times
 returns c =
     let r = c.args.r in
     simp (

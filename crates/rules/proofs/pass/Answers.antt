@@ -1,8 +1,8 @@
 use Rattle.std.proofs.Common.{◌≡◌, refl, Bool, false, ◌||◌, ℤ, pos, arith, sym, ◌∙◌}
 use Rattle.choice.proofs.Tests.{called, tf}
 use Rattle.signed.proofs.Bits.{read, reads}
-use Rattle.rules.specs.Rules.{negative, stampTimes}
-use Rattle.rules.specs.Steps.{outOfTime, sevenStamps}
+use Rattle.rules.specs.Rules.{negative, stamp_times}
+use Rattle.rules.specs.Steps.{out_of_time, seven_stamps}
 use Rattle.rules.proofs.Signs.{Plain, plain}
 use Rattle.rules.proofs.Fine.{frames-fit, passes, stops}
 use Rattle.rules.proofs.pass.Goals as goal
@@ -11,32 +11,32 @@ use borrow.Author.Tests.{not-false, not-true}
 pub returns-then-not-fine_frames : goal.returns-then-not-fine_frames
 returns-then-not-fine_frames c =
     let a = c.args in
-    let e = sevenStamps a.srcstart a.outstart a.duration a.srccap a.outcap a.capdur a.shift in
+    let e = seven_stamps a.srcstart a.outstart a.duration a.srccap a.outcap a.capdur a.shift in
     stops a.s a.prev a.w e c.no_end.ensures (λ g z. tf (sym (c.fine_frames.ensures.1 z.frames) ∙ c.if-not-fine_frames.true))
 
 pub returns-then-not-fine_shift : goal.returns-then-not-fine_shift
-unfolding stampTimes
+unfolding stamp_times
 returns-then-not-fine_shift c =
     let a = c.args in
-    let e = sevenStamps a.srcstart a.outstart a.duration a.srccap a.outcap a.capdur a.shift in
+    let e = seven_stamps a.srcstart a.outstart a.duration a.srccap a.outcap a.capdur a.shift in
     stops a.s a.prev a.w e c.no_end-then-not-fine_shift.ensures
     (λ g z. tf (sym ((rw (reads c.ranges.shift) at c.fine_shift.ensures.1) (record { flagged = g; within = z.shift })) ∙ c.if-not-fine_shift.true))
 
 pub returns-then-any_negative : goal.returns-then-any_negative
-unfolding stampTimes
+unfolding stamp_times
 returns-then-any_negative c =
     let a = c.args in
     let f = c.ranges in
-    let e = sevenStamps a.srcstart a.outstart a.duration a.srccap a.outcap a.capdur a.shift in
+    let e = seven_stamps a.srcstart a.outstart a.duration a.srccap a.outcap a.capdur a.shift in
     stops a.s a.prev a.w e c.no_end-then-any_negative.ensures
     (λ g z. tf (sym (rw (reads f.srcstart, reads f.outstart, reads f.duration, reads f.srccap, reads f.outcap, reads f.capdur) at (called c.any_negative.ensures c.if-any_negative.true)) ∙ z.positive))
 
 pub returns-then-not-fine_times : goal.returns-then-not-fine_times
-unfolding stampTimes
+unfolding stamp_times
 returns-then-not-fine_times c =
     let a = c.args in
     let f = c.ranges in
-    let e = sevenStamps a.srcstart a.outstart a.duration a.srccap a.outcap a.capdur a.shift in
+    let e = seven_stamps a.srcstart a.outstart a.duration a.srccap a.outcap a.capdur a.shift in
     let ea = rw (reads f.srcstart) at c.plain.ensures.0 in
     let eb = rw (reads f.outstart) at c.plain-b.ensures.0 in
     let ec = rw (reads f.duration) at c.plain-c.ensures.0 in
@@ -44,13 +44,13 @@ returns-then-not-fine_times c =
     let ef = rw (reads f.outcap) at c.plain-e.ensures.0 in
     let eg = rw (reads f.capdur) at c.plain-f.ensures.0 in
     stops a.s a.prev a.w e c.no_end-then-not-fine_times.ensures
-    (λ g z. tf (sym (not-false _ (called c.fine_times.ensures c.if-not-fine_times.true)) ∙ (λ i. outOfTime a.prev (ea i) (eb i) (ec i) (ed i) (ef i) (eg i)) ∙ z.times))
+    (λ g z. tf (sym (not-false _ (called c.fine_times.ensures c.if-not-fine_times.true)) ∙ (λ i. out_of_time a.prev (ea i) (eb i) (ec i) (ed i) (ef i) (eg i)) ∙ z.times))
 
 -- none of six times is negative as it is read back: each isn't
 six : {r : Bool} (a b c d e f : ℤ) → r ≡ ((negative (read a) || negative (read b)) || (negative (read c) || negative (read d))) || (negative (read e) || negative (read f)) → r ≡ false
-    → Plain (sevenStamps (read a) (read b) (read c) (read d) (read e) (read f) (pos 0))
-unfolding stampTimes
-six a b c d e f h n = plain (sevenStamps (read a) (read b) (read c) (read d) (read e) (read f) (pos 0)) (called h n)
+    → Plain (seven_stamps (read a) (read b) (read c) (read d) (read e) (read f) (pos 0))
+unfolding stamp_times
+six a b c d e f h n = plain (seven_stamps (read a) (read b) (read c) (read d) (read e) (read f) (pos 0)) (called h n)
 
 pub plain-b-requires : goal.plain-b-requires
 plain-b-requires c =
@@ -86,12 +86,12 @@ pub overflow_add-result : goal.overflow_add-result
 overflow_add-result c = omega (arith, frames-fit (c.fine_frames.ensures.0 c.if-not-fine_frames.false))
 
 pub returns : goal.returns
-unfolding stampTimes
+unfolding stamp_times
 returns c =
     let a = c.args in
     let f = c.ranges in
-    let e = sevenStamps a.srcstart a.outstart a.duration a.srccap a.outcap a.capdur a.shift in
-    let n : (stampTimes e).negative ≡ false = rw (reads f.srcstart, reads f.outstart, reads f.duration, reads f.srccap, reads f.outcap, reads f.capdur) at (called c.any_negative.ensures c.if-any_negative.false) in (
+    let e = seven_stamps a.srcstart a.outstart a.duration a.srccap a.outcap a.capdur a.shift in
+    let n : (stamp_times e).negative ≡ false = rw (reads f.srcstart, reads f.outstart, reads f.duration, reads f.srccap, reads f.outcap, reads f.capdur) at (called c.any_negative.ensures c.if-any_negative.false) in (
       λ _. passes a.s a.prev a.w e _ (c.fine_frames.ensures.0 c.if-not-fine_frames.false)
           (rw (reads f.shift) at (c.fine_shift.ensures.0 c.if-not-fine_shift.false)) n
           (rw (reads f.srcstart) at c.plain.ensures.0) (rw (reads f.outstart) at c.plain-b.ensures.0) (rw (reads f.duration) at c.plain-c.ensures.0)

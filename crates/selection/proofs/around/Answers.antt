@@ -1,6 +1,6 @@
 use Rattle.std.proofs.Common.{◌≡◌, ℤ, pos, ◌+ℤ◌, ◌-ℤ◌, ap, ◌∙◌}
 use Rattle.signed.proofs.Bits.{back}
-use Rattle.order.specs.Steps.{countLe, countLt}
+use Rattle.order.specs.Steps.{count_le, count_lt}
 use Rattle.selection.proofs.Selecting.{previous, holds-below, following, holds-above}
 use Rattle.selection.proofs.around.Goals as goal
 
@@ -10,7 +10,7 @@ overflow_sub-result c =
     let a = c.args.a in
     let r = c.between-r in
     let least = c.least-lo in
-    let n-is : r.result.below ≡ countLt a xs = r.ensures.0.below-is ∙ ap (λ (v : ℤ). countLt v xs) (r.ensures.1 ∙ back a c.ranges.a.sfits) in
+    let n-is : r.result.below ≡ count_lt a xs = r.ensures.0.below-is ∙ ap (λ (v : ℤ). count_lt v xs) (r.ensures.1 ∙ back a c.ranges.a.sfits) in
     let d = previous xs c.args.k a c.ranges.a.sfits least.result least.type_inv least.ensures r.result.below n-is c.if-k-r.true in
     rw (back a c.ranges.a.sfits) (record { sfits = d.inside })
 
@@ -20,7 +20,7 @@ returns-then-k-r c =
     let a = c.args.a in
     let r = c.between-r in
     let least = c.least-lo in
-    let n-is : r.result.below ≡ countLt a xs = r.ensures.0.below-is ∙ ap (λ (v : ℤ). countLt v xs) (r.ensures.1 ∙ back a c.ranges.a.sfits) in
+    let n-is : r.result.below ≡ count_lt a xs = r.ensures.0.below-is ∙ ap (λ (v : ℤ). count_lt v xs) (r.ensures.1 ∙ back a c.ranges.a.sfits) in
     let d = previous xs c.args.k a c.ranges.a.sfits least.result least.type_inv least.ensures r.result.below n-is c.if-k-r.true in
     rw (back a c.ranges.a.sfits, back least.result least.type_inv, back (a -ℤ pos 1) d.inside)
     (holds-below xs c.args.k a c.ranges.a.sfits least.result least.type_inv least.ensures r.result.below n-is c.if-k-r.true)
@@ -31,7 +31,7 @@ overflow_add-result c =
     let b = c.args.b in
     let r = c.between-r in
     let greatest = c.greatest-hi in
-    let n-is : r.result.upto ≡ countLe b xs = r.ensures.0.upto_is ∙ ap (λ (v : ℤ). countLe v xs) (r.ensures.2 ∙ back b c.ranges.b.sfits) in
+    let n-is : r.result.upto ≡ count_le b xs = r.ensures.0.upto_is ∙ ap (λ (v : ℤ). count_le v xs) (r.ensures.2 ∙ back b c.ranges.b.sfits) in
     let s = following xs c.args.k b c.ranges.b.sfits greatest.result greatest.type_inv greatest.ensures c.requires r.result.upto n-is c.if-r-k.true in
     rw (back b c.ranges.b.sfits) (record { sfits = s.inside })
 
@@ -41,7 +41,7 @@ returns-then-r-k c =
     let b = c.args.b in
     let r = c.between-r in
     let greatest = c.greatest-hi in
-    let n-is : r.result.upto ≡ countLe b xs = r.ensures.0.upto_is ∙ ap (λ (v : ℤ). countLe v xs) (r.ensures.2 ∙ back b c.ranges.b.sfits) in
+    let n-is : r.result.upto ≡ count_le b xs = r.ensures.0.upto_is ∙ ap (λ (v : ℤ). count_le v xs) (r.ensures.2 ∙ back b c.ranges.b.sfits) in
     let s = following xs c.args.k b c.ranges.b.sfits greatest.result greatest.type_inv greatest.ensures c.requires r.result.upto n-is c.if-r-k.true in
     rw (back b c.ranges.b.sfits, back greatest.result greatest.type_inv, back (b +ℤ pos 1) s.inside)
     (holds-above xs c.args.k b c.ranges.b.sfits greatest.result greatest.type_inv greatest.ensures c.requires r.result.upto n-is c.if-r-k.true)

@@ -2,7 +2,7 @@ use Rattle.std.proofs.Common.{◌≡◌, ◌++◌, get_or, take, drop, pos, ◌+
 use Rattle.std.proofs.Math.Seq.{length-take-le, length_front, take-length}
 use Rattle.std.proofs.Math.ListN.{get_or-append}
 use Rattle.signed.proofs.Bits.{back}
-use Rattle.order.specs.Steps.{countLe}
+use Rattle.order.specs.Steps.{count_le}
 use Rattle.selection.proofs.Selecting.{start, down, next, over, kept-turn, few-inside, sorted-few}
 use Rattle.selection.proofs.select.Goals as goal
 
@@ -52,7 +52,7 @@ loop-lo-preserved-then-rank-c c =
     let l = c.loop-lo in
     let v = c.middle-v in
     let e = back v.result v.type_inv in
-    let n : c.count_le-c.result ≡ countLe v.result (take l.m l.xs) = rw e at c.count_le-c.ensures in
+    let n : c.count_le-c.result ≡ count_le v.result (take l.m l.xs) = rw e at c.count_le-c.ensures in
     rw e (l.invariant.0, down l.invariant.1 v.result v.type_inv v.ensures.0 v.ensures.1 c.count_le-c.result n c.if-rank-c.true)
 
 pub loop-lo-preserved : goal.loop-lo-preserved
@@ -61,6 +61,6 @@ loop-lo-preserved c =
     let v = c.middle-v in
     let e = back v.result v.type_inv in
     let step = next l.invariant.1 v.result v.type_inv v.ensures.0 v.ensures.1 in
-    let n : c.count_le-c.result ≡ countLe v.result (take l.m l.xs) = rw e at c.count_le-c.ensures in
+    let n : c.count_le-c.result ≡ count_le v.result (take l.m l.xs) = rw e at c.count_le-c.ensures in
     rw (e, back (v.result +ℤ pos 1) step.inside)
     (l.invariant.0, over l.invariant.1 v.result v.type_inv v.ensures.0 v.ensures.1 c.count_le-c.result n c.if-rank-c.false)

@@ -1,6 +1,6 @@
 use Rattle.std.proofs.Common.{true, false, ap, ◌∙◌}
 use Rattle.slices.proofs.Parts.{from}
-use Rattle.steps.specs.Numbers.{number_in, signedAs}
+use Rattle.steps.specs.Numbers.{number_in, signed_as}
 use Rattle.steps.proofs.Parts.{integer_empty, integer-below, integer-above}
 use Rattle.steps.proofs.integer_of.Goals as goal
 
@@ -8,7 +8,7 @@ pub returns-then-l-eq0 : goal.returns-then-l-eq0
 returns-then-l-eq0 c = integer_empty _ c.if-l-eq0.true
 
 pub returns-then-l-eq45 : goal.returns-then-l-eq45
-returns-then-l-eq45 c = c.with_sign.ensures ∙ ap (signedAs true) (c.number_of.ensures ∙ ap number_in (from 1 c.args.l.now)) ∙ integer-below _ c.if-l-eq0.false c.if-l-eq45.true
+returns-then-l-eq45 c = c.with_sign.ensures ∙ ap (signed_as true) (c.number_of.ensures ∙ ap number_in (from 1 c.args.l.now)) ∙ integer-below _ c.if-l-eq0.false c.if-l-eq45.true
 
 pub returns : goal.returns
-returns c = c.with_sign-2.ensures ∙ ap (signedAs false) c.number_of-2.ensures ∙ integer-above _ c.if-l-eq0.false c.if-l-eq45.false
+returns c = c.with_sign-2.ensures ∙ ap (signed_as false) c.number_of-2.ensures ∙ integer-above _ c.if-l-eq0.false c.if-l-eq45.false

@@ -1,12 +1,12 @@
 use Rattle.std.proofs.Common.{arith}
 use Rattle.choice.proofs.Runs.{any-turn, any-hit, any-end}
 use Rattle.choice.proofs.Tests.{called}
-use Rattle.table.specs.Layout.{sourcesOf}
+use Rattle.table.specs.Layout.{sources_of}
 use Rattle.table.proofs.bad_sources.Goals as goal
 use native.Mathlib.Nat.{sub-zero}
 
 pub loop-k-init : goal.loop-k-init
-unfolding sourcesOf
+unfolding sources_of
 loop-k-init c = (omega arith, rw sub-zero)
 
 pub returns-then-bad_source_at : goal.returns-then-bad_source_at

@@ -1,12 +1,12 @@
 use Rattle.std.proofs.Common.{arith}
 use Rattle.choice.proofs.Runs.{first-turn, first-hit, first-end}
 use Rattle.choice.proofs.Tests.{called}
-use Rattle.table.specs.Layout.{sourcesOf}
+use Rattle.table.specs.Layout.{sources_of}
 use Rattle.table.proofs.first_source.Goals as goal
 use native.Mathlib.Nat.{sub-zero}
 
 pub loop-k-init : goal.loop-k-init
-unfolding sourcesOf
+unfolding sources_of
 loop-k-init c = (omega arith, rw sub-zero)
 
 pub returns-then-n-ne0 : goal.returns-then-n-ne0

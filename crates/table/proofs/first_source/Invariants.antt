@@ -1,13 +1,13 @@
 use Rattle.std.proofs.Common.{◌≡◌, ◌-◌, ◌≤◌}
-use Rattle.choice.specs.Records.{run, firstRefused}
-use Rattle.rules.specs.Rules.{sourceRefusal}
-use Rattle.table.specs.Layout.{sourceAt, sourcesOf}
+use Rattle.choice.specs.Records.{run, first_refused}
+use Rattle.rules.specs.Rules.{source_refusal}
+use Rattle.table.specs.Layout.{source_at, sources_of}
 use Rattle.table.proofs.first_source.Given as goal
 
 abbrev pub invariant-loop-k : goal.invariant-loop-k
 invariant-loop-k l =
     (l.k ≤ l.m)
-    × (firstRefused (sourceRefusal l.log l.text) l.k (run (sourceAt l.s) l.k (l.m - l.k)) ≡ firstRefused (sourceRefusal l.log l.text) 0 (sourcesOf l.s))
+    × (first_refused (source_refusal l.log l.text) l.k (run (source_at l.s) l.k (l.m - l.k)) ≡ first_refused (source_refusal l.log l.text) 0 (sources_of l.s))
 
 abbrev pub decreases-loop-k : goal.decreases-loop-k
 decreases-loop-k l = l.m - l.k

@@ -10,8 +10,8 @@ returns-in-Refused c = rows-refused _ _ _ _ _ _ _ (called c.check.ensures c.in-R
 pub returns-then-ou-n : goal.returns-then-ou-n
 returns-then-ou-n c = rows-small _ _ _ _ _ _ _ (called c.check.ensures c.in-Frames.is) c.if-ou-n.true
 
-pub copy_words-requires : goal.copy_words-requires
-copy_words-requires c =
+pub copy-requires : goal.copy-requires
+copy-requires c =
     let a = c.args in
     omega (arith, has_room (length a.u.now / 5) (length a.ou.now) (length a.os.now) c.if-ou-n.false, (lengths _ _ _ _ _ (called c.check.ensures c.in-Frames.is)).words)
 
@@ -21,4 +21,4 @@ write_shifts-requires c =
     (omega (arith, (lengths _ _ _ _ _ (called c.check.ensures c.in-Frames.is)).agree), (has_room (length a.u.now / 5) (length a.ou.now) (length a.os.now) c.if-ou-n.false).1)
 
 pub returns : goal.returns
-returns c = rows_written _ _ _ _ _ _ _ (called c.check.ensures c.in-Frames.is) c.if-ou-n.false c.copy_words.ensures c.write_shifts.ensures
+returns c = rows_written _ _ _ _ _ _ _ (called c.check.ensures c.in-Frames.is) c.if-ou-n.false c.copy.ensures c.write_shifts.ensures

@@ -7,9 +7,9 @@ use Rattle.signed.specs.Rounded.{rounded}
 use Rattle.signed.proofs.Bits.{read, reads, fits-of}
 use Rattle.wide.specs.declared.Big.{Big}
 use Rattle.wide.specs.Value.{number}
-use Rattle.ticks.specs.Steps.{bigOf}
+use Rattle.ticks.specs.Steps.{big_of}
 use Rattle.ticks.specs.declared.Us.TheVariants.{At}
-use Rattle.ticks.specs.Ticks.{microsOf}
+use Rattle.ticks.specs.Ticks.{micros_of}
 use Rattle.ticks.proofs.Microseconds.{big-is, micros-none, us-over, us-none, us-at, us-small}
 use Rattle.ticks.proofs.ticks_to_us.Goals as goal
 
@@ -26,8 +26,8 @@ returns-then-magnitude-le-SMALL_TICKS c =
     ∙ us-small a.ticks a.scale (omega arith) c.if-scale-eq0.false (c.small_micros.ensures ∙ ap (λ (z : ℤ). rounded (z *ℤ pos 1000000) a.scale) (reads c.ranges.ticks)) c.small_micros.type_inv
 
 -- what the two-word path comes to
-the_micros : (ticks : ℤ) (scale : ℕ) (b : Big) (h : Held) → SFits w64 ticks → b ≡ bigOf (read ticks) → h ≡ microsOf (number b) scale → h ≡ microsOf ticks scale
-the_micros ticks scale b h f e m = m ∙ ap (λ (z : ℤ). microsOf z scale) (big-is ticks b f e)
+the_micros : (ticks : ℤ) (scale : ℕ) (b : Big) (h : Held) → SFits w64 ticks → b ≡ big_of (read ticks) → h ≡ micros_of (number b) scale → h ≡ micros_of ticks scale
+the_micros ticks scale b h f e m = m ∙ ap (λ (z : ℤ). micros_of z scale) (big-is ticks b f e)
 
 pub returns-in-Is : goal.returns-in-Is
 returns-in-Is c =

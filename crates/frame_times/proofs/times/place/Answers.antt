@@ -2,7 +2,7 @@ use Rattle.std.proofs.Common.{◌≡◌, ◌+◌, ◌+ℤ◌, ◌-ℤ◌, ◌∙
 use Rattle.signed.proofs.Bits.{read, reads, back}
 use Rattle.slices.specs.Slices.{laid}
 use Rattle.slices.proofs.Every.{all-at}
-use Rattle.frame_times.specs.Frames.{movedTime}
+use Rattle.frame_times.specs.Frames.{moved_time}
 use Rattle.frame_times.specs.Steps.{Movable}
 use Rattle.frame_times.proofs.ShowLaws.{place-more}
 use Rattle.frame_times.proofs.times.place.Goals as goal
@@ -22,10 +22,10 @@ loop-i-preserved c =
     let m : Movable s.o s.d x = all-at (Movable s.o s.d) s.times.now l.i (pos 0) c.requires.all (omega arith) in
     let o : read s.o ≡ s.o = reads c.ranges.o in
     let d : read s.d ≡ s.d = reads c.ranges.d in
-    let at : read (read (read x -ℤ read s.o) +ℤ read s.d) ≡ movedTime s.o s.d x =
-    (λ i. read (read (back x (omega arith) i -ℤ o i) +ℤ d i)) ∙ ap (λ z. read (z +ℤ s.d)) (back (x -ℤ s.o) m.0) ∙ back (movedTime s.o s.d x) m.1 in (
+    let at : read (read (read x -ℤ read s.o) +ℤ read s.d) ≡ moved_time s.o s.d x =
+    (λ i. read (read (back x (omega arith) i -ℤ o i) +ℤ d i)) ∙ ap (λ z. read (z +ℤ s.d)) (back (x -ℤ s.o) m.0) ∙ back (moved_time s.o s.d x) m.1 in (
       omega arith,
       ap (set l.out l.i) at
-          ∙ place-more (movedTime s.o s.d) s.times.now s.out.now l.i l.out (omega arith) (omega (arith, c.requires.times_in_bounds)) (l.invariant.1 ∙ (λ i. laid (map (movedTime (o i) (d i)) (take l.i s.times.now)) s.out.now))
-          ∙ sym (λ i. laid (map (movedTime (o i) (d i)) (take (l.i + 1) s.times.now)) s.out.now),
+          ∙ place-more (moved_time s.o s.d) s.times.now s.out.now l.i l.out (omega arith) (omega (arith, c.requires.times_in_bounds)) (l.invariant.1 ∙ (λ i. laid (map (moved_time (o i) (d i)) (take l.i s.times.now)) s.out.now))
+          ∙ sym (λ i. laid (map (moved_time (o i) (d i)) (take (l.i + 1) s.times.now)) s.out.now),
     )

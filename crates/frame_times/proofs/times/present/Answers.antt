@@ -4,9 +4,9 @@ use lib.Signed.{le_z}
 use Rattle.signed.proofs.Bits.{read, reads, fits-of}
 use Rattle.order.specs.Order.{Asc, sorted, mode}
 use Rattle.order.proofs.Sorted.{asc-sorted}
-use Rattle.tracks.specs.Tables.{entriesOf, durations, offsets}
+use Rattle.tracks.specs.Tables.{entries_of, durations, offsets}
 use Rattle.tracks.proofs.EntryLaws.{length-per-frame}
-use Rattle.frame_times.specs.Frames.{framesFrom, kept}
+use Rattle.frame_times.specs.Frames.{frames_from, kept}
 use Rattle.frame_times.specs.Times.{shown}
 use Rattle.frame_times.proofs.FrameLaws.{none_kept, low-nominal, some-shown, showable, showable-as, mode-of-sorted}
 use Rattle.frame_times.proofs.KeepLaws.{front_long, front-within, some-kept, lasts-fit, first_read, sum_fits, last-read}
@@ -20,7 +20,7 @@ named ds e q f m = reads f ∙ m ∙ ap mode (e ∙ ap sorted q) ∙ mode-of-sor
 pub sort_any-requires : goal.sort_any-requires
 sort_any-requires c =
     let ds = durations c.args.n c.args.stts.now in
-    omega (arith, ap length c.requires.b_value.0, length-map ds pos, length-per-frame (entriesOf c.args.n c.args.stts.now), c.requires.n_in_bounds.2)
+    omega (arith, ap length c.requires.b_value.0, length-map ds pos, length-per-frame (entries_of c.args.n c.args.stts.now), c.requires.n_in_bounds.2)
 
 pub nominal_of-nominal-requires : goal.nominal_of-nominal-requires
 nominal_of-nominal-requires c = subst Asc (sym (c.sort_any.ensures ∙ ap sorted c.requires.b_value.0)) (asc-sorted (map pos (durations c.args.n c.args.stts.now)))
@@ -29,14 +29,14 @@ pub returns-then-nominal-le0 : goal.returns-then-nominal-le0
 returns-then-nominal-le0 c =
     let s = c.args in
     let ds = durations s.n s.stts.now in
-    let fs = kept s.e (framesFrom 0 ds (offsets s.standard s.m s.ctts.now)) in
+    let fs = kept s.e (frames_from 0 ds (offsets s.standard s.m s.ctts.now)) in
     let n = named ds c.sort_any.ensures c.requires.b_value.0 (fits-of c.nominal_of-nominal.type_inv) c.nominal_of-nominal.ensures in
     refuses 31 s.starts.now c.refused.ensures (low-nominal _ _ _ fs (ap (λ z. le_z z (pos 0)) (sym n) ∙ c.if-nominal-le0.true))
 
 pub returns-then-count-eq0 : goal.returns-then-count-eq0
 returns-then-count-eq0 c =
     let s = c.args in
-    let fs = kept s.e (framesFrom 0 (durations s.n s.stts.now) (offsets s.standard s.m s.ctts.now)) in
+    let fs = kept s.e (frames_from 0 (durations s.n s.stts.now) (offsets s.standard s.m s.ctts.now)) in
     refuses 31 s.starts.now c.refused-then-count-eq0.ensures (none_kept _ _ _ fs (sym c.keep-k.ensures.count ∙ c.if-count-eq0.true))
 
 pub overflow_cast-last : goal.overflow_cast-last
@@ -49,7 +49,7 @@ pub show-requires : goal.show-requires
 show-requires c =
     let s = c.args in
     let ds = durations s.n s.stts.now in
-    let fs = kept s.e (framesFrom 0 ds (offsets s.standard s.m s.ctts.now)) in
+    let fs = kept s.e (frames_from 0 ds (offsets s.standard s.m s.ctts.now)) in
     let k = c.keep-k.result in
     let times = c.keep-k.new.times in
     let told = c.keep-k.ensures in
@@ -60,7 +60,7 @@ show-requires c =
     let last = last-read fs k times told c.if-count-eq0.false in (
       showable-as s.e told.front first last (showable s.e _ fs refl some told.good c.requires.b_value.1),
       omega (arith, long, told.count, some),
-      omega (arith, long, within, c.keep-k.auto, c.sort_any.auto, ap length c.requires.b_value.0, length-map ds pos, length-per-frame (entriesOf s.n s.stts.now), c.requires.n_in_bounds.2),
+      omega (arith, long, within, c.keep-k.auto, c.sort_any.auto, ap length c.requires.b_value.0, length-map ds pos, length-per-frame (entries_of s.n s.stts.now), c.requires.n_in_bounds.2),
       omega (arith, long, within, c.keep-k.auto, c.sort_any.auto, c.requires.n_in_bounds.4),
     )
 
@@ -68,7 +68,7 @@ pub returns : goal.returns
 returns c =
     let s = c.args in
     let ds = durations s.n s.stts.now in
-    let fs = kept s.e (framesFrom 0 ds (offsets s.standard s.m s.ctts.now)) in
+    let fs = kept s.e (frames_from 0 ds (offsets s.standard s.m s.ctts.now)) in
     let k = c.keep-k.result in
     let times = c.keep-k.new.times in
     let told = c.keep-k.ensures in

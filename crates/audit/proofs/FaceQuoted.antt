@@ -1,186 +1,135 @@
--- Made by tools/calls: at every model each call's `requires` is nothing, and its `ensures` the plain fact that `Learnt` quotes.
-use mathlib.Core.Path.{◌≡◌, refl}
+-- Made by tools/calls: each call's code, run in any model of the language, meets its promise as it is quoted. The proof is the theorem that the toolchain has of the function, as it stands.
 use seplogic.Ra.Ura.{Ura}
-use base.Logic.{SProp, emp}
-use contract.Monad.{fact, Fun}
-use prog.Memory.{Memory}
-use prog.Routine.{Routine}
+use prog.Model.{Model}
+use prog.Wired.{Wired}
+use contract.Running.{Running}
+use denote.Triple.Spec.{Meets}
 use types.Logic.{Logic}
-use Rattle.audit.specs.Promise.{Regions, Given}
 use Rattle.audit.specs.Face as calls
-use Rattle.segment_table.specs.contracts.clock.st_is_utc_second as st-is-utc-second·
-use Rattle.segment_table.specs.contracts.clock.st_ticks_to_us as st-ticks-to-us·
-use Rattle.segment_table.specs.contracts.cutting.st_cut as st-cut·
-use Rattle.segment_table.specs.contracts.cutting.st_cuts as st-cuts·
-use Rattle.segment_table.specs.contracts.cutting.st_join as st-join·
-use Rattle.segment_table.specs.contracts.cutting.st_merge as st-merge·
-use Rattle.segment_table.specs.contracts.cutting.st_origin as st-origin·
-use Rattle.segment_table.specs.contracts.judging.st_validate_no_video as st-validate-no-video·
-use Rattle.segment_table.specs.contracts.judging.st_validate_constant as st-validate-constant·
-use Rattle.segment_table.specs.contracts.judging.st_validate_times as st-validate-times·
-use Rattle.segment_table.specs.contracts.judging.st_check_mcraw as st-check-mcraw·
-use Rattle.segment_table.specs.contracts.listed.st_segment_of_frame_records as st-segment-of-frame-records·
-use Rattle.segment_table.specs.contracts.recordings.st_mcraw_times as st-mcraw-times·
-use Rattle.segment_table.specs.contracts.recordings.st_video_frame_times_of_moov as st-video-frame-times-of-moov·
-use Rattle.segment_table.specs.contracts.tables.st_check as st-check·
-use Rattle.segment_table.specs.contracts.tables.st_segment_of_frame as st-segment-of-frame·
-use Rattle.segment_table.specs.contracts.tables.st_segments_of_frames as st-segments-of-frames·
-use Rattle.segment_table.specs.contracts.tables.st_segment_of_time_us as st-segment-of-time-us·
-use Rattle.segment_table.specs.contracts.tables.st_continues as st-continues·
-use Rattle.segment_table.specs.contracts.tables.st_rows_of_table as st-rows-of-table·
-use Rattle.segment_table.specs.contracts.walk.st_box_size as st-box-size·
-use Rattle.segment_table.specs.contracts.walk.st_children as st-children·
-use Rattle.segment_table.specs.contracts.walk.st_child as st-child·
-use Rattle.segment_table.specs.contracts.walk.st_find_box as st-find-box·
-use Rattle.segment_table.specs.contracts.walk.st_table_text as st-table-text·
+use Rattle.audit.proofs.Promised.{promised}
+use Rattle.segment_table.proofs.clock.st_is_utc_second.Symbol as st-is-utc-second·symbol
+use Rattle.segment_table.proofs.clock.st_is_utc_second.Met as st-is-utc-second·met
+use Rattle.segment_table.proofs.clock.st_ticks_to_us.Symbol as st-ticks-to-us·symbol
+use Rattle.segment_table.proofs.clock.st_ticks_to_us.Met as st-ticks-to-us·met
+use Rattle.segment_table.proofs.cutting.st_cut.Symbol as st-cut·symbol
+use Rattle.segment_table.proofs.cutting.st_cut.Met as st-cut·met
+use Rattle.segment_table.proofs.cutting.st_cuts.Symbol as st-cuts·symbol
+use Rattle.segment_table.proofs.cutting.st_cuts.Met as st-cuts·met
+use Rattle.segment_table.proofs.cutting.st_join.Symbol as st-join·symbol
+use Rattle.segment_table.proofs.cutting.st_join.Met as st-join·met
+use Rattle.segment_table.proofs.cutting.st_merge.Symbol as st-merge·symbol
+use Rattle.segment_table.proofs.cutting.st_merge.Met as st-merge·met
+use Rattle.segment_table.proofs.cutting.st_origin.Symbol as st-origin·symbol
+use Rattle.segment_table.proofs.cutting.st_origin.Met as st-origin·met
+use Rattle.segment_table.proofs.judging.st_validate_no_video.Symbol as st-validate-no-video·symbol
+use Rattle.segment_table.proofs.judging.st_validate_no_video.Met as st-validate-no-video·met
+use Rattle.segment_table.proofs.judging.st_validate_constant.Symbol as st-validate-constant·symbol
+use Rattle.segment_table.proofs.judging.st_validate_constant.Met as st-validate-constant·met
+use Rattle.segment_table.proofs.judging.st_validate_times.Symbol as st-validate-times·symbol
+use Rattle.segment_table.proofs.judging.st_validate_times.Met as st-validate-times·met
+use Rattle.segment_table.proofs.judging.st_check_mcraw.Symbol as st-check-mcraw·symbol
+use Rattle.segment_table.proofs.judging.st_check_mcraw.Met as st-check-mcraw·met
+use Rattle.segment_table.proofs.listed.st_segment_of_frame_records.Symbol as st-segment-of-frame-records·symbol
+use Rattle.segment_table.proofs.listed.st_segment_of_frame_records.Met as st-segment-of-frame-records·met
+use Rattle.segment_table.proofs.recordings.st_mcraw_times.Symbol as st-mcraw-times·symbol
+use Rattle.segment_table.proofs.recordings.st_mcraw_times.Met as st-mcraw-times·met
+use Rattle.segment_table.proofs.recordings.st_video_frame_times_of_moov.Symbol as st-video-frame-times-of-moov·symbol
+use Rattle.segment_table.proofs.recordings.st_video_frame_times_of_moov.Met as st-video-frame-times-of-moov·met
+use Rattle.segment_table.proofs.tables.st_check.Symbol as st-check·symbol
+use Rattle.segment_table.proofs.tables.st_check.Met as st-check·met
+use Rattle.segment_table.proofs.tables.st_segment_of_frame.Symbol as st-segment-of-frame·symbol
+use Rattle.segment_table.proofs.tables.st_segment_of_frame.Met as st-segment-of-frame·met
+use Rattle.segment_table.proofs.tables.st_segments_of_frames.Symbol as st-segments-of-frames·symbol
+use Rattle.segment_table.proofs.tables.st_segments_of_frames.Met as st-segments-of-frames·met
+use Rattle.segment_table.proofs.tables.st_segment_of_time_us.Symbol as st-segment-of-time-us·symbol
+use Rattle.segment_table.proofs.tables.st_segment_of_time_us.Met as st-segment-of-time-us·met
+use Rattle.segment_table.proofs.tables.st_continues.Symbol as st-continues·symbol
+use Rattle.segment_table.proofs.tables.st_continues.Met as st-continues·met
+use Rattle.segment_table.proofs.tables.st_rows_of_table.Symbol as st-rows-of-table·symbol
+use Rattle.segment_table.proofs.tables.st_rows_of_table.Met as st-rows-of-table·met
+use Rattle.segment_table.proofs.walk.st_box_size.Symbol as st-box-size·symbol
+use Rattle.segment_table.proofs.walk.st_box_size.Met as st-box-size·met
+use Rattle.segment_table.proofs.walk.st_children.Symbol as st-children·symbol
+use Rattle.segment_table.proofs.walk.st_children.Met as st-children·met
+use Rattle.segment_table.proofs.walk.st_child.Symbol as st-child·symbol
+use Rattle.segment_table.proofs.walk.st_child.Met as st-child·met
+use Rattle.segment_table.proofs.walk.st_find_box.Symbol as st-find-box·symbol
+use Rattle.segment_table.proofs.walk.st_find_box.Met as st-find-box·met
+use Rattle.segment_table.proofs.walk.st_table_text.Symbol as st-table-text·symbol
+use Rattle.segment_table.proofs.walk.st_table_text.Met as st-table-text·met
 
-module _ {M : Type 1} {𝓤 : Ura M} (𝓛 : Logic 𝓤) (mem : Memory → SProp 𝓤) (run : Routine → Fun 𝓤) where
-  pub st-is-utc-second-asks-nothing : (κs : Regions calls.st-is-utc-second) (a : Given calls.st-is-utc-second κs) → (st-is-utc-second·.clauses 𝓛 mem run κs a).requires tt ≡ emp 𝓤
-  st-is-utc-second-asks-nothing κs a = refl
+module _ {M : Type 1} (𝓤 : Ura M) (𝓛 : Logic 𝓤) (𝓜 : Model 𝓤 𝓛.H) (𝓡 : Running 𝓤 𝓛.H 𝓜) where
+  pub st-is-utc-second-quoted : Wired 𝓡.env st-is-utc-second·symbol.code → Meets 𝓛 calls.st-is-utc-second.types.signature (𝓡.run (𝓡.env st-is-utc-second·symbol.name)) (promised calls.st-is-utc-second 𝓛)
+  st-is-utc-second-quoted = st-is-utc-second·met.met 𝓤 𝓛 𝓜 𝓡
 
-  pub st-is-utc-second-quoted : (κs : Regions calls.st-is-utc-second) (a : Given calls.st-is-utc-second κs) → (st-is-utc-second·.clauses 𝓛 mem run κs a).ensures tt ≡ (λ z e. fact 𝓤 (calls.st-is-utc-second.Learnt κs a z e))
-  st-is-utc-second-quoted κs a = refl
+  pub st-ticks-to-us-quoted : Wired 𝓡.env st-ticks-to-us·symbol.code → Meets 𝓛 calls.st-ticks-to-us.types.signature (𝓡.run (𝓡.env st-ticks-to-us·symbol.name)) (promised calls.st-ticks-to-us 𝓛)
+  st-ticks-to-us-quoted = st-ticks-to-us·met.met 𝓤 𝓛 𝓜 𝓡
 
-  pub st-ticks-to-us-asks-nothing : (κs : Regions calls.st-ticks-to-us) (a : Given calls.st-ticks-to-us κs) → (st-ticks-to-us·.clauses 𝓛 mem run κs a).requires tt ≡ emp 𝓤
-  st-ticks-to-us-asks-nothing κs a = refl
+  pub st-cut-quoted : Wired 𝓡.env st-cut·symbol.code → Meets 𝓛 calls.st-cut.types.signature (𝓡.run (𝓡.env st-cut·symbol.name)) (promised calls.st-cut 𝓛)
+  st-cut-quoted = st-cut·met.met 𝓤 𝓛 𝓜 𝓡
 
-  pub st-ticks-to-us-quoted : (κs : Regions calls.st-ticks-to-us) (a : Given calls.st-ticks-to-us κs) → (st-ticks-to-us·.clauses 𝓛 mem run κs a).ensures tt ≡ (λ z e. fact 𝓤 (calls.st-ticks-to-us.Learnt κs a z e))
-  st-ticks-to-us-quoted κs a = refl
+  pub st-cuts-quoted : Wired 𝓡.env st-cuts·symbol.code → Meets 𝓛 calls.st-cuts.types.signature (𝓡.run (𝓡.env st-cuts·symbol.name)) (promised calls.st-cuts 𝓛)
+  st-cuts-quoted = st-cuts·met.met 𝓤 𝓛 𝓜 𝓡
 
-  pub st-cut-asks-nothing : (κs : Regions calls.st-cut) (a : Given calls.st-cut κs) → (st-cut·.clauses 𝓛 mem run κs a).requires tt ≡ emp 𝓤
-  st-cut-asks-nothing κs a = refl
+  pub st-join-quoted : Wired 𝓡.env st-join·symbol.code → Meets 𝓛 calls.st-join.types.signature (𝓡.run (𝓡.env st-join·symbol.name)) (promised calls.st-join 𝓛)
+  st-join-quoted = st-join·met.met 𝓤 𝓛 𝓜 𝓡
 
-  pub st-cut-quoted : (κs : Regions calls.st-cut) (a : Given calls.st-cut κs) → (st-cut·.clauses 𝓛 mem run κs a).ensures tt ≡ (λ z e. fact 𝓤 (calls.st-cut.Learnt κs a z e))
-  st-cut-quoted κs a = refl
+  pub st-merge-quoted : Wired 𝓡.env st-merge·symbol.code → Meets 𝓛 calls.st-merge.types.signature (𝓡.run (𝓡.env st-merge·symbol.name)) (promised calls.st-merge 𝓛)
+  st-merge-quoted = st-merge·met.met 𝓤 𝓛 𝓜 𝓡
 
-  pub st-cuts-asks-nothing : (κs : Regions calls.st-cuts) (a : Given calls.st-cuts κs) → (st-cuts·.clauses 𝓛 mem run κs a).requires tt ≡ emp 𝓤
-  st-cuts-asks-nothing κs a = refl
+  pub st-origin-quoted : Wired 𝓡.env st-origin·symbol.code → Meets 𝓛 calls.st-origin.types.signature (𝓡.run (𝓡.env st-origin·symbol.name)) (promised calls.st-origin 𝓛)
+  st-origin-quoted = st-origin·met.met 𝓤 𝓛 𝓜 𝓡
 
-  pub st-cuts-quoted : (κs : Regions calls.st-cuts) (a : Given calls.st-cuts κs) → (st-cuts·.clauses 𝓛 mem run κs a).ensures tt ≡ (λ z e. fact 𝓤 (calls.st-cuts.Learnt κs a z e))
-  st-cuts-quoted κs a = refl
+  pub st-validate-no-video-quoted : Wired 𝓡.env st-validate-no-video·symbol.code → Meets 𝓛 calls.st-validate-no-video.types.signature (𝓡.run (𝓡.env st-validate-no-video·symbol.name)) (promised calls.st-validate-no-video 𝓛)
+  st-validate-no-video-quoted = st-validate-no-video·met.met 𝓤 𝓛 𝓜 𝓡
 
-  pub st-join-asks-nothing : (κs : Regions calls.st-join) (a : Given calls.st-join κs) → (st-join·.clauses 𝓛 mem run κs a).requires tt ≡ emp 𝓤
-  st-join-asks-nothing κs a = refl
+  pub st-validate-constant-quoted : Wired 𝓡.env st-validate-constant·symbol.code → Meets 𝓛 calls.st-validate-constant.types.signature (𝓡.run (𝓡.env st-validate-constant·symbol.name)) (promised calls.st-validate-constant 𝓛)
+  st-validate-constant-quoted = st-validate-constant·met.met 𝓤 𝓛 𝓜 𝓡
 
-  pub st-join-quoted : (κs : Regions calls.st-join) (a : Given calls.st-join κs) → (st-join·.clauses 𝓛 mem run κs a).ensures tt ≡ (λ z e. fact 𝓤 (calls.st-join.Learnt κs a z e))
-  st-join-quoted κs a = refl
+  pub st-validate-times-quoted : Wired 𝓡.env st-validate-times·symbol.code → Meets 𝓛 calls.st-validate-times.types.signature (𝓡.run (𝓡.env st-validate-times·symbol.name)) (promised calls.st-validate-times 𝓛)
+  st-validate-times-quoted = st-validate-times·met.met 𝓤 𝓛 𝓜 𝓡
 
-  pub st-merge-asks-nothing : (κs : Regions calls.st-merge) (a : Given calls.st-merge κs) → (st-merge·.clauses 𝓛 mem run κs a).requires tt ≡ emp 𝓤
-  st-merge-asks-nothing κs a = refl
+  pub st-check-mcraw-quoted : Wired 𝓡.env st-check-mcraw·symbol.code → Meets 𝓛 calls.st-check-mcraw.types.signature (𝓡.run (𝓡.env st-check-mcraw·symbol.name)) (promised calls.st-check-mcraw 𝓛)
+  st-check-mcraw-quoted = st-check-mcraw·met.met 𝓤 𝓛 𝓜 𝓡
 
-  pub st-merge-quoted : (κs : Regions calls.st-merge) (a : Given calls.st-merge κs) → (st-merge·.clauses 𝓛 mem run κs a).ensures tt ≡ (λ z e. fact 𝓤 (calls.st-merge.Learnt κs a z e))
-  st-merge-quoted κs a = refl
+  pub st-segment-of-frame-records-quoted : Wired 𝓡.env st-segment-of-frame-records·symbol.code → Meets 𝓛 calls.st-segment-of-frame-records.types.signature (𝓡.run (𝓡.env st-segment-of-frame-records·symbol.name)) (promised calls.st-segment-of-frame-records 𝓛)
+  st-segment-of-frame-records-quoted = st-segment-of-frame-records·met.met 𝓤 𝓛 𝓜 𝓡
 
-  pub st-origin-asks-nothing : (κs : Regions calls.st-origin) (a : Given calls.st-origin κs) → (st-origin·.clauses 𝓛 mem run κs a).requires tt ≡ emp 𝓤
-  st-origin-asks-nothing κs a = refl
+  pub st-mcraw-times-quoted : Wired 𝓡.env st-mcraw-times·symbol.code → Meets 𝓛 calls.st-mcraw-times.types.signature (𝓡.run (𝓡.env st-mcraw-times·symbol.name)) (promised calls.st-mcraw-times 𝓛)
+  st-mcraw-times-quoted = st-mcraw-times·met.met 𝓤 𝓛 𝓜 𝓡
 
-  pub st-origin-quoted : (κs : Regions calls.st-origin) (a : Given calls.st-origin κs) → (st-origin·.clauses 𝓛 mem run κs a).ensures tt ≡ (λ z e. fact 𝓤 (calls.st-origin.Learnt κs a z e))
-  st-origin-quoted κs a = refl
+  pub st-video-frame-times-of-moov-quoted : Wired 𝓡.env st-video-frame-times-of-moov·symbol.code → Meets 𝓛 calls.st-video-frame-times-of-moov.types.signature (𝓡.run (𝓡.env st-video-frame-times-of-moov·symbol.name)) (promised calls.st-video-frame-times-of-moov 𝓛)
+  st-video-frame-times-of-moov-quoted = st-video-frame-times-of-moov·met.met 𝓤 𝓛 𝓜 𝓡
 
-  pub st-validate-no-video-asks-nothing : (κs : Regions calls.st-validate-no-video) (a : Given calls.st-validate-no-video κs) → (st-validate-no-video·.clauses 𝓛 mem run κs a).requires tt ≡ emp 𝓤
-  st-validate-no-video-asks-nothing κs a = refl
+  pub st-check-quoted : Wired 𝓡.env st-check·symbol.code → Meets 𝓛 calls.st-check.types.signature (𝓡.run (𝓡.env st-check·symbol.name)) (promised calls.st-check 𝓛)
+  st-check-quoted = st-check·met.met 𝓤 𝓛 𝓜 𝓡
 
-  pub st-validate-no-video-quoted : (κs : Regions calls.st-validate-no-video) (a : Given calls.st-validate-no-video κs) → (st-validate-no-video·.clauses 𝓛 mem run κs a).ensures tt ≡ (λ z e. fact 𝓤 (calls.st-validate-no-video.Learnt κs a z e))
-  st-validate-no-video-quoted κs a = refl
+  pub st-segment-of-frame-quoted : Wired 𝓡.env st-segment-of-frame·symbol.code → Meets 𝓛 calls.st-segment-of-frame.types.signature (𝓡.run (𝓡.env st-segment-of-frame·symbol.name)) (promised calls.st-segment-of-frame 𝓛)
+  st-segment-of-frame-quoted = st-segment-of-frame·met.met 𝓤 𝓛 𝓜 𝓡
 
-  pub st-validate-constant-asks-nothing : (κs : Regions calls.st-validate-constant) (a : Given calls.st-validate-constant κs) → (st-validate-constant·.clauses 𝓛 mem run κs a).requires tt ≡ emp 𝓤
-  st-validate-constant-asks-nothing κs a = refl
+  pub st-segments-of-frames-quoted : Wired 𝓡.env st-segments-of-frames·symbol.code → Meets 𝓛 calls.st-segments-of-frames.types.signature (𝓡.run (𝓡.env st-segments-of-frames·symbol.name)) (promised calls.st-segments-of-frames 𝓛)
+  st-segments-of-frames-quoted = st-segments-of-frames·met.met 𝓤 𝓛 𝓜 𝓡
 
-  pub st-validate-constant-quoted : (κs : Regions calls.st-validate-constant) (a : Given calls.st-validate-constant κs) → (st-validate-constant·.clauses 𝓛 mem run κs a).ensures tt ≡ (λ z e. fact 𝓤 (calls.st-validate-constant.Learnt κs a z e))
-  st-validate-constant-quoted κs a = refl
+  pub st-segment-of-time-us-quoted : Wired 𝓡.env st-segment-of-time-us·symbol.code → Meets 𝓛 calls.st-segment-of-time-us.types.signature (𝓡.run (𝓡.env st-segment-of-time-us·symbol.name)) (promised calls.st-segment-of-time-us 𝓛)
+  st-segment-of-time-us-quoted = st-segment-of-time-us·met.met 𝓤 𝓛 𝓜 𝓡
 
-  pub st-validate-times-asks-nothing : (κs : Regions calls.st-validate-times) (a : Given calls.st-validate-times κs) → (st-validate-times·.clauses 𝓛 mem run κs a).requires tt ≡ emp 𝓤
-  st-validate-times-asks-nothing κs a = refl
+  pub st-continues-quoted : Wired 𝓡.env st-continues·symbol.code → Meets 𝓛 calls.st-continues.types.signature (𝓡.run (𝓡.env st-continues·symbol.name)) (promised calls.st-continues 𝓛)
+  st-continues-quoted = st-continues·met.met 𝓤 𝓛 𝓜 𝓡
 
-  pub st-validate-times-quoted : (κs : Regions calls.st-validate-times) (a : Given calls.st-validate-times κs) → (st-validate-times·.clauses 𝓛 mem run κs a).ensures tt ≡ (λ z e. fact 𝓤 (calls.st-validate-times.Learnt κs a z e))
-  st-validate-times-quoted κs a = refl
+  pub st-rows-of-table-quoted : Wired 𝓡.env st-rows-of-table·symbol.code → Meets 𝓛 calls.st-rows-of-table.types.signature (𝓡.run (𝓡.env st-rows-of-table·symbol.name)) (promised calls.st-rows-of-table 𝓛)
+  st-rows-of-table-quoted = st-rows-of-table·met.met 𝓤 𝓛 𝓜 𝓡
 
-  pub st-check-mcraw-asks-nothing : (κs : Regions calls.st-check-mcraw) (a : Given calls.st-check-mcraw κs) → (st-check-mcraw·.clauses 𝓛 mem run κs a).requires tt ≡ emp 𝓤
-  st-check-mcraw-asks-nothing κs a = refl
+  pub st-box-size-quoted : Wired 𝓡.env st-box-size·symbol.code → Meets 𝓛 calls.st-box-size.types.signature (𝓡.run (𝓡.env st-box-size·symbol.name)) (promised calls.st-box-size 𝓛)
+  st-box-size-quoted = st-box-size·met.met 𝓤 𝓛 𝓜 𝓡
 
-  pub st-check-mcraw-quoted : (κs : Regions calls.st-check-mcraw) (a : Given calls.st-check-mcraw κs) → (st-check-mcraw·.clauses 𝓛 mem run κs a).ensures tt ≡ (λ z e. fact 𝓤 (calls.st-check-mcraw.Learnt κs a z e))
-  st-check-mcraw-quoted κs a = refl
+  pub st-children-quoted : Wired 𝓡.env st-children·symbol.code → Meets 𝓛 calls.st-children.types.signature (𝓡.run (𝓡.env st-children·symbol.name)) (promised calls.st-children 𝓛)
+  st-children-quoted = st-children·met.met 𝓤 𝓛 𝓜 𝓡
 
-  pub st-segment-of-frame-records-asks-nothing : (κs : Regions calls.st-segment-of-frame-records) (a : Given calls.st-segment-of-frame-records κs) → (st-segment-of-frame-records·.clauses 𝓛 mem run κs a).requires tt ≡ emp 𝓤
-  st-segment-of-frame-records-asks-nothing κs a = refl
+  pub st-child-quoted : Wired 𝓡.env st-child·symbol.code → Meets 𝓛 calls.st-child.types.signature (𝓡.run (𝓡.env st-child·symbol.name)) (promised calls.st-child 𝓛)
+  st-child-quoted = st-child·met.met 𝓤 𝓛 𝓜 𝓡
 
-  pub st-segment-of-frame-records-quoted : (κs : Regions calls.st-segment-of-frame-records) (a : Given calls.st-segment-of-frame-records κs) → (st-segment-of-frame-records·.clauses 𝓛 mem run κs a).ensures tt ≡ (λ z e. fact 𝓤 (calls.st-segment-of-frame-records.Learnt κs a z e))
-  st-segment-of-frame-records-quoted κs a = refl
+  pub st-find-box-quoted : Wired 𝓡.env st-find-box·symbol.code → Meets 𝓛 calls.st-find-box.types.signature (𝓡.run (𝓡.env st-find-box·symbol.name)) (promised calls.st-find-box 𝓛)
+  st-find-box-quoted = st-find-box·met.met 𝓤 𝓛 𝓜 𝓡
 
-  pub st-mcraw-times-asks-nothing : (κs : Regions calls.st-mcraw-times) (a : Given calls.st-mcraw-times κs) → (st-mcraw-times·.clauses 𝓛 mem run κs a).requires tt ≡ emp 𝓤
-  st-mcraw-times-asks-nothing κs a = refl
-
-  pub st-mcraw-times-quoted : (κs : Regions calls.st-mcraw-times) (a : Given calls.st-mcraw-times κs) → (st-mcraw-times·.clauses 𝓛 mem run κs a).ensures tt ≡ (λ z e. fact 𝓤 (calls.st-mcraw-times.Learnt κs a z e))
-  st-mcraw-times-quoted κs a = refl
-
-  pub st-video-frame-times-of-moov-asks-nothing : (κs : Regions calls.st-video-frame-times-of-moov) (a : Given calls.st-video-frame-times-of-moov κs) → (st-video-frame-times-of-moov·.clauses 𝓛 mem run κs a).requires tt ≡ emp 𝓤
-  st-video-frame-times-of-moov-asks-nothing κs a = refl
-
-  pub st-video-frame-times-of-moov-quoted : (κs : Regions calls.st-video-frame-times-of-moov) (a : Given calls.st-video-frame-times-of-moov κs) → (st-video-frame-times-of-moov·.clauses 𝓛 mem run κs a).ensures tt ≡ (λ z e. fact 𝓤 (calls.st-video-frame-times-of-moov.Learnt κs a z e))
-  st-video-frame-times-of-moov-quoted κs a = refl
-
-  pub st-check-asks-nothing : (κs : Regions calls.st-check) (a : Given calls.st-check κs) → (st-check·.clauses 𝓛 mem run κs a).requires tt ≡ emp 𝓤
-  st-check-asks-nothing κs a = refl
-
-  pub st-check-quoted : (κs : Regions calls.st-check) (a : Given calls.st-check κs) → (st-check·.clauses 𝓛 mem run κs a).ensures tt ≡ (λ z e. fact 𝓤 (calls.st-check.Learnt κs a z e))
-  st-check-quoted κs a = refl
-
-  pub st-segment-of-frame-asks-nothing : (κs : Regions calls.st-segment-of-frame) (a : Given calls.st-segment-of-frame κs) → (st-segment-of-frame·.clauses 𝓛 mem run κs a).requires tt ≡ emp 𝓤
-  st-segment-of-frame-asks-nothing κs a = refl
-
-  pub st-segment-of-frame-quoted : (κs : Regions calls.st-segment-of-frame) (a : Given calls.st-segment-of-frame κs) → (st-segment-of-frame·.clauses 𝓛 mem run κs a).ensures tt ≡ (λ z e. fact 𝓤 (calls.st-segment-of-frame.Learnt κs a z e))
-  st-segment-of-frame-quoted κs a = refl
-
-  pub st-segments-of-frames-asks-nothing : (κs : Regions calls.st-segments-of-frames) (a : Given calls.st-segments-of-frames κs) → (st-segments-of-frames·.clauses 𝓛 mem run κs a).requires tt ≡ emp 𝓤
-  st-segments-of-frames-asks-nothing κs a = refl
-
-  pub st-segments-of-frames-quoted : (κs : Regions calls.st-segments-of-frames) (a : Given calls.st-segments-of-frames κs) → (st-segments-of-frames·.clauses 𝓛 mem run κs a).ensures tt ≡ (λ z e. fact 𝓤 (calls.st-segments-of-frames.Learnt κs a z e))
-  st-segments-of-frames-quoted κs a = refl
-
-  pub st-segment-of-time-us-asks-nothing : (κs : Regions calls.st-segment-of-time-us) (a : Given calls.st-segment-of-time-us κs) → (st-segment-of-time-us·.clauses 𝓛 mem run κs a).requires tt ≡ emp 𝓤
-  st-segment-of-time-us-asks-nothing κs a = refl
-
-  pub st-segment-of-time-us-quoted : (κs : Regions calls.st-segment-of-time-us) (a : Given calls.st-segment-of-time-us κs) → (st-segment-of-time-us·.clauses 𝓛 mem run κs a).ensures tt ≡ (λ z e. fact 𝓤 (calls.st-segment-of-time-us.Learnt κs a z e))
-  st-segment-of-time-us-quoted κs a = refl
-
-  pub st-continues-asks-nothing : (κs : Regions calls.st-continues) (a : Given calls.st-continues κs) → (st-continues·.clauses 𝓛 mem run κs a).requires tt ≡ emp 𝓤
-  st-continues-asks-nothing κs a = refl
-
-  pub st-continues-quoted : (κs : Regions calls.st-continues) (a : Given calls.st-continues κs) → (st-continues·.clauses 𝓛 mem run κs a).ensures tt ≡ (λ z e. fact 𝓤 (calls.st-continues.Learnt κs a z e))
-  st-continues-quoted κs a = refl
-
-  pub st-rows-of-table-asks-nothing : (κs : Regions calls.st-rows-of-table) (a : Given calls.st-rows-of-table κs) → (st-rows-of-table·.clauses 𝓛 mem run κs a).requires tt ≡ emp 𝓤
-  st-rows-of-table-asks-nothing κs a = refl
-
-  pub st-rows-of-table-quoted : (κs : Regions calls.st-rows-of-table) (a : Given calls.st-rows-of-table κs) → (st-rows-of-table·.clauses 𝓛 mem run κs a).ensures tt ≡ (λ z e. fact 𝓤 (calls.st-rows-of-table.Learnt κs a z e))
-  st-rows-of-table-quoted κs a = refl
-
-  pub st-box-size-asks-nothing : (κs : Regions calls.st-box-size) (a : Given calls.st-box-size κs) → (st-box-size·.clauses 𝓛 mem run κs a).requires tt ≡ emp 𝓤
-  st-box-size-asks-nothing κs a = refl
-
-  pub st-box-size-quoted : (κs : Regions calls.st-box-size) (a : Given calls.st-box-size κs) → (st-box-size·.clauses 𝓛 mem run κs a).ensures tt ≡ (λ z e. fact 𝓤 (calls.st-box-size.Learnt κs a z e))
-  st-box-size-quoted κs a = refl
-
-  pub st-children-asks-nothing : (κs : Regions calls.st-children) (a : Given calls.st-children κs) → (st-children·.clauses 𝓛 mem run κs a).requires tt ≡ emp 𝓤
-  st-children-asks-nothing κs a = refl
-
-  pub st-children-quoted : (κs : Regions calls.st-children) (a : Given calls.st-children κs) → (st-children·.clauses 𝓛 mem run κs a).ensures tt ≡ (λ z e. fact 𝓤 (calls.st-children.Learnt κs a z e))
-  st-children-quoted κs a = refl
-
-  pub st-child-asks-nothing : (κs : Regions calls.st-child) (a : Given calls.st-child κs) → (st-child·.clauses 𝓛 mem run κs a).requires tt ≡ emp 𝓤
-  st-child-asks-nothing κs a = refl
-
-  pub st-child-quoted : (κs : Regions calls.st-child) (a : Given calls.st-child κs) → (st-child·.clauses 𝓛 mem run κs a).ensures tt ≡ (λ z e. fact 𝓤 (calls.st-child.Learnt κs a z e))
-  st-child-quoted κs a = refl
-
-  pub st-find-box-asks-nothing : (κs : Regions calls.st-find-box) (a : Given calls.st-find-box κs) → (st-find-box·.clauses 𝓛 mem run κs a).requires tt ≡ emp 𝓤
-  st-find-box-asks-nothing κs a = refl
-
-  pub st-find-box-quoted : (κs : Regions calls.st-find-box) (a : Given calls.st-find-box κs) → (st-find-box·.clauses 𝓛 mem run κs a).ensures tt ≡ (λ z e. fact 𝓤 (calls.st-find-box.Learnt κs a z e))
-  st-find-box-quoted κs a = refl
-
-  pub st-table-text-asks-nothing : (κs : Regions calls.st-table-text) (a : Given calls.st-table-text κs) → (st-table-text·.clauses 𝓛 mem run κs a).requires tt ≡ emp 𝓤
-  st-table-text-asks-nothing κs a = refl
-
-  pub st-table-text-quoted : (κs : Regions calls.st-table-text) (a : Given calls.st-table-text κs) → (st-table-text·.clauses 𝓛 mem run κs a).ensures tt ≡ (λ z e. fact 𝓤 (calls.st-table-text.Learnt κs a z e))
-  st-table-text-quoted κs a = refl
+  pub st-table-text-quoted : Wired 𝓡.env st-table-text·symbol.code → Meets 𝓛 calls.st-table-text.types.signature (𝓡.run (𝓡.env st-table-text·symbol.name)) (promised calls.st-table-text 𝓛)
+  st-table-text-quoted = st-table-text·met.met 𝓤 𝓛 𝓜 𝓡

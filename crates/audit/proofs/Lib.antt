@@ -1,3 +1,4 @@
+pub mod Promised
 pub mod Quoted
 pub mod FaceQuoted
 pub mod Once

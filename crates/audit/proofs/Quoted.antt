@@ -1,193 +1,140 @@
--- Made by tools/calls: at every model each call's `requires` is nothing, and its `ensures` the plain fact that `Learnt` quotes.
-use mathlib.Core.Path.{◌≡◌, refl}
+-- Made by tools/calls: each call's code, run in any model of the language, meets its promise as it is quoted. The proof is the theorem that the toolchain has of the function, as it stands.
 use seplogic.Ra.Ura.{Ura}
-use base.Logic.{SProp, emp}
-use contract.Monad.{fact, Fun}
-use prog.Memory.{Memory}
-use prog.Routine.{Routine}
+use prog.Model.{Model}
+use prog.Wired.{Wired}
+use contract.Running.{Running}
+use denote.Triple.Spec.{Meets}
 use types.Logic.{Logic}
-use Rattle.audit.specs.Promise.{Regions, Given}
 use Rattle.audit.specs.Calls as calls
-use Rattle.ticks.specs.contracts.ticks_to_us as ticks-to-us·
-use Rattle.utc.specs.contracts.is_utc_second as is-utc-second·
-use Rattle.table.specs.contracts.check as check·
-use Rattle.lookup.specs.contracts.segment_of_frame as segment-of-frame·
-use Rattle.lookup.specs.contracts.segment_of_time_us as segment-of-time-us·
-use Rattle.lookup.specs.contracts.continues as continues·
-use Rattle.table_rows.specs.contracts.rows_of_table as rows-of-table·
-use Rattle.lookups.specs.contracts.segments_of_frames as segments-of-frames·
-use Rattle.judge.specs.contracts.validate as validate·
-use Rattle.judge.specs.contracts.check_mcraw as check-mcraw·
-use Rattle.boxes.specs.contracts.box_size as box-size·
-use Rattle.boxes.specs.contracts.children as children·
-use Rattle.boxes.specs.contracts.child_place as child-place·
-use Rattle.boxes.specs.contracts.child as child·
-use Rattle.boxes.specs.contracts.find_box_place as find-box-place·
-use Rattle.boxes.specs.contracts.find_box as find-box·
-use Rattle.boxes.specs.contracts.table_text_place as table-text-place·
-use Rattle.boxes.specs.contracts.table_text as table-text·
-use Rattle.frame_times.specs.contracts.video_frame_times_of_moov as video-frame-times-of-moov·
-use Rattle.mcraw.specs.contracts.mcraw_times as mcraw-times·
-use Rattle.maps.specs.contracts.cut as cut·
-use Rattle.maps.specs.contracts.merge as merge·
-use Rattle.maps.specs.contracts.join as join·
-use Rattle.maps.specs.contracts.origin as origin·
-use Rattle.cuts.specs.contracts.cuts as cuts·
-use Rattle.records.specs.contracts.segment_of_frame_records as segment-of-frame-records·
+use Rattle.audit.proofs.Promised.{promised}
+use Rattle.ticks.proofs.ticks_to_us.Symbol as ticks-to-us·symbol
+use Rattle.ticks.proofs.ticks_to_us.Met as ticks-to-us·met
+use Rattle.utc.proofs.is_utc_second.Symbol as is-utc-second·symbol
+use Rattle.utc.proofs.is_utc_second.Met as is-utc-second·met
+use Rattle.table.proofs.check.Symbol as check·symbol
+use Rattle.table.proofs.check.Met as check·met
+use Rattle.lookup.proofs.segment_of_frame.Symbol as segment-of-frame·symbol
+use Rattle.lookup.proofs.segment_of_frame.Met as segment-of-frame·met
+use Rattle.lookup.proofs.segment_of_time_us.Symbol as segment-of-time-us·symbol
+use Rattle.lookup.proofs.segment_of_time_us.Met as segment-of-time-us·met
+use Rattle.lookup.proofs.continues.Symbol as continues·symbol
+use Rattle.lookup.proofs.continues.Met as continues·met
+use Rattle.table_rows.proofs.rows_of_table.Symbol as rows-of-table·symbol
+use Rattle.table_rows.proofs.rows_of_table.Met as rows-of-table·met
+use Rattle.lookups.proofs.segments_of_frames.Symbol as segments-of-frames·symbol
+use Rattle.lookups.proofs.segments_of_frames.Met as segments-of-frames·met
+use Rattle.judge.proofs.validate.Symbol as validate·symbol
+use Rattle.judge.proofs.validate.Met as validate·met
+use Rattle.judge.proofs.check_mcraw.Symbol as check-mcraw·symbol
+use Rattle.judge.proofs.check_mcraw.Met as check-mcraw·met
+use Rattle.boxes.proofs.box_size.Symbol as box-size·symbol
+use Rattle.boxes.proofs.box_size.Met as box-size·met
+use Rattle.boxes.proofs.children.Symbol as children·symbol
+use Rattle.boxes.proofs.children.Met as children·met
+use Rattle.boxes.proofs.child_place.Symbol as child-place·symbol
+use Rattle.boxes.proofs.child_place.Met as child-place·met
+use Rattle.boxes.proofs.child.Symbol as child·symbol
+use Rattle.boxes.proofs.child.Met as child·met
+use Rattle.boxes.proofs.find_box_place.Symbol as find-box-place·symbol
+use Rattle.boxes.proofs.find_box_place.Met as find-box-place·met
+use Rattle.boxes.proofs.find_box.Symbol as find-box·symbol
+use Rattle.boxes.proofs.find_box.Met as find-box·met
+use Rattle.boxes.proofs.table_text_place.Symbol as table-text-place·symbol
+use Rattle.boxes.proofs.table_text_place.Met as table-text-place·met
+use Rattle.boxes.proofs.table_text.Symbol as table-text·symbol
+use Rattle.boxes.proofs.table_text.Met as table-text·met
+use Rattle.frame_times.proofs.video_frame_times_of_moov.Symbol as video-frame-times-of-moov·symbol
+use Rattle.frame_times.proofs.video_frame_times_of_moov.Met as video-frame-times-of-moov·met
+use Rattle.mcraw.proofs.mcraw_times.Symbol as mcraw-times·symbol
+use Rattle.mcraw.proofs.mcraw_times.Met as mcraw-times·met
+use Rattle.maps.proofs.cut.Symbol as cut·symbol
+use Rattle.maps.proofs.cut.Met as cut·met
+use Rattle.maps.proofs.merge.Symbol as merge·symbol
+use Rattle.maps.proofs.merge.Met as merge·met
+use Rattle.maps.proofs.join.Symbol as join·symbol
+use Rattle.maps.proofs.join.Met as join·met
+use Rattle.maps.proofs.origin.Symbol as origin·symbol
+use Rattle.maps.proofs.origin.Met as origin·met
+use Rattle.cuts.proofs.cuts.Symbol as cuts·symbol
+use Rattle.cuts.proofs.cuts.Met as cuts·met
+use Rattle.records.proofs.segment_of_frame_records.Symbol as segment-of-frame-records·symbol
+use Rattle.records.proofs.segment_of_frame_records.Met as segment-of-frame-records·met
 
-module _ {M : Type 1} {𝓤 : Ura M} (𝓛 : Logic 𝓤) (mem : Memory → SProp 𝓤) (run : Routine → Fun 𝓤) where
-  pub ticks-to-us-asks-nothing : (κs : Regions calls.ticks-to-us) (a : Given calls.ticks-to-us κs) → (ticks-to-us·.clauses 𝓛 mem run κs a).requires tt ≡ emp 𝓤
-  ticks-to-us-asks-nothing κs a = refl
+module _ {M : Type 1} (𝓤 : Ura M) (𝓛 : Logic 𝓤) (𝓜 : Model 𝓤 𝓛.H) (𝓡 : Running 𝓤 𝓛.H 𝓜) where
+  pub ticks-to-us-quoted : Wired 𝓡.env ticks-to-us·symbol.code → Meets 𝓛 calls.ticks-to-us.types.signature (𝓡.run (𝓡.env ticks-to-us·symbol.name)) (promised calls.ticks-to-us 𝓛)
+  ticks-to-us-quoted = ticks-to-us·met.met 𝓤 𝓛 𝓜 𝓡
 
-  pub ticks-to-us-quoted : (κs : Regions calls.ticks-to-us) (a : Given calls.ticks-to-us κs) → (ticks-to-us·.clauses 𝓛 mem run κs a).ensures tt ≡ (λ z e. fact 𝓤 (calls.ticks-to-us.Learnt κs a z e))
-  ticks-to-us-quoted κs a = refl
+  pub is-utc-second-quoted : Wired 𝓡.env is-utc-second·symbol.code → Meets 𝓛 calls.is-utc-second.types.signature (𝓡.run (𝓡.env is-utc-second·symbol.name)) (promised calls.is-utc-second 𝓛)
+  is-utc-second-quoted = is-utc-second·met.met 𝓤 𝓛 𝓜 𝓡
 
-  pub is-utc-second-asks-nothing : (κs : Regions calls.is-utc-second) (a : Given calls.is-utc-second κs) → (is-utc-second·.clauses 𝓛 mem run κs a).requires tt ≡ emp 𝓤
-  is-utc-second-asks-nothing κs a = refl
+  pub check-quoted : Wired 𝓡.env check·symbol.code → Meets 𝓛 calls.check.types.signature (𝓡.run (𝓡.env check·symbol.name)) (promised calls.check 𝓛)
+  check-quoted = check·met.met 𝓤 𝓛 𝓜 𝓡
 
-  pub is-utc-second-quoted : (κs : Regions calls.is-utc-second) (a : Given calls.is-utc-second κs) → (is-utc-second·.clauses 𝓛 mem run κs a).ensures tt ≡ (λ z e. fact 𝓤 (calls.is-utc-second.Learnt κs a z e))
-  is-utc-second-quoted κs a = refl
+  pub segment-of-frame-quoted : Wired 𝓡.env segment-of-frame·symbol.code → Meets 𝓛 calls.segment-of-frame.types.signature (𝓡.run (𝓡.env segment-of-frame·symbol.name)) (promised calls.segment-of-frame 𝓛)
+  segment-of-frame-quoted = segment-of-frame·met.met 𝓤 𝓛 𝓜 𝓡
 
-  pub check-asks-nothing : (κs : Regions calls.check) (a : Given calls.check κs) → (check·.clauses 𝓛 mem run κs a).requires tt ≡ emp 𝓤
-  check-asks-nothing κs a = refl
+  pub segment-of-time-us-quoted : Wired 𝓡.env segment-of-time-us·symbol.code → Meets 𝓛 calls.segment-of-time-us.types.signature (𝓡.run (𝓡.env segment-of-time-us·symbol.name)) (promised calls.segment-of-time-us 𝓛)
+  segment-of-time-us-quoted = segment-of-time-us·met.met 𝓤 𝓛 𝓜 𝓡
 
-  pub check-quoted : (κs : Regions calls.check) (a : Given calls.check κs) → (check·.clauses 𝓛 mem run κs a).ensures tt ≡ (λ z e. fact 𝓤 (calls.check.Learnt κs a z e))
-  check-quoted κs a = refl
+  pub continues-quoted : Wired 𝓡.env continues·symbol.code → Meets 𝓛 calls.continues.types.signature (𝓡.run (𝓡.env continues·symbol.name)) (promised calls.continues 𝓛)
+  continues-quoted = continues·met.met 𝓤 𝓛 𝓜 𝓡
 
-  pub segment-of-frame-asks-nothing : (κs : Regions calls.segment-of-frame) (a : Given calls.segment-of-frame κs) → (segment-of-frame·.clauses 𝓛 mem run κs a).requires tt ≡ emp 𝓤
-  segment-of-frame-asks-nothing κs a = refl
+  pub rows-of-table-quoted : Wired 𝓡.env rows-of-table·symbol.code → Meets 𝓛 calls.rows-of-table.types.signature (𝓡.run (𝓡.env rows-of-table·symbol.name)) (promised calls.rows-of-table 𝓛)
+  rows-of-table-quoted = rows-of-table·met.met 𝓤 𝓛 𝓜 𝓡
 
-  pub segment-of-frame-quoted : (κs : Regions calls.segment-of-frame) (a : Given calls.segment-of-frame κs) → (segment-of-frame·.clauses 𝓛 mem run κs a).ensures tt ≡ (λ z e. fact 𝓤 (calls.segment-of-frame.Learnt κs a z e))
-  segment-of-frame-quoted κs a = refl
+  pub segments-of-frames-quoted : Wired 𝓡.env segments-of-frames·symbol.code → Meets 𝓛 calls.segments-of-frames.types.signature (𝓡.run (𝓡.env segments-of-frames·symbol.name)) (promised calls.segments-of-frames 𝓛)
+  segments-of-frames-quoted = segments-of-frames·met.met 𝓤 𝓛 𝓜 𝓡
 
-  pub segment-of-time-us-asks-nothing : (κs : Regions calls.segment-of-time-us) (a : Given calls.segment-of-time-us κs) → (segment-of-time-us·.clauses 𝓛 mem run κs a).requires tt ≡ emp 𝓤
-  segment-of-time-us-asks-nothing κs a = refl
+  pub validate-quoted : Wired 𝓡.env validate·symbol.code → Meets 𝓛 calls.validate.types.signature (𝓡.run (𝓡.env validate·symbol.name)) (promised calls.validate 𝓛)
+  validate-quoted = validate·met.met 𝓤 𝓛 𝓜 𝓡
 
-  pub segment-of-time-us-quoted : (κs : Regions calls.segment-of-time-us) (a : Given calls.segment-of-time-us κs) → (segment-of-time-us·.clauses 𝓛 mem run κs a).ensures tt ≡ (λ z e. fact 𝓤 (calls.segment-of-time-us.Learnt κs a z e))
-  segment-of-time-us-quoted κs a = refl
+  pub check-mcraw-quoted : Wired 𝓡.env check-mcraw·symbol.code → Meets 𝓛 calls.check-mcraw.types.signature (𝓡.run (𝓡.env check-mcraw·symbol.name)) (promised calls.check-mcraw 𝓛)
+  check-mcraw-quoted = check-mcraw·met.met 𝓤 𝓛 𝓜 𝓡
 
-  pub continues-asks-nothing : (κs : Regions calls.continues) (a : Given calls.continues κs) → (continues·.clauses 𝓛 mem run κs a).requires tt ≡ emp 𝓤
-  continues-asks-nothing κs a = refl
+  pub box-size-quoted : Wired 𝓡.env box-size·symbol.code → Meets 𝓛 calls.box-size.types.signature (𝓡.run (𝓡.env box-size·symbol.name)) (promised calls.box-size 𝓛)
+  box-size-quoted = box-size·met.met 𝓤 𝓛 𝓜 𝓡
 
-  pub continues-quoted : (κs : Regions calls.continues) (a : Given calls.continues κs) → (continues·.clauses 𝓛 mem run κs a).ensures tt ≡ (λ z e. fact 𝓤 (calls.continues.Learnt κs a z e))
-  continues-quoted κs a = refl
+  pub children-quoted : Wired 𝓡.env children·symbol.code → Meets 𝓛 calls.children.types.signature (𝓡.run (𝓡.env children·symbol.name)) (promised calls.children 𝓛)
+  children-quoted = children·met.met 𝓤 𝓛 𝓜 𝓡
 
-  pub rows-of-table-asks-nothing : (κs : Regions calls.rows-of-table) (a : Given calls.rows-of-table κs) → (rows-of-table·.clauses 𝓛 mem run κs a).requires tt ≡ emp 𝓤
-  rows-of-table-asks-nothing κs a = refl
+  pub child-place-quoted : Wired 𝓡.env child-place·symbol.code → Meets 𝓛 calls.child-place.types.signature (𝓡.run (𝓡.env child-place·symbol.name)) (promised calls.child-place 𝓛)
+  child-place-quoted = child-place·met.met 𝓤 𝓛 𝓜 𝓡
 
-  pub rows-of-table-quoted : (κs : Regions calls.rows-of-table) (a : Given calls.rows-of-table κs) → (rows-of-table·.clauses 𝓛 mem run κs a).ensures tt ≡ (λ z e. fact 𝓤 (calls.rows-of-table.Learnt κs a z e))
-  rows-of-table-quoted κs a = refl
+  pub child-quoted : Wired 𝓡.env child·symbol.code → Meets 𝓛 calls.child.types.signature (𝓡.run (𝓡.env child·symbol.name)) (promised calls.child 𝓛)
+  child-quoted = child·met.met 𝓤 𝓛 𝓜 𝓡
 
-  pub segments-of-frames-asks-nothing : (κs : Regions calls.segments-of-frames) (a : Given calls.segments-of-frames κs) → (segments-of-frames·.clauses 𝓛 mem run κs a).requires tt ≡ emp 𝓤
-  segments-of-frames-asks-nothing κs a = refl
+  pub find-box-place-quoted : Wired 𝓡.env find-box-place·symbol.code → Meets 𝓛 calls.find-box-place.types.signature (𝓡.run (𝓡.env find-box-place·symbol.name)) (promised calls.find-box-place 𝓛)
+  find-box-place-quoted = find-box-place·met.met 𝓤 𝓛 𝓜 𝓡
 
-  pub segments-of-frames-quoted : (κs : Regions calls.segments-of-frames) (a : Given calls.segments-of-frames κs) → (segments-of-frames·.clauses 𝓛 mem run κs a).ensures tt ≡ (λ z e. fact 𝓤 (calls.segments-of-frames.Learnt κs a z e))
-  segments-of-frames-quoted κs a = refl
+  pub find-box-quoted : Wired 𝓡.env find-box·symbol.code → Meets 𝓛 calls.find-box.types.signature (𝓡.run (𝓡.env find-box·symbol.name)) (promised calls.find-box 𝓛)
+  find-box-quoted = find-box·met.met 𝓤 𝓛 𝓜 𝓡
 
-  pub validate-asks-nothing : (κs : Regions calls.validate) (a : Given calls.validate κs) → (validate·.clauses 𝓛 mem run κs a).requires tt ≡ emp 𝓤
-  validate-asks-nothing κs a = refl
+  pub table-text-place-quoted : Wired 𝓡.env table-text-place·symbol.code → Meets 𝓛 calls.table-text-place.types.signature (𝓡.run (𝓡.env table-text-place·symbol.name)) (promised calls.table-text-place 𝓛)
+  table-text-place-quoted = table-text-place·met.met 𝓤 𝓛 𝓜 𝓡
 
-  pub validate-quoted : (κs : Regions calls.validate) (a : Given calls.validate κs) → (validate·.clauses 𝓛 mem run κs a).ensures tt ≡ (λ z e. fact 𝓤 (calls.validate.Learnt κs a z e))
-  validate-quoted κs a = refl
+  pub table-text-quoted : Wired 𝓡.env table-text·symbol.code → Meets 𝓛 calls.table-text.types.signature (𝓡.run (𝓡.env table-text·symbol.name)) (promised calls.table-text 𝓛)
+  table-text-quoted = table-text·met.met 𝓤 𝓛 𝓜 𝓡
 
-  pub check-mcraw-asks-nothing : (κs : Regions calls.check-mcraw) (a : Given calls.check-mcraw κs) → (check-mcraw·.clauses 𝓛 mem run κs a).requires tt ≡ emp 𝓤
-  check-mcraw-asks-nothing κs a = refl
+  pub video-frame-times-of-moov-quoted : Wired 𝓡.env video-frame-times-of-moov·symbol.code → Meets 𝓛 calls.video-frame-times-of-moov.types.signature (𝓡.run (𝓡.env video-frame-times-of-moov·symbol.name)) (promised calls.video-frame-times-of-moov 𝓛)
+  video-frame-times-of-moov-quoted = video-frame-times-of-moov·met.met 𝓤 𝓛 𝓜 𝓡
 
-  pub check-mcraw-quoted : (κs : Regions calls.check-mcraw) (a : Given calls.check-mcraw κs) → (check-mcraw·.clauses 𝓛 mem run κs a).ensures tt ≡ (λ z e. fact 𝓤 (calls.check-mcraw.Learnt κs a z e))
-  check-mcraw-quoted κs a = refl
+  pub mcraw-times-quoted : Wired 𝓡.env mcraw-times·symbol.code → Meets 𝓛 calls.mcraw-times.types.signature (𝓡.run (𝓡.env mcraw-times·symbol.name)) (promised calls.mcraw-times 𝓛)
+  mcraw-times-quoted = mcraw-times·met.met 𝓤 𝓛 𝓜 𝓡
 
-  pub box-size-asks-nothing : (κs : Regions calls.box-size) (a : Given calls.box-size κs) → (box-size·.clauses 𝓛 mem run κs a).requires tt ≡ emp 𝓤
-  box-size-asks-nothing κs a = refl
+  pub cut-quoted : Wired 𝓡.env cut·symbol.code → Meets 𝓛 calls.cut.types.signature (𝓡.run (𝓡.env cut·symbol.name)) (promised calls.cut 𝓛)
+  cut-quoted = cut·met.met 𝓤 𝓛 𝓜 𝓡
 
-  pub box-size-quoted : (κs : Regions calls.box-size) (a : Given calls.box-size κs) → (box-size·.clauses 𝓛 mem run κs a).ensures tt ≡ (λ z e. fact 𝓤 (calls.box-size.Learnt κs a z e))
-  box-size-quoted κs a = refl
+  pub merge-quoted : Wired 𝓡.env merge·symbol.code → Meets 𝓛 calls.merge.types.signature (𝓡.run (𝓡.env merge·symbol.name)) (promised calls.merge 𝓛)
+  merge-quoted = merge·met.met 𝓤 𝓛 𝓜 𝓡
 
-  pub children-asks-nothing : (κs : Regions calls.children) (a : Given calls.children κs) → (children·.clauses 𝓛 mem run κs a).requires tt ≡ emp 𝓤
-  children-asks-nothing κs a = refl
+  pub join-quoted : Wired 𝓡.env join·symbol.code → Meets 𝓛 calls.join.types.signature (𝓡.run (𝓡.env join·symbol.name)) (promised calls.join 𝓛)
+  join-quoted = join·met.met 𝓤 𝓛 𝓜 𝓡
 
-  pub children-quoted : (κs : Regions calls.children) (a : Given calls.children κs) → (children·.clauses 𝓛 mem run κs a).ensures tt ≡ (λ z e. fact 𝓤 (calls.children.Learnt κs a z e))
-  children-quoted κs a = refl
+  pub origin-quoted : Wired 𝓡.env origin·symbol.code → Meets 𝓛 calls.origin.types.signature (𝓡.run (𝓡.env origin·symbol.name)) (promised calls.origin 𝓛)
+  origin-quoted = origin·met.met 𝓤 𝓛 𝓜 𝓡
 
-  pub child-place-asks-nothing : (κs : Regions calls.child-place) (a : Given calls.child-place κs) → (child-place·.clauses 𝓛 mem run κs a).requires tt ≡ emp 𝓤
-  child-place-asks-nothing κs a = refl
+  pub cuts-quoted : Wired 𝓡.env cuts·symbol.code → Meets 𝓛 calls.cuts.types.signature (𝓡.run (𝓡.env cuts·symbol.name)) (promised calls.cuts 𝓛)
+  cuts-quoted = cuts·met.met 𝓤 𝓛 𝓜 𝓡
 
-  pub child-place-quoted : (κs : Regions calls.child-place) (a : Given calls.child-place κs) → (child-place·.clauses 𝓛 mem run κs a).ensures tt ≡ (λ z e. fact 𝓤 (calls.child-place.Learnt κs a z e))
-  child-place-quoted κs a = refl
-
-  pub child-asks-nothing : (κs : Regions calls.child) (a : Given calls.child κs) → (child·.clauses 𝓛 mem run κs a).requires tt ≡ emp 𝓤
-  child-asks-nothing κs a = refl
-
-  pub child-quoted : (κs : Regions calls.child) (a : Given calls.child κs) → (child·.clauses 𝓛 mem run κs a).ensures tt ≡ (λ z e. fact 𝓤 (calls.child.Learnt κs a z e))
-  child-quoted κs a = refl
-
-  pub find-box-place-asks-nothing : (κs : Regions calls.find-box-place) (a : Given calls.find-box-place κs) → (find-box-place·.clauses 𝓛 mem run κs a).requires tt ≡ emp 𝓤
-  find-box-place-asks-nothing κs a = refl
-
-  pub find-box-place-quoted : (κs : Regions calls.find-box-place) (a : Given calls.find-box-place κs) → (find-box-place·.clauses 𝓛 mem run κs a).ensures tt ≡ (λ z e. fact 𝓤 (calls.find-box-place.Learnt κs a z e))
-  find-box-place-quoted κs a = refl
-
-  pub find-box-asks-nothing : (κs : Regions calls.find-box) (a : Given calls.find-box κs) → (find-box·.clauses 𝓛 mem run κs a).requires tt ≡ emp 𝓤
-  find-box-asks-nothing κs a = refl
-
-  pub find-box-quoted : (κs : Regions calls.find-box) (a : Given calls.find-box κs) → (find-box·.clauses 𝓛 mem run κs a).ensures tt ≡ (λ z e. fact 𝓤 (calls.find-box.Learnt κs a z e))
-  find-box-quoted κs a = refl
-
-  pub table-text-place-asks-nothing : (κs : Regions calls.table-text-place) (a : Given calls.table-text-place κs) → (table-text-place·.clauses 𝓛 mem run κs a).requires tt ≡ emp 𝓤
-  table-text-place-asks-nothing κs a = refl
-
-  pub table-text-place-quoted : (κs : Regions calls.table-text-place) (a : Given calls.table-text-place κs) → (table-text-place·.clauses 𝓛 mem run κs a).ensures tt ≡ (λ z e. fact 𝓤 (calls.table-text-place.Learnt κs a z e))
-  table-text-place-quoted κs a = refl
-
-  pub table-text-asks-nothing : (κs : Regions calls.table-text) (a : Given calls.table-text κs) → (table-text·.clauses 𝓛 mem run κs a).requires tt ≡ emp 𝓤
-  table-text-asks-nothing κs a = refl
-
-  pub table-text-quoted : (κs : Regions calls.table-text) (a : Given calls.table-text κs) → (table-text·.clauses 𝓛 mem run κs a).ensures tt ≡ (λ z e. fact 𝓤 (calls.table-text.Learnt κs a z e))
-  table-text-quoted κs a = refl
-
-  pub video-frame-times-of-moov-asks-nothing : (κs : Regions calls.video-frame-times-of-moov) (a : Given calls.video-frame-times-of-moov κs) → (video-frame-times-of-moov·.clauses 𝓛 mem run κs a).requires tt ≡ emp 𝓤
-  video-frame-times-of-moov-asks-nothing κs a = refl
-
-  pub video-frame-times-of-moov-quoted : (κs : Regions calls.video-frame-times-of-moov) (a : Given calls.video-frame-times-of-moov κs) → (video-frame-times-of-moov·.clauses 𝓛 mem run κs a).ensures tt ≡ (λ z e. fact 𝓤 (calls.video-frame-times-of-moov.Learnt κs a z e))
-  video-frame-times-of-moov-quoted κs a = refl
-
-  pub mcraw-times-asks-nothing : (κs : Regions calls.mcraw-times) (a : Given calls.mcraw-times κs) → (mcraw-times·.clauses 𝓛 mem run κs a).requires tt ≡ emp 𝓤
-  mcraw-times-asks-nothing κs a = refl
-
-  pub mcraw-times-quoted : (κs : Regions calls.mcraw-times) (a : Given calls.mcraw-times κs) → (mcraw-times·.clauses 𝓛 mem run κs a).ensures tt ≡ (λ z e. fact 𝓤 (calls.mcraw-times.Learnt κs a z e))
-  mcraw-times-quoted κs a = refl
-
-  pub cut-asks-nothing : (κs : Regions calls.cut) (a : Given calls.cut κs) → (cut·.clauses 𝓛 mem run κs a).requires tt ≡ emp 𝓤
-  cut-asks-nothing κs a = refl
-
-  pub cut-quoted : (κs : Regions calls.cut) (a : Given calls.cut κs) → (cut·.clauses 𝓛 mem run κs a).ensures tt ≡ (λ z e. fact 𝓤 (calls.cut.Learnt κs a z e))
-  cut-quoted κs a = refl
-
-  pub merge-asks-nothing : (κs : Regions calls.merge) (a : Given calls.merge κs) → (merge·.clauses 𝓛 mem run κs a).requires tt ≡ emp 𝓤
-  merge-asks-nothing κs a = refl
-
-  pub merge-quoted : (κs : Regions calls.merge) (a : Given calls.merge κs) → (merge·.clauses 𝓛 mem run κs a).ensures tt ≡ (λ z e. fact 𝓤 (calls.merge.Learnt κs a z e))
-  merge-quoted κs a = refl
-
-  pub join-asks-nothing : (κs : Regions calls.join) (a : Given calls.join κs) → (join·.clauses 𝓛 mem run κs a).requires tt ≡ emp 𝓤
-  join-asks-nothing κs a = refl
-
-  pub join-quoted : (κs : Regions calls.join) (a : Given calls.join κs) → (join·.clauses 𝓛 mem run κs a).ensures tt ≡ (λ z e. fact 𝓤 (calls.join.Learnt κs a z e))
-  join-quoted κs a = refl
-
-  pub origin-asks-nothing : (κs : Regions calls.origin) (a : Given calls.origin κs) → (origin·.clauses 𝓛 mem run κs a).requires tt ≡ emp 𝓤
-  origin-asks-nothing κs a = refl
-
-  pub origin-quoted : (κs : Regions calls.origin) (a : Given calls.origin κs) → (origin·.clauses 𝓛 mem run κs a).ensures tt ≡ (λ z e. fact 𝓤 (calls.origin.Learnt κs a z e))
-  origin-quoted κs a = refl
-
-  pub cuts-asks-nothing : (κs : Regions calls.cuts) (a : Given calls.cuts κs) → (cuts·.clauses 𝓛 mem run κs a).requires tt ≡ emp 𝓤
-  cuts-asks-nothing κs a = refl
-
-  pub cuts-quoted : (κs : Regions calls.cuts) (a : Given calls.cuts κs) → (cuts·.clauses 𝓛 mem run κs a).ensures tt ≡ (λ z e. fact 𝓤 (calls.cuts.Learnt κs a z e))
-  cuts-quoted κs a = refl
-
-  pub segment-of-frame-records-asks-nothing : (κs : Regions calls.segment-of-frame-records) (a : Given calls.segment-of-frame-records κs) → (segment-of-frame-records·.clauses 𝓛 mem run κs a).requires tt ≡ emp 𝓤
-  segment-of-frame-records-asks-nothing κs a = refl
-
-  pub segment-of-frame-records-quoted : (κs : Regions calls.segment-of-frame-records) (a : Given calls.segment-of-frame-records κs) → (segment-of-frame-records·.clauses 𝓛 mem run κs a).ensures tt ≡ (λ z e. fact 𝓤 (calls.segment-of-frame-records.Learnt κs a z e))
-  segment-of-frame-records-quoted κs a = refl
+  pub segment-of-frame-records-quoted : Wired 𝓡.env segment-of-frame-records·symbol.code → Meets 𝓛 calls.segment-of-frame-records.types.signature (𝓡.run (𝓡.env segment-of-frame-records·symbol.name)) (promised calls.segment-of-frame-records 𝓛)
+  segment-of-frame-records-quoted = segment-of-frame-records·met.met 𝓤 𝓛 𝓜 𝓡

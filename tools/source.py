@@ -1,0 +1,63 @@
+"""What the scripts here read of a Rattle file: the names that its `use` lines bring in, and where each is declared."""
+import os
+import re
+
+CRATES = os.path.join(os.path.dirname(os.path.dirname(os.path.abspath(__file__))), "crates")
+USE = re.compile(r"^(?:pub(?:\(\w+\))? )?use\s+([^;]+);", re.M)
+
+
+def parts(text):
+    """What stands between the commas of a list; a part can be a list in braces itself."""
+    found, depth = [""], 0
+    for c in text:
+        depth += (c == "{") - (c == "}")
+        if c == "," and not depth:
+            found.append("")
+        else:
+            found[-1] += c
+    return [part.strip() for part in found if part.strip()]
+
+
+def leaves(tree, path=()):
+    """(name in the file, path of its module, name there) of each name that one `use` brings in; a group can have groups in it."""
+    group = re.fullmatch(r"((?:\w+::)*)\{(.*)\}", tree, re.S)
+    if group:
+        for part in parts(group[2]):
+            yield from leaves(part, path + tuple(group[1].split("::")[:-1]))
+        return
+    whole, _, alias = tree.partition(" as ")
+    *inside, name = whole.strip().split("::")
+    path += tuple(inside)
+    if name == "self":
+        path, name = path[:-1], path[-1]
+    yield alias.strip() or name, path, name
+
+
+def brought(text):
+    """{name in the file: (path of its module, name there)}. A `ghost use` brings names into clauses alone, and isn't read."""
+    text = re.sub(r"//[^\n]*", "", text)
+    return {name: (path, of) for tree in USE.findall(text) for name, path, of in leaves(" ".join(tree.split()))}
+
+
+def module_of(crate, path):
+    """The crate, and the module in it, that a path names in a file of a crate; another crate of the repository goes by its name."""
+    if path and path[0] == "crate":
+        path = path[1:]
+    elif path and os.path.exists(os.path.join(CRATES, path[0], "src", "lib.rt")):
+        crate, path = path[0], path[1:]
+    return crate, "/".join(path) or "lib"
+
+
+def text_of(crate, module):
+    with open(os.path.join(CRATES, crate, "src", f"{module}.rt"), encoding="utf-8") as file:
+        return file.read()
+
+
+def declared(crate, module, *path):
+    """The crate, the module and the name there of what a file names by some words (`WORDS`, `ticks::NO_TIME`): brought in, under a module's name, or its own."""
+    found = brought(text_of(crate, module)).get(path[0])
+    if found:
+        path = (*found[0], found[1], *path[1:])
+    elif len(path) == 1:
+        return crate, module, path[0]
+    return *module_of(crate, path[:-1]), path[-1]

@@ -1,6 +1,7 @@
-"""What the scripts here read of a Rattle file: the names that its `use` lines bring in, and where each is declared."""
+"""What the scripts here read of a Rattle file: the names that its `use` lines bring in, and where each is declared. Fails where it can't read one."""
 import os
 import re
+import sys
 
 CRATES = os.path.join(os.path.dirname(os.path.dirname(os.path.abspath(__file__))), "crates")
 USE = re.compile(r"^(?:pub(?:\(\w+\))? )?use\s+([^;]+);", re.M)
@@ -28,8 +29,10 @@ def leaves(tree, path=()):
     whole, _, alias = tree.partition(" as ")
     *inside, name = whole.strip().split("::")
     path += tuple(inside)
-    if name == "self":
+    if name == "self" and path:
         path, name = path[:-1], path[-1]
+    if not all(re.fullmatch(r"\w+", word) and word not in ("self", "super") for word in (*path, name)):
+        sys.exit(f"source: `use {'::'.join((*path, whole.strip()))}` is written as this script can't read it")
     yield alias.strip() or name, path, name
 
 
@@ -40,10 +43,11 @@ def brought(text):
 
 
 def module_of(crate, path):
-    """The crate, and the module in it, that a path names in a file of a crate; another crate of the repository goes by its name."""
+    """The crate, and the module in it, that a path names in a file of a crate: by `crate`, by a module of its own, or by another crate of the repository."""
+    there = lambda crate, module: os.path.exists(os.path.join(CRATES, crate, "src", f"{module}.rt"))
     if path and path[0] == "crate":
         path = path[1:]
-    elif path and os.path.exists(os.path.join(CRATES, path[0], "src", "lib.rt")):
+    elif path and not there(crate, path[0]) and there(path[0], "lib"):
         crate, path = path[0], path[1:]
     return crate, "/".join(path) or "lib"
 

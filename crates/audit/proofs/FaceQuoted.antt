@@ -6,7 +6,7 @@ use contract.Running.{Running}
 use denote.Triple.Spec.{Meets}
 use types.Logic.{Logic}
 use Rattle.audit.specs.Face as calls
-use Rattle.audit.proofs.Promised.{promised}
+use Rattle.audit.specs.Promised.{promised}
 use Rattle.segment_table.proofs.clock.st_is_utc_second.Symbol as st-is-utc-second·symbol
 use Rattle.segment_table.proofs.clock.st_is_utc_second.Met as st-is-utc-second·met
 use Rattle.segment_table.proofs.clock.st_ticks_to_us.Symbol as st-ticks-to-us·symbol

@@ -1,4 +1,3 @@
-pub mod Promised
 pub mod Quoted
 pub mod FaceQuoted
 pub mod Once

@@ -6,7 +6,7 @@ use contract.Running.{Running}
 use denote.Triple.Spec.{Meets}
 use types.Logic.{Logic}
 use Rattle.audit.specs.Calls as calls
-use Rattle.audit.proofs.Promised.{promised}
+use Rattle.audit.specs.Promised.{promised}
 use Rattle.ticks.proofs.ticks_to_us.Symbol as ticks-to-us·symbol
 use Rattle.ticks.proofs.ticks_to_us.Met as ticks-to-us·met
 use Rattle.utc.proofs.is_utc_second.Symbol as is-utc-second·symbol

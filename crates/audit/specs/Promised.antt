@@ -1,4 +1,5 @@
--- A promise as the contract of a function, in the form in which the toolchain proves one.
+-- WHAT THE TOOLCHAIN PROVES OF A CALL'S CODE, said of its quoted promise. proofs/Quoted.antt and proofs/FaceQuoted.antt have this theorem of every call: run in
+-- any model of the language, its code `Meets` the contract `promised`. That contract isn't the source's own text but the quotation, so that the two are one.
 use seplogic.Ra.Ura.{Ura}
 use base.Logic.{emp}
 use contract.Monad.{fact}

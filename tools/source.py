@@ -32,7 +32,7 @@ def leaves(tree, path=()):
     if name == "self" and path:
         path, name = path[:-1], path[-1]
     if not all(re.fullmatch(r"\w+", word) and word not in ("self", "super") for word in (*path, name)):
-        sys.exit(f"source: `use {'::'.join((*path, whole.strip()))}` is written as this script can't read it")
+        sys.exit(f"source: `use {'::'.join((*path, name))}` is written as this script can't read it")
     yield alias.strip() or name, path, name
 
 

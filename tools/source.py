@@ -38,16 +38,23 @@ def leaves(tree, path=()):
 
 def brought(text):
     """{name in the file: (path of its module, name there)}. A `ghost use` brings names into clauses alone, and isn't read."""
-    text = re.sub(r"//[^\n]*", "", text)
-    return {name: (path, of) for tree in USE.findall(text) for name, path, of in leaves(" ".join(tree.split()))}
+    text = re.sub(r"/\*.*?\*/|//[^\n]*|\"(?:[^\"\\]|\\.)*\"", "", text, flags=re.S)
+    text = re.sub(r"\bghost use\b[^;]*;", "", text)
+    found = USE.findall(text)
+    if len(found) != len(re.findall(r"\buse\b", text)):
+        sys.exit("source: a `use` doesn't begin its line, which this script can't read")
+    return {name: (path, of) for tree in found for name, path, of in leaves(" ".join(tree.split()))}
+
+
+def is_there(crate, module):
+    return os.path.exists(os.path.join(CRATES, crate, "src", f"{module}.rt"))
 
 
 def module_of(crate, path):
     """The crate, and the module in it, that a path names in a file of a crate: by `crate`, by a module of its own, or by another crate of the repository."""
-    there = lambda crate, module: os.path.exists(os.path.join(CRATES, crate, "src", f"{module}.rt"))
     if path and path[0] == "crate":
         path = path[1:]
-    elif path and not there(crate, path[0]) and there(path[0], "lib"):
+    elif path and not is_there(crate, path[0]) and is_there(path[0], "lib"):
         crate, path = path[0], path[1:]
     return crate, "/".join(path) or "lib"
 
@@ -64,4 +71,6 @@ def declared(crate, module, *path):
         path = (*found[0], found[1], *path[1:])
     elif len(path) == 1:
         return crate, module, path[0]
-    return *module_of(crate, path[:-1]), path[-1]
+    there = module_of(crate, path[:-1])
+    # what a module brings in it can show as its own
+    return declared(*there, path[-1]) if is_there(*there) else (*there, path[-1])

@@ -15,10 +15,10 @@
 // may be corrupted. With one array as both working slices st_video_frame_times_of_moov ends in a segmentation fault;
 // with its timestamps as the starts st_mcraw_times answers wrong starts.
 //
-// Stack. Each call takes less than 4 KiB. Copies and cleared slices are made by the C library's memmove and memset: a
-// program whose loader binds such a name at its first call, which is what many linkers make, takes some 3 KiB more for
-// that, at its first st_join, say: less than 8 KiB in all. Where a task has less, link with `-z now`, which binds names at
-// the start, or statically.
+// Stack, as bindings/c/stack measures it on the machine at hand: each call takes less than 4 KiB. Copies and cleared slices
+// are made by the C library's memmove and memset. A program whose loader binds such a name at its first call, which is what
+// many linkers make, takes some 3 KiB more for that, at its first st_join, say; how much, the loader and the processor
+// decide. Where a task has less, link with `-z now`, which binds names at the start, or statically.
 //
 // A table: `sources`, ten words each: frames; fps numerator, denominator; creation time present (0, 1), its offset and
 // length in `text`; clock (0 none, 1 no modulus, 2 modulus), its rate's numerator, denominator, its modulus. `segments`,

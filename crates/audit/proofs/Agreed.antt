@@ -7,7 +7,7 @@ use lib.IntN.{ℤ}
 use Rattle.slices.specs.Slices.{laid}
 use Rattle.frame_times.specs.declared.FrameTimes.{FrameTimes}
 use Rattle.frame_times.specs.Times.{Outcome, MoovAnswers, room, times_of_moov}
-use Rattle.modes.proofs.Modes.{modes-agree}
+use Rattle.modes.proofs.Modes.{modes_agree}
 use Rattle.audit.specs.Claims.{Agreeing}
 
 -- what a mode answers, another one does that has the same outcome
@@ -21,4 +21,4 @@ same {starts = starts} e p = record {
 }
 
 pub agreeing : Agreeing
-agreeing = record { frame-times = λ moov starts a b starts' a' b' r h. let e = modes-agree moov (room starts a b) h in (same e, same (sym e)) }
+agreeing = record { frame-times = λ moov starts a b starts' a' b' r h. let e = modes_agree moov (room starts a b) h in (same e, same (sym e)) }

@@ -3,7 +3,7 @@ use Prim.Native.Nat.{ℕ, ◌+◌, ◌*◌, ◌≤◌, ◌<◌}
 use mathlib.Core.Path.{sym, subst}
 use lib.IntN.{ℤ}
 use Rattle.signed.specs.Signed.{eq_z}
-use Rattle.ticks.specs.Nearest.{nearest-near, nearest-only, rounded-negated}
+use Rattle.ticks.proofs.Nearest.{nearest-near, nearest-only, rounded-negated}
 use Rattle.order.specs.Order.{MostFrequent}
 use Rattle.order.proofs.Sorted.{asc-sorted}
 use Rattle.order.proofs.Counts.{count-sorted}

@@ -1,5 +1,5 @@
--- WHAT IS CLAIMED OF THE PUBLIC CALLS. `audited`, in proofs/Audited.antt, proves every line; nothing else of proofs/ need be read. A call's name with a capital
--- (`Check`, `Cut`, `Origin`) is its promise, quoted from the source by Calls.antt, in plain lists: the call with these arguments may answer so and leave the lent
+-- WHAT IS CLAIMED OF THE PUBLIC CALLS. `Claims` is the contract of `all_claims_hold`, in src/lib.rt, so the check proves every line; nothing of proofs/ need be read. A call's
+-- name with a capital (`Check`, `Cut`, `Origin`) is its promise, quoted from the source by Calls.antt, in plain lists: the call with these arguments may answer so and leave the lent
 -- slices so. What holds of all such answers holds of every run, since the check proves that a run keeps its promise.
 use Rattle.std.specs.Prelude.{ℕ, ◌+◌, ◌-◌, ◌*◌, ◌≤◌, ◌<◌, Bool, true, false, List, [], ◌↔◌, ◌≡◌, ℤ, neg_ℤ, length, get_or, take, drop}
 use Rattle.std.specs.Borrow.{Bor}

@@ -1,7 +1,6 @@
 -- What a public call's promise is, and what it is for exactly one answer to meet it: the result, and what each lent `&mut` slice holds afterwards.
-use Rattle.std.specs.Prelude.{ℕ, List, ◌≡◌}
+use Rattle.std.specs.Prelude.{◌≡◌}
 use contract.Lifetimes.{Lfts}
-use Rattle.std.specs.Borrow.{Bor, MutBor}
 use denote.Triple.Entry.{Args, Res}
 use denote.Triple.Clauses.{Ended, Lasts, AtExit, at_exit}
 
@@ -45,10 +44,3 @@ module _ (f : Promise) where
   -- the promise of any call, wherever its slices live and lie, is P of it
   abbrev pub Anywhere : ((κs : Regions) (a : Given κs) → End κs a → Type 0) → Type 1
   Anywhere P = (κs : Regions) (a : Given κs) (e : End κs a) → Says κs a e ≡ P κs a e
-
--- what is lent, wherever it lies; to be read, and to be written too
-abbrev pub lent : {X : Type 0} → X → Bor X
-lent x = record { ref_ptr = (0, 0); now = x }
-
-abbrev pub lent_mut : {X : Type 0} → X → MutBor X
-lent_mut x = record { ref_ptr = (0, 0); ghost_name = 0; now = x }

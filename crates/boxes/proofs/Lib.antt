@@ -3,4 +3,3 @@ pub mod Walks
 pub mod Searches
 pub mod Within
 pub mod Parts
-mod Examples

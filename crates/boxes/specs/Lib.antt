@@ -3,3 +3,4 @@ pub mod Boxes
 pub mod Places
 pub mod Tracks
 pub mod Steps
+pub mod Examples

@@ -12,6 +12,7 @@ pub mod track;
 ghost use Rattle.std.specs.Prelude.{◌≡◌};
 ghost use Rattle.boxes.specs.Boxes.{box_size, children_at};
 ghost use Rattle.boxes.specs.Places.{PartAt, child_place, find_box_place, table_text_place};
+ghost use Rattle.boxes.specs.Examples.{WorkedExamples};
 
 use part::{moved, moved_walk, part, place_of};
 use read::code;
@@ -179,3 +180,8 @@ pub fn table_text(file: &[u8]) -> &[u8]
 {
     part(file, table_text_place(file))
 }
+
+// The definitions give the numbers of specs/Examples.antt.
+pub fn worked_examples_hold()
+    ensures { WorkedExamples }
+{}

@@ -11,7 +11,7 @@ use lib.ListN.{length, get_or, take, drop, length-append, length-map, length-dro
 use borrow.Author.Tests.{le-leb, lt-leb}
 use Rattle.choice.specs.Records.{run}
 use Rattle.choice.specs.declared.Refusal.{Refusal}
-use Rattle.choice.specs.declared.Refusal.TheVariants.{Never, At}
+use Rattle.choice.specs.declared.Refusal.TheVariants.{Never}
 use Rattle.choice.proofs.Tests.{same-leb}
 use Rattle.choice.proofs.Runs.{run-cons, run-nil, length_run, get_d-run}
 use Rattle.slices.specs.Slices.{laid}
@@ -23,7 +23,7 @@ use Rattle.rows.specs.Rows.{cut}
 use Rattle.rows.specs.Lent.{row_at, rows, words_of, shifts_of}
 use Rattle.rows.proofs.Demanded.{demanded}
 use Rattle.rows.proofs.Flat.{words_append, shifts-append, length-words, length-shifts}
-use Rattle.maps.specs.declared.Mapped.TheVariants.{Rows, Refused}
+use Rattle.maps.specs.declared.Mapped.TheVariants.{Rows}
 use Rattle.maps.specs.Steps.{Room}
 use Rattle.maps.proofs.Written.{Written, rows_all, words-length, shifts-length, placed-rows}
 use Rattle.cuts.specs.declared.Range.{Range}

@@ -1,5 +1,5 @@
--- WHAT THE CUTS GIVE, beside `cut` of each range alone. `Cuts` and `Cut` say which answers the calls allow, so that each law speaks of any such answers. `lawful`, in
--- proofs/Lawful.antt, proves every line of the promises of Answers.antt and of maps, and the audit claims it of the promises in the source.
+-- WHAT THE CUTS GIVE, beside `cut` of each range alone. `Cuts` and `Cut` say which answers the calls allow, so that each law speaks of any such answers. Every line
+-- is proved of the promises of Answers.antt and of maps, as the contract of `each_cut_is_one_cut`, and the audit claims it of the promises in the source.
 use Rattle.std.specs.Prelude.{ℕ, ◌+◌, ◌*◌, ◌/◌, ◌%◌, ◌≤◌, ◌<◌, List, [], ◌∷◌, ◌≡◌, ℤ, length, get_or, take, drop}
 use Rattle.rows.specs.Rows.{total}
 use Rattle.rows.specs.Lent.{rows}

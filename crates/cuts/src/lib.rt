@@ -3,8 +3,10 @@
 
 ghost use Rattle.std.specs.Prelude.{◌≡◌, ◌+◌, ◌*◌, ◌/◌, ◌≤◌, leb, length};
 ghost use Rattle.rows.specs.Lent.{rows};
+ghost use Rattle.maps.specs.Answers.{Cut};
 ghost use Rattle.maps.specs.Steps.{Room};
 ghost use Rattle.cuts.specs.Answers.{range_at, ranges_of, cuts_of, concat, range_refusal, ranges_refusal, cuts_refusal, Cuts};
+ghost use Rattle.cuts.specs.Laws.{CutsLaws};
 ghost use Rattle.cuts.specs.Steps.{ReadyToCut, AllWritten, room_of};
 
 use choice::Refusal;
@@ -174,3 +176,9 @@ pub fn cuts(
         Refusal::At(n, i) => Mapped::Refused(n, i),
     }
 }
+
+// Each of many cuts is the cut of its range alone.
+#[tactic(auto, using(crate::proofs::Lawful::lawful))]
+pub fn each_cut_is_one_cut()
+    ensures { CutsLaws Cuts Cut }
+{}

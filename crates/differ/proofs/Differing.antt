@@ -15,7 +15,7 @@ use Rattle.rules.proofs.Search.{frames-ordered}
 use Rattle.mcraw.specs.Mcraw.{nanoseconds, nominal}
 use Rattle.judge.specs.declared.Video.{Video}
 use Rattle.judge.specs.Video.{Shown, shown_by}
-use Rattle.judge.specs.Judge.{last_segment, validate_of, single, check_mcraw}
+use Rattle.judge.specs.Judge.{last_segment, validate_of, single, check_mcraw, Settled}
 use Rattle.judge.specs.Means.{Fits, Recorded}
 use Rattle.judge.specs.Paper.{Near, first_source}
 use Rattle.judge.proofs.Meaning.{validated, recorded}
@@ -119,3 +119,7 @@ differing {L} table Validate CheckMcraw judged settled = record {
 
     holds : (l : L) {ts a b a' b' : List ℤ} {N : ℕ} → CheckMcraw l ts a b (Frames N) a' b' → Recorded (table l) ts (length a) (length b) N
     holds l x = (recorded (table l) _ _ _ _).0 (sym (settled l _ _ _ _ _ _ x))
+
+-- the judge's own calls
+pub by_the_judge : Differing (λ (t : Table). t) (λ t video starts r. r ≡ validate_of t (shown_by video starts)) Settled
+by_the_judge = differing _ _ _ (λ t video starts r p. p) (λ t ts a b a' b' r p. p.answer)

@@ -1,5 +1,5 @@
 -- HOW FAR TWO TABLES OF ONE VIDEO MAY DIFFER (document 02, n), of any two calls that judge a table. `Validate` and `CheckMcraw` say which answers the calls allow of a
--- table as it is lent. `differing`, in proofs/Differing.antt, proves every line of calls that answer by judge/specs/Judge.antt, and the audit claims it of the promises in the source.
+-- table as it is lent. Every line is proved of calls that answer by judge/specs/Judge.antt, as the contract of `tables_of_one_video`, and the audit claims it of the promises in the source.
 use Rattle.std.specs.Prelude.{ℕ, suc, ◌*◌, ◌<◌, List, [], ◌∷◌, ◌≡◌, ℤ, pos, nat_abs, ◌+ℤ◌, ◌-ℤ◌, ◌*ℤ◌, length, ◌≤ℤ◌}
 use Rattle.rules.specs.declared.Source.{Source}
 use Rattle.rules.specs.declared.Checked.{Checked}

@@ -1,2 +1,14 @@
-// No code: specs/ says how far two tables of one video may differ, and proofs/ proves it.
+// How far two tables of one video may differ. The theorem is the contract of a function that does nothing.
 #![tactic(auto)]
+
+ghost use Rattle.std.specs.Prelude.{◌≡◌};
+ghost use Rattle.judge.specs.Video.{shown_by};
+ghost use Rattle.judge.specs.Judge.{validate_of, Settled};
+ghost use Rattle.differ.specs.Differ.{Differing};
+
+// Of two tables that are accepted for one video and agree in their frame fields, all starts and all durations but the last are
+// the same, and the last ones are near: of the answers that `judge::validate` and `judge::check_mcraw` promise.
+#[tactic(auto, using(crate::proofs::Differing::by_the_judge))]
+pub fn tables_of_one_video()
+    ensures { Differing (λ t. t) (λ t video starts r. r ≡ validate_of t (shown_by video starts)) Settled }
+{}

@@ -22,7 +22,7 @@ use Rattle.tracks.specs.declared.Edit.{Edit}
 use Rattle.tracks.specs.declared.Cursor.{Cursor}
 use Rattle.tracks.specs.Tables.{offset_of, entries_of, entry_total, per_frame, durations}
 use Rattle.tracks.specs.Steps.{rest, There, Next, at_first, offset_wrap, wrapped}
-use Rattle.tracks.proofs.OffsetLaws.{offset-wrapped}
+use Rattle.tracks.proofs.OffsetLaws.{offset_wrapped}
 use Rattle.tracks.proofs.EntryLaws.{length-per-frame}
 use Rattle.frame_times.specs.declared.Kept.{Kept}
 use Rattle.frame_times.specs.Frames.{Frame, frames_from, in_edit, kept, cts_of, last_of}
@@ -125,7 +125,7 @@ module _ (u : Bool) (e : Edit) (stts ctts : List ℕ) (whole : List Frame) (time
     added = to_z w64 t +ℤ read o
 
     sum_is : added ≡ frame.cts
-    sum_is = λ i. to_z_pos w64 {n = t} (omega (arith, frame-good.decode-near)) i +ℤ (back o oi ∙ oe ∙ ap (λ n. wrapped n os'.value) w ∙ offset-wrapped u os'.value) i
+    sum_is = λ i. to_z_pos w64 {n = t} (omega (arith, frame-good.decode-near)) i +ℤ (back o oi ∙ oe ∙ ap (λ n. wrapped n os'.value) w ∙ offset_wrapped u os'.value) i
 
     pub cts-fits : I64 added
     cts-fits = subst I64 (sym sum_is) (omega (arith, frame-good.cts-near))

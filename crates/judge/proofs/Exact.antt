@@ -104,9 +104,9 @@ video-agrees t video starts =
     (append _ _ _ _ (starts-agree t v) (front 25 0 _ _ (unless (near t v)) none))))
 
 -- of every table and video
-pub validated-rightly : (t : Table) (video : Video) (starts : List ℤ) → Rightly (validate_of t (shown_by video starts)) (validate_tests t video starts) (frame_total t.segments)
+pub validated_rightly : (t : Table) (video : Video) (starts : List ℤ) → Rightly (validate_of t (shown_by video starts)) (validate_tests t video starts) (frame_total t.segments)
 unfolding validate_of
-validated-rightly t video starts = right _ _ (frame_total t.segments) (append _ _ _ _ (agrees t) (video-agrees t video starts))
+validated_rightly t video starts = right _ _ (frame_total t.segments) (append _ _ _ _ (agrees t) (video-agrees t video starts))
 
 -- ---- a recording
 -- the refusal of its times, as the judge gives it
@@ -185,6 +185,6 @@ recording-agrees t (x ∷ []) a b = video-agrees t (Constant 1 (first_source t).
 recording-agrees t (x ∷ (y ∷ l)) a b = rw (ne_eqb (suc (suc (length l))) 1 (λ q. omega arith)) (timed-agrees t (x ∷ (y ∷ l)) a b)
 
 -- of every table and recording
-pub recorded-rightly : (t : Table) (ts : List ℤ) (a b : ℕ) → Rightly (check_mcraw t ts a b) (mcraw_tests t ts a b) (frame_total t.segments)
+pub recorded_rightly : (t : Table) (ts : List ℤ) (a b : ℕ) → Rightly (check_mcraw t ts a b) (mcraw_tests t ts a b) (frame_total t.segments)
 unfolding check_mcraw
-recorded-rightly t ts a b = right _ _ (frame_total t.segments) (append _ _ _ _ (agrees t) (recording-agrees t ts a b))
+recorded_rightly t ts a b = right _ _ (frame_total t.segments) (append _ _ _ _ (agrees t) (recording-agrees t ts a b))

@@ -5,4 +5,3 @@ pub mod Recordings
 pub mod Meaning
 pub mod Exact
 pub mod Ignored
-pub mod Examples

@@ -3,3 +3,4 @@ pub mod Judge
 pub mod Means
 pub mod Paper
 pub mod Steps
+pub mod Examples

@@ -1,5 +1,5 @@
--- WHAT IT MEANS THAT A TABLE IS ACCEPTED FOR A VIDEO, in document 01's words. proofs/Meaning.antt proves that `validate` accepts exactly the tables
--- that fit their video, and `check_mcraw` exactly those that are recorded.
+-- WHAT IT MEANS THAT A TABLE IS ACCEPTED FOR A VIDEO, in document 01's words. It is proved that `validate` accepts exactly the tables that
+-- fit their video, and `check_mcraw` exactly those that are recorded: the contracts of `accepted_tables_fit_their_video` and `accepted_tables_fit_their_recording`.
 use Rattle.std.specs.Prelude.{ℕ, suc, ◌<◌, ◌≡◌, true, false, List, ◌⊎◌, ℤ, pos, nat_abs, ◌+ℤ◌, ◌-ℤ◌, ◌*ℤ◌, length, ◌≤ℤ◌}
 use Rattle.choice.specs.declared.Refusal.TheVariants.{Never}
 use Rattle.signed.specs.Rounded.{rounded}

@@ -1,5 +1,5 @@
 -- DOCUMENT 01'S REFUSALS OF A TABLE BY ITS VIDEO, 20 to 25, AND BY ITS RECORDING, 30 to 35, in its own words and testing order, after rules/specs/Paper.antt.
--- proofs/Exact.antt proves that what `validate` and `check_mcraw` answer is right by them. Products and times are integers here, without bounds.
+-- What `validate` and `check_mcraw` answer is proved right by them: the contracts of `refusals_by_video_are_right` and `refusals_by_recording_are_right`. Products and times are integers here, without bounds.
 use Rattle.std.specs.Prelude.{ℕ, ◌-◌, ◌<◌, ◌^◌, ◌≡◌, List, [], ◌∷◌, ◌++◌, ◌⊎◌, ℤ, pos, nat_abs, neg_ℤ, ◌+ℤ◌, ◌-ℤ◌, ◌*ℤ◌, length, get_or, ◌<ℤ◌, ◌≤ℤ◌}
 use Rattle.signed.specs.Rounded.{rounded}
 use Rattle.ticks.specs.Ticks.{largest_scale}

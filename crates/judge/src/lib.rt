@@ -1,14 +1,21 @@
 // A table against its video, and against a MotionCam recording. The Rust's validate and check_mcraw.
 #![tactic(auto)]
 
-ghost use Rattle.std.specs.Prelude.{◌≡◌, false, List, ◌+◌, ◌*◌, ◌/◌, ◌≤◌, ◌<◌, ◌^◌, length, get_or, ℤ, pos, ◌+ℤ◌};
+ghost use Rattle.std.specs.Prelude.{◌≡◌, false, List, ◌+◌, ◌*◌, ◌/◌, ◌≤◌, ◌<◌, ◌^◌, length, get_or, ℤ, pos, ◌+ℤ◌, ◌↔◌, ℕ};
 ghost use Rattle.choice.specs.Records.{run, first_refused};
 ghost use Rattle.signed.specs.Steps.{I64};
 ghost use Rattle.ticks.specs.Ticks.{micros_of, ends_near};
+ghost use Rattle.rules.specs.declared.Checked.TheVariants.{Frames};
+ghost use Rattle.rules.specs.Records.{Table, frame_total};
+ghost use Rattle.rules.specs.Paper.{Rightly};
 ghost use Rattle.table.specs.Layout.{source_words, segment_words, segment_stamps, stamps_at, segment_at, sources_of, segments_of, table_of};
-ghost use Rattle.judge.specs.Video.{shown_by};
+ghost use Rattle.judge.specs.declared.Video.{Video};
+ghost use Rattle.judge.specs.Video.{Shown, shown_by};
 ghost use Rattle.judge.specs.Judge.{starts_at, start_refusal, video_refusal, validate_of, single, recoded, recording_refusal, check_mcraw, Settled};
+ghost use Rattle.judge.specs.Means.{Fits, Recorded};
+ghost use Rattle.judge.specs.Paper.{validate_tests, mcraw_tests};
 ghost use Rattle.judge.specs.Steps.{Ready};
+ghost use Rattle.judge.specs.Examples.{WorkedExamples};
 
 use choice::Refusal;
 use mcraw::RecordingTimes;
@@ -346,3 +353,30 @@ pub fn check_mcraw(
     slices::clear(work_b);
     r
 }
+
+// A table that is judged by its video is refused with the first condition that holds, and accepted where none does.
+#[tactic(auto, using(crate::proofs::Exact::validated_rightly))]
+pub fn refusals_by_video_are_right()
+    ensures { (t : Table) (video : Video) (starts : List ℤ) → Rightly (validate_of t (shown_by video starts)) (validate_tests t video starts) (frame_total t.segments) }
+{}
+
+// The same of a table that is judged by its recording.
+#[tactic(auto, using(crate::proofs::Exact::recorded_rightly))]
+pub fn refusals_by_recording_are_right()
+    ensures { (t : Table) (ts : List ℤ) (a b : ℕ) → Rightly (check_mcraw t ts a b) (mcraw_tests t ts a b) (frame_total t.segments) }
+{}
+
+// A table is accepted for a video, with the video's frames, exactly where it fits it.
+pub fn accepted_tables_fit_their_video()
+    ensures { (t : Table) (v : Shown) (N : ℕ) → (validate_of t v ≡ Frames N) ↔ Fits t v N }
+{}
+
+// The same of a recording.
+pub fn accepted_tables_fit_their_recording()
+    ensures { (t : Table) (ts : List ℤ) (a b N : ℕ) → (check_mcraw t ts a b ≡ Frames N) ↔ Recorded t ts a b N }
+{}
+
+// The definitions give the numbers of specs/Examples.antt.
+pub fn worked_examples_hold()
+    ensures { WorkedExamples }
+{}

@@ -1,4 +1,3 @@
 pub mod Last
 pub mod Started
 pub mod Found
-pub mod Examples

@@ -1,14 +1,14 @@
 -- Halving over times: word `at` is the start of the first of the segments that are left. Assumes nothing.
-use Prim.Native.Nat.{ℕ, ◌+◌, ◌-◌, ◌*◌, ◌/◌, ◌%◌, ◌≤◌, ◌<◌}
+use Prim.Native.Nat.{ℕ, ◌+◌, ◌-◌, ◌*◌, ◌/◌, ◌%◌, ◌<◌}
 use native.Mathlib.Omega.{arith}
 use mathlib.Core.Bool.{false}
 use mathlib.Core.List.{List}
 use mathlib.Core.Path.{◌≡◌, refl, ap, subst}
 use lib.IntN.{ℤ, pos, nat_abs}
 use lib.ListN.{length, get_or}
-use Rattle.rows.proofs.Begun.{Halved, halved-start, halved-up, halved-down}
+use Rattle.rows.proofs.Begun.{Halved, halved-start, halved-down}
 use Rattle.rules.specs.Rules.{negative}
-use Rattle.lookup.specs.Steps.{start_us_at, StartsRise, LastStarted}
+use Rattle.lookup.specs.Steps.{start_us_at, StartsRise}
 
 pub record Started (t : List ℤ) (n time at left : ℕ) : Type 0 where
   pub word : at % 7 ≡ 1

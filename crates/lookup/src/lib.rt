@@ -7,6 +7,7 @@ ghost use Rattle.rules.specs.Rules.{negative};
 ghost use Rattle.rules.specs.Lookups.{segment_of_frame, segment_of_time, same_shift, segment_runs_on, continues_at};
 ghost use Rattle.table.specs.Layout.{segment_words, segment_stamps, words_at, segment_at, table_of};
 ghost use Rattle.lookup.specs.Steps.{end_at, Searchable, index_in, StartsRise, LastStarted};
+ghost use Rattle.lookup.specs.Examples.{WorkedExamples};
 
 use rules::{Checked, Continued, Lookup};
 use table::{STAMPS, WORDS};
@@ -136,3 +137,8 @@ pub fn continues(
     }
     Continued::Answer(runs_on(u, t, r))
 }
+
+// The definitions give the numbers of specs/Examples.antt.
+pub fn worked_examples_hold()
+    ensures { WorkedExamples }
+{}

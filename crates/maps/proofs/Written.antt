@@ -4,14 +4,14 @@ use lib.Seq.{sets}
 use Rattle.choice.specs.Choice.{when, max_u64}
 use Rattle.choice.specs.Records.{run}
 use Rattle.choice.specs.declared.Refusal.{Refusal}
-use Rattle.choice.specs.declared.Refusal.TheVariants.{Never, At}
+use Rattle.choice.specs.declared.Refusal.TheVariants.{Never}
 use Rattle.choice.proofs.Runs.{run-cons, run-nil}
 use Rattle.slices.specs.Slices.{laid}
 use Rattle.slices.proofs.Laid.{length-laid, set-laid, sets-laid}
 use Rattle.rows.specs.declared.Row.{Row}
 use Rattle.rows.specs.Rows.{total, ok_row, runs_on, glue, merge_into, merge}
 use Rattle.rows.proofs.Merging.{runs_on-true}
-use Rattle.maps.specs.declared.Mapped.TheVariants.{Rows, Refused}
+use Rattle.maps.specs.declared.Mapped.TheVariants.{Rows}
 use Rattle.maps.specs.declared.Frames.TheVariants as frames
 use Rattle.rows.specs.Lent.{row_at, rows, words, words_of, shifts_of}
 use Rattle.rows.proofs.Flat.{words_append, shifts-append, length-words, length-shifts}

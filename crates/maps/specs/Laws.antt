@@ -1,5 +1,5 @@
 -- WHAT THE CALLS GIVE TOGETHER: demand 3, of any four calls. `Cut`, `Join`, `Merge` and `Trace` say which answers the calls allow, so that each law speaks of
--- any such answers. `lawful`, in proofs/Lawful.antt, proves every line of the promises of Answers.antt, and the audit claims it of the promises in the source.
+-- any such answers. Every line is proved of the promises of Answers.antt, as the contract of `calls_keep_origins`, and the audit claims it of the promises in the source.
 use Rattle.std.specs.Prelude.{◌≡◌, ℕ, ◌+◌, ◌-◌, ◌*◌, ◌<◌, ◌≤◌, ◌↔◌, List, length, take, drop, ℤ}
 use Rattle.choice.specs.Choice.{max_u64}
 use Rattle.rows.specs.declared.Row.{Row}

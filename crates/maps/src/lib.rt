@@ -10,6 +10,7 @@ ghost use Rattle.rows.specs.Rows.{row_end, total, ok_row, clip, cut, moved, join
 ghost use Rattle.rows.specs.Lent.{row_at, rows, words, words_of, shifts_of};
 ghost use Rattle.maps.specs.Answers.{sized, fits, first_bad, map_refusal, join_refusal, merge_refusal, Cut, Join, Merge, Trace};
 ghost use Rattle.maps.specs.Steps.{Sound, Room, Holder, counted, Span, Planned};
+ghost use Rattle.maps.specs.Laws.{Laws};
 
 use choice::{MAX_U64, Refusal};
 use rows::Row;
@@ -486,3 +487,9 @@ pub fn origin(u: &[u64], s: &[i64], frame: u64) -> Traced
         }
     }
 }
+
+// What the calls give together: what is written is a map again, with the origins that it must have.
+#[tactic(auto, using(crate::proofs::Lawful::lawful))]
+pub fn calls_keep_origins()
+    ensures { Laws Cut Join Merge Trace }
+{}

@@ -2,4 +2,3 @@ pub mod Gaps
 pub mod Spans
 pub mod Holds
 pub mod Answers
-pub mod Examples

@@ -1,1 +1,2 @@
 pub mod Mcraw
+pub mod Examples

@@ -6,6 +6,7 @@ ghost use Rattle.signed.specs.Steps.{I64};
 ghost use Rattle.slices.specs.Slices.{laid, All};
 ghost use Rattle.order.specs.Steps.{count_lt};
 ghost use Rattle.mcraw.specs.Mcraw.{gaps, starts_of, nominal, fall_of, mcraw_times, starts_written, McrawAnswers};
+ghost use Rattle.mcraw.specs.Examples.{WorkedExamples};
 
 use choice::{NO_ROOM, NO_TIMES, OUTSIDE, Refusal, TOO_LONG};
 use signed::Held;
@@ -161,3 +162,8 @@ pub fn mcraw_times(timestamps: &[i64], starts: &mut [i64], work: &mut [i64]) -> 
     slices::clear(work);
     r
 }
+
+// The definitions give the numbers of specs/Examples.antt.
+pub fn worked_examples_hold()
+    ensures { WorkedExamples }
+{}

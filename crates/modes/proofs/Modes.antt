@@ -76,9 +76,9 @@ module _ (bytes room movie : ℕ) where
   by-track base t h = same_in base (first_of mdia (boxes_of t)) t _ _ (λ at. by-media (child_of edts t) at (child_of mdia t) h)
 
 -- both readings of a moov are the same where no offset of version 0 has its top bit set
-pub modes-agree : (moov : List ℕ) (room : ℕ) → NoTopBit (ctts_of moov) → times_of_moov true moov room ≡ times_of_moov false moov room
+pub modes_agree : (moov : List ℕ) (room : ℕ) → NoTopBit (ctts_of moov) → times_of_moov true moov room ≡ times_of_moov false moov room
 unfolding times_of_moov
-modes-agree moov room h =
+modes_agree moov room h =
     ap (λ (o : Outcome). if ltb most_bytes (length moov) then refused too_long else o)
     (same_in 0 (first_of mvhd (boxes_of moov)) moov _ _
     (λ at. ap (λ (o : Outcome). if has_scale (child_of mvhd moov) then o else refused no_times)

@@ -8,4 +8,3 @@ pub mod Joining
 pub mod Halves
 pub mod Runs
 pub mod Mode
-pub mod Examples

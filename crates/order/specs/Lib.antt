@@ -1,3 +1,4 @@
 pub mod Order
 pub mod Meeting
 pub mod Steps
+pub mod Examples

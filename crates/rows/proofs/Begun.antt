@@ -3,10 +3,8 @@ use Prim.Native.Nat.{ℕ, ◌+◌, ◌-◌, ◌*◌, ◌/◌, ◌%◌, ◌≤◌
 use native.Mathlib.Omega.{arith}
 use mathlib.Core.List.{List}
 use mathlib.Core.Path.{◌≡◌, refl, ap, subst}
-use mathlib.Core.Logic.{⊎_elim}
-use lib.ListN.{length, get_or}
-use Rattle.choice.proofs.Tests.{le-or-lt}
-use Rattle.rows.specs.Steps.{out_at, OutsRise, LastBegun}
+use lib.ListN.{get_or}
+use Rattle.rows.specs.Steps.{out_at, OutsRise}
 
 pub record Halved (b : ℕ → ℕ) (n v lo left : ℕ) : Type 0 where
   pub some : 0 < left

@@ -1,4 +1,4 @@
--- WHAT IS PROVED OF FRAME MAPS (demand 3), over the definitions of Rows. `demanded`, in proofs/Demanded.antt, proves every line.
+-- WHAT IS PROVED OF FRAME MAPS (demand 3), over the definitions of Rows. Every line is in the contract of `maps_meet_the_demands`.
 use Rattle.std.specs.Prelude.{ℕ, ◌+◌, ◌-◌, ◌≤◌, ◌<◌, true, false, List, [], ◌∷◌, ◌↔◌, ◌≡◌, pos, length, get_or}
 use Rattle.choice.specs.Choice.{max_u64}
 use Rattle.rows.specs.declared.Row.{Row}

@@ -3,6 +3,7 @@
 
 ghost use Rattle.std.specs.Prelude.{◌≤◌};
 ghost use Rattle.rows.specs.Steps.{out_at, OutsRise, LastBegun};
+ghost use Rattle.rows.specs.Demands.{Demands};
 
 // A row of a frame map: `count` frames of a source from its frame `first` on, put out from frame `out` on, with a shift where the flag is 1.
 #[derive(Clone, Copy)]
@@ -33,3 +34,9 @@ pub fn last_begun(u: &[u64], n: usize, frame: u64) -> usize
     }
     at / 5
 }
+
+// The rows of a well-formed map tile its frames, and cut, join and merge keep origins.
+#[tactic(auto, using(crate::proofs::Demanded::demanded))]
+pub fn maps_meet_the_demands()
+    ensures { Demands }
+{}

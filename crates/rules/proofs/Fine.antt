@@ -9,7 +9,7 @@ use lib.ListN.{length}
 use lib.IntN.{ℤ, pos, negsuc, nat_abs}
 use mir.Syntax.{w64}
 use mir.Val.{SFits}
-use borrow.Author.Tests.{eq-eqb, ne_eqb, eqb-true, eqb-false, ltb-false, leb-false, lt-leb, not-true, not-false}
+use borrow.Author.Tests.{eq-eqb, ne_eqb, eqb-true, eqb-false, ltb-false, leb-false, not-true, not-false}
 use Rattle.choice.specs.declared.Refusal.TheVariants.{Never}
 use Rattle.choice.specs.Choice.{past, max_u64, when}
 use Rattle.choice.specs.Records.{first_refused, or_refused}

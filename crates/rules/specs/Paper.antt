@@ -1,5 +1,5 @@
 -- DOCUMENT 01'S TABLE OF REFUSALS, 1 to 17, in its own words: what each condition says of the records, and the order in which they are tested.
--- `rightly`, in proofs/Exact.antt, proves of every table that what `check` answers is right by them. Sums of times are integers here, without bounds.
+-- Of every table what `check` answers is proved right by them, as the contract of `refusals_are_right`. Sums of times are integers here, without bounds.
 use Rattle.std.specs.Prelude.{ℕ, zero, suc, ◌+◌, ◌≤◌, ◌<◌, ◌≡◌, Bool, true, false, List, [], ◌∷◌, ◌++◌, ◌⊎◌, ◌↔◌, length, get_or, take, drop, pos, ◌+ℤ◌, ◌<ℤ◌, ◌≤ℤ◌}
 use Rattle.choice.specs.Choice.{max_u64}
 use Rattle.utc.specs.Utc.{utc_second}

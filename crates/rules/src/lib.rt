@@ -3,7 +3,9 @@
 
 ghost use Rattle.std.specs.Prelude.{◌≡◌, true, false, not, ◌||◌, ◌↔◌, ◌≤◌, nat_abs};
 ghost use Rattle.rules.specs.Limits.{max_i64};
-ghost use Rattle.rules.specs.Rules.{bad_words, no_rate, bad_date, bad_clock, source_refusal, negative, too_late, apart, bad_shift, over_limit, judged, start};
+ghost use Rattle.rules.specs.Records.{Table, frame_total};
+ghost use Rattle.rules.specs.Rules.{bad_words, no_rate, bad_date, bad_clock, source_refusal, negative, too_late, apart, bad_shift, over_limit, judged, start, check_of};
+ghost use Rattle.rules.specs.Paper.{tests, Rightly};
 ghost use Rattle.rules.specs.Steps.{frames_or, times_or, turned, FineFrames, FineShift, out_of_time, seven_stamps, Passing};
 
 use choice::MAX_U64;
@@ -416,3 +418,9 @@ pub fn pass(
         capture: e + f,
     }
 }
+
+// A table is refused with the first condition that holds of it, and accepted where none does.
+#[tactic(auto, using(crate::proofs::Exact::rightly))]
+pub fn refusals_are_right()
+    ensures { (t : Table) → Rightly (check_of t) (tests t) (frame_total t.segments) }
+{}

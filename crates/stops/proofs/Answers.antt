@@ -16,6 +16,7 @@ use Rattle.boxes.specs.declared.Walk.TheVariants.{Found, End, Bad as BadAt}
 use Rattle.frame_times.specs.declared.FrameTimes.{FrameTimes}
 use Rattle.frame_times.specs.declared.FrameTimes.TheVariants as times
 use Rattle.frame_times.specs.Times.{MoovAnswers}
+use Rattle.stops.specs.Promises.{Child, FindBox, Children, FrameTimesOf}
 
 -- every answer of a call is the one that the definition has
 pub record Answers
@@ -25,6 +26,10 @@ pub record Answers
   pub find-box : (b : List ℕ) (start end kind : ℕ) (text : Bool) (r : Place) → FindBox b start end kind text r → r ≡ find_box_place b start end kind text
   pub children : (b : List ℕ) (at : ℕ) (r : Reached) → Children b at r → r ≡ children_at b at
   pub frame-times : (moov : List ℕ) (standard : Bool) (starts a b starts' a' b' : List ℤ) (r : FrameTimes) → FrameTimesOf moov standard starts a b r starts' a' b' → MoovAnswers standard moov starts a b r starts' a' b'
+
+-- the calls themselves, of which each promises just that
+pub promised : Answers Child FindBox Children FrameTimesOf
+promised = record { child = λ b kind r p. p; find-box = λ b start end kind text r p. p; children = λ b at r p. p; frame-times = λ moov standard starts a b starts' a' b' r p. p }
 
 -- P holds of the index, where an answer is 36
 abbrev pub PlaceTold : (ℕ → Type 0) → Place → Type 0

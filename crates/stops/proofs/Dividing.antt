@@ -20,7 +20,8 @@ use Rattle.frame_times.specs.declared.FrameTimes.{FrameTimes}
 use Rattle.frame_times.specs.Times.{room}
 use Rattle.stops.specs.Stops.{Dividing}
 use Rattle.stops.specs.Undivided.{place_taken_back, reached_taken_back, times_taken_back, reached_undivided, child_undivided, find_box_undivided, children_undivided}
-use Rattle.stops.proofs.Answers.{Answers}
+use Rattle.stops.specs.Promises.{Child, FindBox, Children, FrameTimesOf}
+use Rattle.stops.proofs.Answers.{Answers, promised}
 use Rattle.stops.proofs.TakenBack.{moov-back}
 
 -- through a choice
@@ -75,3 +76,6 @@ dividing Child FindBox Children FrameTimesOf given = record {
       let m = given.frame-times moov standard starts a b starts' a' b' r p in
       (ap times_taken_back m.answer ∙ (moov-back standard moov (room starts a b)).answer, m.starts ∙ ap (λ (l : List ℤ). laid l starts) (moov-back standard moov (room starts a b)).starts);
 }
+
+pub divides : Dividing Child FindBox Children FrameTimesOf
+divides = dividing _ _ _ _ promised

@@ -23,7 +23,8 @@ use Rattle.boxes.proofs.Parts.{length_part}
 use Rattle.boxes.proofs.Within.{search-stays}
 use Rattle.frame_times.specs.declared.FrameTimes.{FrameTimes}
 use Rattle.stops.specs.Stops.{ending, Broken, StopsAt, StopsIn, OfOne, searches, Stopping}
-use Rattle.stops.proofs.Answers.{Answers, PlaceTold, ReachedTold, TimesTold, PlaceEnded, place-told, moved_told, place-ended, moved-ended}
+use Rattle.stops.specs.Promises.{Child, FindBox, Children, FrameTimesOf}
+use Rattle.stops.proofs.Answers.{Answers, PlaceTold, ReachedTold, TimesTold, PlaceEnded, place-told, moved_told, place-ended, moved-ended, promised}
 use Rattle.stops.proofs.Ends.{walk_ends, stopped-at-bad}
 use Rattle.stops.proofs.Descent.{moov-told}
 
@@ -107,3 +108,6 @@ stopping Child FindBox Children FrameTimesOf given = record {
   frame-times = λ moov standard starts a b starts' a' b' i p.
       subst (TimesTold (λ i. OfOne (StopsIn moov i) (searches moov))) (sym (given.frame-times moov standard starts a b starts' a' b' _ p).answer) (moov-told moov standard _) refl;
 }
+
+pub stops : Stopping Child FindBox Children FrameTimesOf
+stops = stopping _ _ _ _ promised

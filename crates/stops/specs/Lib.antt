@@ -1,2 +1,3 @@
 pub mod Undivided
 pub mod Stops
+pub mod Promises

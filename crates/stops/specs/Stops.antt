@@ -1,5 +1,5 @@
 -- WHAT 36 SAYS, AND THAT IT ONLY DIVIDES 31 (document 02, g), of any calls that answer by boxes/specs and frame_times/specs. `Child`, `FindBox`, `Children` and `FrameTimesOf`
--- say which answers the calls allow. `stopping` and `dividing`, in proofs/, prove every line, and the audit claims it of the promises in the source.
+-- say which answers the calls allow. Every line is proved of the calls' promises, as the contracts of `stops_at_a_bad_header` and `only_divides`, and the audit claims it of the promises in the source.
 use Rattle.std.specs.Prelude.{ℕ, ◌+◌, ◌-◌, ◌≤◌, Bool, true, false, List, [], ◌∷◌, ◌⊎◌, ◌≡◌, ℤ, length, take, drop}
 use Rattle.slices.specs.Slices.{laid}
 use Rattle.boxes.specs.Bytes.{be32_at, mdia}

@@ -1,2 +1,17 @@
-// No code: specs/ says what 36 means and that it only divides 31, and proofs/ proves it.
+// What 36 means, and that it only divides 31. Each theorem is the contract of a function that does nothing.
 #![tactic(auto)]
+
+ghost use Rattle.stops.specs.Stops.{Stopping, Dividing};
+ghost use Rattle.stops.specs.Promises.{Child, FindBox, Children, FrameTimesOf};
+
+// Where 36 is answered, its index is the offset of a header that is there and bad, and the walk for the box stopped at it.
+#[tactic(auto, using(crate::proofs::Stopping::stops))]
+pub fn stops_at_a_bad_header()
+    ensures { Stopping Child FindBox Children FrameTimesOf }
+{}
+
+// With 36 taken back to 31, every answer is the undivided one.
+#[tactic(auto, using(crate::proofs::Dividing::divides))]
+pub fn only_divides()
+    ensures { Dividing Child FindBox Children FrameTimesOf }
+{}

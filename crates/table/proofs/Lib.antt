@@ -1,4 +1,3 @@
 pub mod Lent
 pub mod Asked
 pub mod Lengths
-pub mod Examples

@@ -67,7 +67,7 @@ bad_lengths s u t =
     (not (eqb (s % source_words) 0) || not (eqb (u % segment_words) 0))
     || (not (eqb (t % segment_stamps) 0) || not (eqb (u / segment_words) (t / segment_stamps)))
 
--- the same as a condition, in the paper's words; `uneven`, in proofs/Lengths.antt, proves that it is
+-- the same as a condition, in the paper's words; the audit claims that it is
 abbrev pub Uneven : ℕ → ℕ → ℕ → Type 0
 Uneven s u t =
     (s % source_words ≡ 0 → ⊥) ⊎ (u % segment_words ≡ 0 → ⊥) ⊎ (t % segment_stamps ≡ 0 → ⊥) ⊎ (u / segment_words ≡ t / segment_stamps → ⊥)

@@ -8,6 +8,7 @@ ghost use Rattle.rules.specs.Steps.{turn_of, walked, FineSource, PassesOf};
 ghost use Rattle.rules.specs.declared.Checked.TheVariants.{Frames};
 ghost use Rattle.table.specs.Layout.{source_words, segment_words, segment_stamps, source_at, words_at, stamps_at, segment_at, sources_of, segments_of, bad_lengths, table_of};
 ghost use Rattle.table.specs.Steps.{FineLengths, FineFront, FineSegments};
+ghost use Rattle.table.specs.Examples.{WorkedExamples};
 
 use choice::Refusal;
 use rules::{Checked, Ends, SixTimes, Source, Turn, Words};
@@ -382,3 +383,8 @@ pub fn check(sources: &[u64], u: &[u64], t: &[i64], log: bool, text: &[u8]) -> C
     }
     Checked::Frames(n)
 }
+
+// The definitions give the numbers of specs/Examples.antt.
+pub fn worked_examples_hold()
+    ensures { WorkedExamples }
+{}

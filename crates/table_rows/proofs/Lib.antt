@@ -1,4 +1,3 @@
 pub mod Written
 pub mod Mapped
 pub mod Alike
-pub mod Examples

@@ -7,7 +7,7 @@ use Rattle.rules.specs.Records.{Table}
 use Rattle.rules.specs.Rules.{check_of}
 use Rattle.table_rows.specs.Rows.{rows_of}
 
--- the rows of an accepted table of N frames are a well-formed map of N frames, one row a segment; `mapped`, in proofs/Mapped.antt, proves it of every table
+-- the rows of an accepted table of N frames are a well-formed map of N frames, one row a segment: the contract of `accepted_rows_are_a_map`
 pub record RowsAreMap (t : Table) : Type 0 where
   pub well : (N : ℕ) → check_of t ≡ Frames N → WellFormed (rows_of t)
   pub frames : (N : ℕ) → check_of t ≡ Frames N → total (rows_of t) ≡ N

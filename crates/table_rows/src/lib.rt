@@ -3,9 +3,12 @@
 
 ghost use Rattle.std.specs.Prelude.{◌≡◌, map, ◌+◌, ◌*◌, ◌/◌, ◌≤◌, length};
 ghost use Rattle.slices.specs.Slices.{laid};
+ghost use Rattle.rules.specs.Records.{Table};
 ghost use Rattle.rows.specs.Lent.{shifts_of};
 ghost use Rattle.table.specs.Layout.{segment_words, segment_stamps, segment_at, segments_of, table_of};
 ghost use Rattle.table_rows.specs.Rows.{row_of, Rowed};
+ghost use Rattle.table_rows.specs.Steps.{RowsAreMap};
+ghost use Rattle.table_rows.specs.Examples.{WorkedExamples};
 
 use rules::Checked;
 use table::{STAMPS, WORDS};
@@ -67,3 +70,14 @@ pub fn rows_of_table(
     write_shifts(u, t, os);
     Filled::Rows(n)
 }
+
+// The rows of an accepted table are a map of its frames.
+pub fn accepted_rows_are_a_map()
+    ensures { (t : Table) → RowsAreMap t }
+{}
+
+// The definitions give the numbers of specs/Examples.antt.
+#[tactic(auto, unfolding(crate::specs::Rows::rows_of, crate::specs::Rows::row_of, table::specs::Layout::table_of, table::specs::Layout::segments_of, choice::specs::Records::run, choice::specs::Choice::when))]
+pub fn worked_examples_hold()
+    ensures { WorkedExamples }
+{}

@@ -1,3 +1,4 @@
+pub mod Nearest
 pub mod Microseconds
 pub mod Nearness
 pub mod Edits

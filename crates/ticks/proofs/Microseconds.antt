@@ -24,7 +24,7 @@ use Rattle.wide.specs.declared.Big.{Big}
 use Rattle.wide.specs.Value.{value, number}
 use Rattle.wide.proofs.Rooms.{lt-eq}
 use Rattle.ticks.specs.declared.Us.TheVariants.{At, Refused}
-use Rattle.ticks.specs.Nearest.{rounded-neg}
+use Rattle.ticks.proofs.Nearest.{rounded-neg}
 use Rattle.ticks.specs.Ticks.{largest_scale, scale_over, no_time, micros_of, us_of, ticks_to_us}
 use Rattle.ticks.specs.Steps.{small_ticks, big_of}
 

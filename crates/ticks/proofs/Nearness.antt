@@ -3,10 +3,10 @@ use mathlib.Core.Path.{◌≡◌, refl, sym, ap, ◌∙◌}
 use mathlib.Core.Bool.{Bool, true, false, cond, beq}
 use mathlib.Core.Logic.{⊎_elim}
 use Prim.Native.Nat.{ℕ, zero, suc, ◌+◌, ◌*◌, ◌-◌, ◌^◌, ◌≤◌, ◌<◌}
-use native.Mathlib.Nat.{le_of_lt, zero-add, add-zero, lt_of_lt_of_le}
+use native.Mathlib.Nat.{le_of_lt, zero-add}
 use native.Mathlib.Omega.{arith}
 use lib.Dec.{leb, lit<, lit≤}
-use lib.IntN.{ℤ, pos, negsuc, neg_ℤ, nat_abs, ◌+ℤ◌, ◌-ℤ◌, ◌*ℤ◌, neg_ℤ-neg_ℤ, neg_ℤ-+ℤ, +ℤ_comm, *ℤ_comm}
+use lib.IntN.{ℤ, pos, negsuc, neg_ℤ, nat_abs, ◌+ℤ◌, ◌-ℤ◌, ◌*ℤ◌, neg_ℤ-neg_ℤ, neg_ℤ-+ℤ, *ℤ_comm}
 use lib.Signed.{le_z, lt_z}
 use borrow.Author.Tests.{lt-ltb, le-ltb, lt-leb}
 use Rattle.signed.specs.Steps.{with_sign}
@@ -16,7 +16,7 @@ use Rattle.wide.specs.declared.Wide.{Wide}
 use Rattle.wide.specs.Value.{value}
 use Rattle.wide.proofs.Rooms.{lt-eq, mul-room, sum_room}
 use Rattle.ticks.specs.Ticks.{ends_near}
-use Rattle.ticks.specs.Steps.{Allowed, Room}
+use Rattle.ticks.specs.Steps.{Room}
 
 -- ---- the distance of two numbers, on one side of 0 and on both
 nat_abs-neg : (z : ℤ) → nat_abs (neg_ℤ z) ≡ nat_abs z

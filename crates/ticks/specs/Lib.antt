@@ -1,4 +1,3 @@
 pub mod Ticks
 pub mod Steps
-pub mod Nearest
 pub mod Examples

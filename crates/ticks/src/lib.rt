@@ -6,6 +6,7 @@ ghost use Rattle.signed.specs.Rounded.{rounded};
 ghost use Rattle.wide.specs.Value.{value, number};
 ghost use Rattle.ticks.specs.Ticks.{micros_of, ticks_to_us, ends_near, media_ticks};
 ghost use Rattle.ticks.specs.Steps.{small_ticks, Allowed, Room, big_of};
+ghost use Rattle.ticks.specs.Examples.{WorkedExamples};
 
 use signed::Held;
 use wide::{Big, Wide};
@@ -170,3 +171,9 @@ pub fn edit_ticks(duration: u64, scale: u64, movie: u64) -> MediaTicks
     }
     MediaTicks::Beyond
 }
+
+// The definitions give the numbers of specs/Examples.antt.
+#[tactic(auto, unfolding(crate::specs::Ticks::ticks_to_us, crate::specs::Ticks::us_of, crate::specs::Ticks::micros_of, crate::specs::Ticks::ends_near, crate::specs::Ticks::media_ticks, choice::specs::Choice::when))]
+pub fn worked_examples_hold()
+    ensures { WorkedExamples }
+{}

@@ -2,7 +2,7 @@
 use Rattle.std.specs.Prelude.{if◌then◌else◌}
 use mathlib.Core.Path.{◌≡◌, refl, sym, ap}
 use mathlib.Core.Bool.{Bool, true, false}
-use Prim.Native.Nat.{ℕ, ◌+◌, ◌≤◌, ◌<◌, ◌^◌}
+use Prim.Native.Nat.{ℕ, ◌+◌, ◌<◌, ◌^◌}
 use native.Mathlib.Omega.{arith}
 use lib.IntN.{pos, ◌-ℤ◌}
 use lib.Dec.{ltb}
@@ -12,10 +12,10 @@ use Rattle.signed.specs.Signed.{of_bits}
 use Rattle.tracks.specs.Tables.{offset_of}
 use Rattle.tracks.specs.Steps.{offset_wrap, wrapped}
 
-pub offset-wrapped : (u : Bool) (x : ℕ) → wrapped (offset_wrap u) x ≡ offset_of u x
+pub offset_wrapped : (u : Bool) (x : ℕ) → wrapped (offset_wrap u) x ≡ offset_of u x
 unfolding of_bits
-offset-wrapped true x = either (λ z. z ≡ pos x) (ltb x 2147483648) (λ t. refl) (λ t. let e : x + 0 ≡ x = omega arith in ap pos e)
-offset-wrapped false x = refl
+offset_wrapped true x = either (λ z. z ≡ pos x) (ltb x 2147483648) (λ t. refl) (λ t. let e : x + 0 ≡ x = omega arith in ap pos e)
+offset_wrapped false x = refl
 
 -- where the top bit isn't set
 pub same-offset : (x : ℕ) → x < 2 ^ 31 → offset_of true x ≡ offset_of false x

@@ -1,6 +1,6 @@
 // Timescales, and the tables that have a count and a value in each entry: durations (stts) and offsets (ctts).
-ghost use Rattle.std.specs.Prelude.{◌≡◌, ◌+◌, ◌-◌, ◌*◌, ◌≤◌, ◌^◌, length, replicate};
-ghost use Rattle.tracks.specs.Tables.{scale_at, scale_of, has_scale, table_rows, optional_rows, is_unsigned};
+ghost use Rattle.std.specs.Prelude.{◌≡◌, ◌+◌, ◌-◌, ◌*◌, ◌≤◌, ◌^◌, ℕ, Bool, length, replicate};
+ghost use Rattle.tracks.specs.Tables.{scale_at, scale_of, has_scale, table_rows, optional_rows, is_unsigned, offset_of};
 ghost use Rattle.tracks.specs.Steps.{at_first, Next, Spread, offset_wrap, wrapped};
 
 use crate::{Cursor, Rows};
@@ -101,6 +101,12 @@ pub fn offset(wrap: u64, x: u32) -> i64
     }
     (x as i64) - (wrap as i64)
 }
+
+// What is taken off makes an offset what the definition reads, unsigned or signed.
+#[tactic(auto, using(crate::proofs::OffsetLaws::offset_wrapped))]
+pub fn offsets_by_what_is_taken_off()
+    ensures { (unsigned : Bool) (x : ℕ) → wrapped (offset_wrap unsigned) x ≡ offset_of unsigned x }
+{}
 
 // A walk over n entries, before the first.
 pub fn at_first(n: usize) -> Cursor

@@ -1,1 +1,2 @@
 pub mod Utc
+pub mod Examples

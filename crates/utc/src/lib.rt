@@ -3,6 +3,7 @@
 
 ghost use Rattle.std.specs.Prelude.{◌≡◌, ◌+◌, ◌*◌, ◌-◌, ◌<◌, length};
 ghost use Rattle.utc.specs.Utc.{figures, two, all_figures, marks, leap, days, dated, time_of_day, utc_bytes, utc_second};
+ghost use Rattle.utc.specs.Examples.{WorkedExamples};
 
 // What a figure is worth; 0 for a byte below `0`, which no answer rests on.
 fn value(c: u8) -> u64
@@ -103,3 +104,9 @@ pub fn is_utc_second(b: &[u8]) -> bool
     }
     utc_bytes(b)
 }
+
+// The definitions give the numbers of specs/Examples.antt.
+#[tactic(auto, unfolding(crate::specs::Utc::utc_second, crate::specs::Utc::utc_bytes, crate::specs::Utc::two, crate::specs::Utc::days, choice::specs::Choice::when))]
+pub fn worked_examples_hold()
+    ensures { WorkedExamples }
+{}

@@ -1,20 +1,12 @@
--- T of document 01 and each refusal of a check, computed. Assumes nothing.
-use Prim.Native.Nat.{ℕ, zero, suc}
-use mathlib.Core.Path.{◌≡◌, refl}
-use mathlib.Core.Bool.{true, false}
-use mathlib.Core.List.{List, [], ◌∷◌, ◌++◌, map}
-use lib.IntN.{ℤ, pos, negsuc}
-use Rattle.choice.specs.Choice.{when, past}
-use Rattle.choice.specs.Records.{run, any, first_refused, or_refused}
-use Rattle.choice.specs.Steps.{or_else}
-use Rattle.utc.specs.Utc.{two, days, utc_bytes, utc_second}
+-- T of document 01, and each refusal of a check. They are the contract of `worked_examples_hold`.
+use Rattle.std.specs.Prelude.{ℕ, zero, suc, true, false, List, [], ◌∷◌, ◌++◌, ℤ, pos, neg_ℤ}
+use Rattle.choice.specs.Examples.{Example, is, Hold}
 use Rattle.rules.specs.declared.Checked.{Checked}
 use Rattle.rules.specs.declared.Checked.TheVariants.{Frames, Refused}
-use Rattle.rules.specs.Records.{Table, no_source, no_segment, frame_total}
-use Rattle.rules.specs.Rules.{bad_source, bad_segment, malformed, source_refusal, stamp_times, judged, segment_refusal, start, ends_of, ends, segments_from, front_refusal, refusal, checked_of, check_of}
-use Rattle.table.specs.Layout.{sources_of, segments_of, table_of}
+use Rattle.rules.specs.Records.{Table}
+use Rattle.rules.specs.Rules.{check_of}
+use Rattle.table.specs.Layout.{table_of}
 
--- ---- T
 -- a source of 25 frames a second: its frames, creation time and clock
 abbrev pub source : ℕ → ℕ → ℕ → ℕ → ℕ → ℕ → List ℕ
 source frames dated from kind ticks modulus = frames ∷ 25 ∷ 1 ∷ dated ∷ from ∷ 20 ∷ kind ∷ ticks ∷ 1 ∷ modulus ∷ []
@@ -44,7 +36,7 @@ times = first ++ stamps (pos 1200000) (pos 800000) (pos 0)
 abbrev pub T : Table
 T = table_of sources segments times false []
 
--- ---- a check of a changed T
+-- A check of a changed T.
 abbrev pub of : List ℕ → List ℕ → List ℤ → Checked
 of s u t = check_of (table_of s u t false [])
 
@@ -77,21 +69,10 @@ clocked kind flag shift =
     of (plain 100 ++ source 50 0 0 kind 1 7) (words 0 10 30 0 0 ++ words 1 5 20 30 flag)
     (first ++ (pos 0 ∷ pos 1200000 ∷ pos 800000 ∷ pos 0 ∷ pos 0 ∷ pos 0 ∷ shift ∷ []))
 
--- an answer, and what it is by the paper
-pub record Case (A : Type 0) : Type 0 where
-  pub got : A
-  pub want : A
-
-abbrev pub is : {A : Type 0} → A → A → Case A
-is x y = record { got = x; want = y }
-
-abbrev pub Hold : {A : Type 0} → List (Case A) → Type 0
-Hold {A} l = map (λ (c : Case A). c.got) l ≡ map (λ (c : Case A). c.want) l
-
 abbrev pub late : List ℤ
 late = stamps (pos 1200000) (pos 800000) (pos 0)
 
-abbrev pub checks : List (Case Checked)
+abbrev pub checks : List (Example Checked)
 checks =
     is (check_of T) (Frames 50)
     ∷ is (made 0) (Frames 50)
@@ -114,19 +95,18 @@ checks =
     ∷ is (with (words 1 5 0 30 0) late) (Refused 10 1)
     ∷ is (with (words 1 0xffff_ffff_ffff_ffff 1 30 0) late) (Refused 11 1)
     ∷ is (with (words 1 31 20 30 0) late) (Refused 12 1)
-    ∷ is (with (words 1 5 20 30 0) (stamps (pos 1200000) (negsuc 0) (pos 0))) (Refused 13 1)
+    ∷ is (with (words 1 5 20 30 0) (stamps (pos 1200000) (neg_ℤ (pos 1)) (pos 0))) (Refused 13 1)
     ∷ is (with (words 1 5 20 31 0) (stamps (pos 1200000) (pos 1) (pos 0x7fff_ffff_ffff_ffff))) (Refused 14 1)
     ∷ is (with (words 1 5 20 31 0) (stamps (pos 1200001) (pos 800000) (pos 0))) (Refused 15 1)
     ∷ is (with (words 1 5 20 30 0) (stamps (pos 1200001) (pos 0x7fff_ffff_ffff_ffff) (pos 0))) (Refused 16 1)
     ∷ is (with (words 1 5 20 30 0) (stamps (pos 1200000) (pos 0x7fff_ffff_ffff_ffff) (pos 0))) (Refused 14 1)
     ∷ is (clocked 0 1 (pos 0)) (Refused 17 1)
     ∷ is (clocked 1 0 (pos 0)) (Refused 17 1)
-    ∷ is (clocked 1 1 (negsuc 9)) (Frames 50)
+    ∷ is (clocked 1 1 (neg_ℤ (pos 10))) (Frames 50)
     ∷ is (clocked 2 1 (pos 6)) (Frames 50)
     ∷ is (clocked 2 1 (pos 7)) (Refused 17 1)
-    ∷ is (clocked 2 1 (negsuc 0)) (Refused 17 1)
+    ∷ is (clocked 2 1 (neg_ℤ (pos 1))) (Refused 17 1)
     ∷ []
 
-pub examples : Hold checks
-unfolding when or_else past run any first_refused or_refused two days utc_bytes utc_second no_source no_segment frame_total bad_source bad_segment malformed source_refusal stamp_times judged segment_refusal start ends_of ends segments_from front_refusal refusal checked_of check_of sources_of segments_of table_of
-examples = refl
+abbrev pub WorkedExamples : Type 0
+WorkedExamples = Hold checks

@@ -1,0 +1,73 @@
+-- Worked examples of boxes and of the searches for them. They are the contract of `worked_examples_hold`.
+use Rattle.std.specs.Prelude.{ℕ, true, false, List, [], ◌∷◌, ◌++◌}
+use Rattle.choice.specs.Examples.{Example, is, Hold}
+use Rattle.boxes.specs.Bytes.{mtrm}
+use Rattle.boxes.specs.Boxes.{Boxes, clean, bad, box, boxes_of, box_size}
+use Rattle.boxes.specs.Places.{child_place, find_box_place, table_text_place}
+use Rattle.boxes.specs.declared.Sized.{Sized}
+use Rattle.boxes.specs.declared.Sized.TheVariants.{Box, Refused as NoSize}
+use Rattle.boxes.specs.declared.Place.{Place}
+use Rattle.boxes.specs.declared.Place.TheVariants.{At, Refused}
+
+-- an MTRM with the payload `{}`, and the same with a 64-bit size
+abbrev pub table : List ℕ
+table = 0 ∷ 0 ∷ 0 ∷ 10 ∷ 0x4d ∷ 0x54 ∷ 0x52 ∷ 0x4d ∷ 0x7b ∷ 0x7d ∷ []
+
+abbrev pub large : List ℕ
+large = 0 ∷ 0 ∷ 0 ∷ 1 ∷ 0x4d ∷ 0x54 ∷ 0x52 ∷ 0x4d ∷ 0 ∷ 0 ∷ 0 ∷ 0 ∷ 0 ∷ 0 ∷ 0 ∷ 18 ∷ 0x7b ∷ 0x7d ∷ []
+
+-- a free box of so many bytes, of which 8 are here; a udta and a moov that take what remains
+abbrev pub free : ℕ → List ℕ
+free size = 0 ∷ 0 ∷ 0 ∷ size ∷ 0x66 ∷ 0x72 ∷ 0x65 ∷ 0x65 ∷ []
+
+abbrev pub in_udta : List ℕ → List ℕ
+in_udta l = 0 ∷ 0 ∷ 0 ∷ 0 ∷ 0x75 ∷ 0x64 ∷ 0x74 ∷ 0x61 ∷ l
+
+abbrev pub in_moov : List ℕ → List ℕ
+in_moov l = 0 ∷ 0 ∷ 0 ∷ 0 ∷ 0x6d ∷ 0x6f ∷ 0x6f ∷ 0x76 ∷ l
+
+abbrev pub file : List ℕ → List ℕ
+file l = free 8 ++ in_moov (in_udta l)
+
+-- a box whose type ends with a byte
+abbrev pub typed : ℕ → List ℕ
+typed b = 0 ∷ 0 ∷ 0 ∷ 8 ∷ 0x66 ∷ 0x72 ∷ 0x65 ∷ b ∷ []
+
+-- how the boxes end: three bytes are left; a size below its header; a size that passes the bytes
+abbrev pub walks : List (Example Boxes)
+walks =
+    is (boxes_of (free 8 ++ table ++ (9 ∷ 9 ∷ 9 ∷ []))) (box 0 0x66726565 8 0 (box 8 mtrm 16 2 clean))
+    ∷ is (boxes_of (free 8 ++ free 7)) (box 0 0x66726565 8 0 (bad 8))
+    ∷ is (boxes_of (free 9)) (bad 0)
+    ∷ []
+
+-- four bytes are enough for a 32-bit size; size 0 is what remains, which is 8 at least
+abbrev pub sizes : List (Example Sized)
+sizes =
+    is (box_size (0 ∷ 0 ∷ 0 ∷ 20 ∷ []) 20) (Box 20 8)
+    ∷ is (box_size (0 ∷ 0 ∷ 0 ∷ 0 ∷ []) 7) (NoSize 31 0)
+    ∷ []
+
+abbrev pub places : List (Example Place)
+places =
+    -- a 64-bit size has a header of 16
+    is (child_place large mtrm) (At 16 2)
+    -- a child is missing where the boxes end cleanly, and can't be had where a bad header stands before it
+    ∷ is (child_place (free 8 ++ (9 ∷ 9 ∷ 9 ∷ [])) mtrm) (Refused 31 0)
+    ∷ is (child_place (free 8 ++ free 7 ++ table) mtrm) (Refused 36 8)
+    -- places are those in the whole; a range that ends past the bytes, or before it starts, is 42
+    ∷ is (find_box_place (free 8 ++ table) 8 18 mtrm true) (At 16 2)
+    ∷ is (find_box_place (free 8 ++ free 8 ++ free 7 ++ table) 8 34 mtrm true) (Refused 36 16)
+    ∷ is (find_box_place table 0 11 mtrm false) (Refused 42 0)
+    ∷ is (find_box_place table 9 8 mtrm false) (Refused 42 0)
+    -- with text types 7E hex is passed, and 7F ends the search
+    ∷ is (find_box_place (typed 0x7e ++ table) 0 18 mtrm true) (At 16 2)
+    ∷ is (find_box_place (typed 0x7f ++ table) 0 18 mtrm true) (Refused 36 0)
+    -- one MTRM is answered; none and two are refused
+    ∷ is (table_text_place (file table)) (At 32 2)
+    ∷ is (table_text_place (file (free 8))) (Refused 40 0)
+    ∷ is (table_text_place (file (large ++ table))) (Refused 41 0)
+    ∷ []
+
+abbrev pub WorkedExamples : Type 0
+WorkedExamples = Hold walks × Hold sizes × Hold places

@@ -1,0 +1,20 @@
+-- What the calls on boxes and frame times promise of an answer: their own clauses, as the theorems take them.
+use Rattle.std.specs.Prelude.{ℕ, Bool, List, ◌≡◌, ℤ}
+use Rattle.boxes.specs.Boxes.{children_at}
+use Rattle.boxes.specs.Places.{child_place, find_box_place}
+use Rattle.boxes.specs.declared.Place.{Place}
+use Rattle.boxes.specs.declared.Reached.{Reached}
+use Rattle.frame_times.specs.declared.FrameTimes.{FrameTimes}
+use Rattle.frame_times.specs.Times.{MoovAnswers}
+
+abbrev pub Child : List ℕ → ℕ → Place → Type 0
+Child b kind r = r ≡ child_place b kind
+
+abbrev pub FindBox : List ℕ → ℕ → ℕ → ℕ → Bool → Place → Type 0
+FindBox b start end kind text r = r ≡ find_box_place b start end kind text
+
+abbrev pub Children : List ℕ → ℕ → Reached → Type 0
+Children b at r = r ≡ children_at b at
+
+abbrev pub FrameTimesOf : List ℕ → Bool → List ℤ → List ℤ → List ℤ → FrameTimes → List ℤ → List ℤ → List ℤ → Type 0
+FrameTimesOf moov standard starts a b r starts' a' b' = MoovAnswers standard moov starts a b r starts' a' b'

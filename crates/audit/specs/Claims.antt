@@ -1,6 +1,7 @@
--- WHAT IS CLAIMED OF THE PUBLIC CALLS. `Claims` is the contract of `all_claims_hold`, in src/lib.rt, so the check proves every line; nothing of proofs/ need be read. A call's
--- name with a capital (`Check`, `Cut`, `Origin`) is its promise, quoted from the source by Calls.antt, in plain lists: the call with these arguments may answer so and leave the lent
--- slices so. What holds of all such answers holds of every run, since the check proves that a run keeps its promise.
+-- WHAT IS CLAIMED OF THE PUBLIC CALLS. `Claims` is the contract of `all_claims_hold`, in src/lib.rt, so the check proves every line. A call's name with a capital
+-- (`Check`, `Cut`, `Origin`) is its promise, quoted from the source by Calls.antt, in plain lists: the call with these arguments may answer so and leave the lent
+-- slices so. What holds of all such answers holds of every run, since the check proves that a run keeps its promise: Promised.antt says in which form. Nothing of
+-- proofs/ need be read.
 use Rattle.std.specs.Prelude.{ℕ, ◌+◌, ◌-◌, ◌*◌, ◌≤◌, ◌<◌, Bool, true, false, List, [], ◌↔◌, ◌≡◌, ℤ, neg_ℤ, length, get_or, take, drop}
 use Rattle.std.specs.Borrow.{Bor}
 use Rattle.slices.specs.Slices.{All}
@@ -65,8 +66,9 @@ use Rattle.audit.specs.Face as face
 use Rattle.audit.specs.Words.{Lent, table, on, Tells, Check, SegmentOfFrame, SegmentOfTimeUs, Continues, RowsOfTable, SegmentsOfFrames, Validate, CheckMcraw, in_words, map_written}
 use Rattle.audit.specs.Examples.{Holds, examples}
 
--- 1 and 2. ONE ANSWER. No public call has a `requires`; and whatever its arguments, exactly one result, with exactly one content of each lent slice, meets its
--- promise. (Demand 1, and the auditor's second question; document 01, 'The strength asked': each promise determines the answer and every lent slice, for all inputs.)
+-- 1. ONE ANSWER. Whatever a public call's arguments, exactly one result, with exactly one content of each lent slice, meets its promise. (Demand 1, and the
+-- auditor's second question; document 01, 'The strength asked': each promise determines the answer and every lent slice, for all inputs.) 2, that it asks nothing of
+-- them, is proved of its code: Promised.antt.
 pub record Answers : Type 0 where
   pub ticks-to-us : OneAnswer calls.ticks-to-us
   pub is-utc-second : OneAnswer calls.is-utc-second
@@ -97,7 +99,7 @@ pub record Answers : Type 0 where
   pub table-text : OneAnswer calls.table-text
 
 -- THE C FACE: of each exported call too exactly one answer meets the promise: the number that it returns, and what each word and each slice that is lent holds
--- afterwards. It asks nothing either. (Demand 1.)
+-- afterwards. (Demand 1.)
 pub record Face : Type 0 where
   pub st-check : OneAnswer face.st-check
   pub st-segment-of-frame : OneAnswer face.st-segment-of-frame

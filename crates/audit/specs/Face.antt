@@ -1,4 +1,7 @@
--- Made by tools/calls: the promise of each call for C, in the same way; FaceQuoted.antt, in proofs/, has that it is the clause.
+-- Made by tools/calls: of each call for C its promise. First, with a capital, its clause in the source's own words, of plain lists and numbers; a part of the caller's
+-- bytes stays a reference, and `X·of` is the clause's X where the quotation has that name. Then the same as a promise: of the arguments (a.0 is the first,
+-- a.1.0 the second), the result z and the exit e. Then that so it is wherever the slices lie. The first is for readers; that the second is what was proved of
+-- the call's code stands in proofs/FaceQuoted.antt.
 use Rattle.std.specs.Prelude.{ℕ, Bool, List, ◌≡◌, refl, ℤ}
 use Rattle.audit.specs.Promise.{Promise, Anywhere}
 use Rattle.boxes.specs.Boxes.{box_size, children_at}
@@ -45,7 +48,7 @@ abbrev pub StIsUtcSecond : List ℕ → Bool → Type 0
 StIsUtcSecond bytes ans = ans ≡ utc_second bytes
 
 abbrev pub st-is-utc-second : Promise
-st-is-utc-second = record { types = st-is-utc-second·.ended; Asked = λ κs a. Unit {0}; Learnt = λ κs a z e. StIsUtcSecond a.0.now z }
+st-is-utc-second = record { types = st-is-utc-second·.ended; Learnt = λ κs a z e. StIsUtcSecond a.0.now z }
 
 pub st-is-utc-second·anywhere : Anywhere st-is-utc-second (λ κs a e. StIsUtcSecond a.0.now e.result)
 st-is-utc-second·anywhere κs a e = refl
@@ -55,7 +58,7 @@ abbrev pub StTicksToUs : ℤ → ℕ → ℤ → ℕ → ℕ → ℤ → ℕ →
 StTicksToUs ticks scale us index ans us' index' = (ans, us', index') ≡ us_told (ticks_to_us ticks scale) us
 
 abbrev pub st-ticks-to-us : Promise
-st-ticks-to-us = record { types = st-ticks-to-us·.ended; Asked = λ κs a. Unit {0}; Learnt = λ κs a z e. StTicksToUs a.0 a.1.0 a.1.1.0.now a.1.1.1.0.now z e.1.1.0.now e.1.1.1.0.now }
+st-ticks-to-us = record { types = st-ticks-to-us·.ended; Learnt = λ κs a z e. StTicksToUs a.0 a.1.0 a.1.1.0.now a.1.1.1.0.now z e.1.1.0.now e.1.1.1.0.now }
 
 pub st-ticks-to-us·anywhere : Anywhere st-ticks-to-us (λ κs a e. StTicksToUs a.0 a.1.0 a.1.1.0.now a.1.1.1.0.now e.result e.last.1.1.0 e.last.1.1.1.0)
 st-ticks-to-us·anywhere κs a e = refl
@@ -65,7 +68,7 @@ abbrev pub StCut : List ℕ → List ℤ → ℕ → ℕ → List ℕ → List �
 StCut words shifts a b out-words out-shifts rows index ans out-words' out-shifts' rows' index' = CutTold words shifts a b out-words out-shifts rows ans out-words' out-shifts' rows' index'
 
 abbrev pub st-cut : Promise
-st-cut = record { types = st-cut·.ended; Asked = λ κs a. Unit {0}; Learnt = λ κs a z e. StCut a.0.now a.1.0.now a.1.1.0 a.1.1.1.0 a.1.1.1.1.0.now a.1.1.1.1.1.0.now a.1.1.1.1.1.1.0.now a.1.1.1.1.1.1.1.0.now z e.1.1.1.1.0.now e.1.1.1.1.1.0.now e.1.1.1.1.1.1.0.now e.1.1.1.1.1.1.1.0.now }
+st-cut = record { types = st-cut·.ended; Learnt = λ κs a z e. StCut a.0.now a.1.0.now a.1.1.0 a.1.1.1.0 a.1.1.1.1.0.now a.1.1.1.1.1.0.now a.1.1.1.1.1.1.0.now a.1.1.1.1.1.1.1.0.now z e.1.1.1.1.0.now e.1.1.1.1.1.0.now e.1.1.1.1.1.1.0.now e.1.1.1.1.1.1.1.0.now }
 
 pub st-cut·anywhere : Anywhere st-cut (λ κs a e. StCut a.0.now a.1.0.now a.1.1.0 a.1.1.1.0 a.1.1.1.1.0.now a.1.1.1.1.1.0.now a.1.1.1.1.1.1.0.now a.1.1.1.1.1.1.1.0.now e.result e.last.1.1.1.1.0 e.last.1.1.1.1.1.0 e.last.1.1.1.1.1.1.0 e.last.1.1.1.1.1.1.1.0)
 st-cut·anywhere κs a e = refl
@@ -75,7 +78,7 @@ abbrev pub StCuts : List ℕ → List ℤ → List ℕ → List ℕ → List ℤ
 StCuts words shifts ranges out-words out-shifts counts rows index ans out-words' out-shifts' counts' rows' index' = CutsTold words shifts ranges out-words out-shifts counts rows ans out-words' out-shifts' counts' rows' index'
 
 abbrev pub st-cuts : Promise
-st-cuts = record { types = st-cuts·.ended; Asked = λ κs a. Unit {0}; Learnt = λ κs a z e. StCuts a.0.now a.1.0.now a.1.1.0.now a.1.1.1.0.now a.1.1.1.1.0.now a.1.1.1.1.1.0.now a.1.1.1.1.1.1.0.now a.1.1.1.1.1.1.1.0.now z e.1.1.1.0.now e.1.1.1.1.0.now e.1.1.1.1.1.0.now e.1.1.1.1.1.1.0.now e.1.1.1.1.1.1.1.0.now }
+st-cuts = record { types = st-cuts·.ended; Learnt = λ κs a z e. StCuts a.0.now a.1.0.now a.1.1.0.now a.1.1.1.0.now a.1.1.1.1.0.now a.1.1.1.1.1.0.now a.1.1.1.1.1.1.0.now a.1.1.1.1.1.1.1.0.now z e.1.1.1.0.now e.1.1.1.1.0.now e.1.1.1.1.1.0.now e.1.1.1.1.1.1.0.now e.1.1.1.1.1.1.1.0.now }
 
 pub st-cuts·anywhere : Anywhere st-cuts (λ κs a e. StCuts a.0.now a.1.0.now a.1.1.0.now a.1.1.1.0.now a.1.1.1.1.0.now a.1.1.1.1.1.0.now a.1.1.1.1.1.1.0.now a.1.1.1.1.1.1.1.0.now e.result e.last.1.1.1.0 e.last.1.1.1.1.0 e.last.1.1.1.1.1.0 e.last.1.1.1.1.1.1.0 e.last.1.1.1.1.1.1.1.0)
 st-cuts·anywhere κs a e = refl
@@ -85,7 +88,7 @@ abbrev pub StJoin : List ℕ → List ℤ → List ℕ → List ℤ → List ℕ
 StJoin words shifts second-words second-shifts out-words out-shifts rows index ans out-words' out-shifts' rows' index' = JoinTold words shifts second-words second-shifts out-words out-shifts rows ans out-words' out-shifts' rows' index'
 
 abbrev pub st-join : Promise
-st-join = record { types = st-join·.ended; Asked = λ κs a. Unit {0}; Learnt = λ κs a z e. StJoin a.0.now a.1.0.now a.1.1.0.now a.1.1.1.0.now a.1.1.1.1.0.now a.1.1.1.1.1.0.now a.1.1.1.1.1.1.0.now a.1.1.1.1.1.1.1.0.now z e.1.1.1.1.0.now e.1.1.1.1.1.0.now e.1.1.1.1.1.1.0.now e.1.1.1.1.1.1.1.0.now }
+st-join = record { types = st-join·.ended; Learnt = λ κs a z e. StJoin a.0.now a.1.0.now a.1.1.0.now a.1.1.1.0.now a.1.1.1.1.0.now a.1.1.1.1.1.0.now a.1.1.1.1.1.1.0.now a.1.1.1.1.1.1.1.0.now z e.1.1.1.1.0.now e.1.1.1.1.1.0.now e.1.1.1.1.1.1.0.now e.1.1.1.1.1.1.1.0.now }
 
 pub st-join·anywhere : Anywhere st-join (λ κs a e. StJoin a.0.now a.1.0.now a.1.1.0.now a.1.1.1.0.now a.1.1.1.1.0.now a.1.1.1.1.1.0.now a.1.1.1.1.1.1.0.now a.1.1.1.1.1.1.1.0.now e.result e.last.1.1.1.1.0 e.last.1.1.1.1.1.0 e.last.1.1.1.1.1.1.0 e.last.1.1.1.1.1.1.1.0)
 st-join·anywhere κs a e = refl
@@ -95,7 +98,7 @@ abbrev pub StMerge : List ℕ → List ℤ → List ℕ → List ℤ → ℕ →
 StMerge words shifts out-words out-shifts rows index ans out-words' out-shifts' rows' index' = MergeTold words shifts out-words out-shifts rows ans out-words' out-shifts' rows' index'
 
 abbrev pub st-merge : Promise
-st-merge = record { types = st-merge·.ended; Asked = λ κs a. Unit {0}; Learnt = λ κs a z e. StMerge a.0.now a.1.0.now a.1.1.0.now a.1.1.1.0.now a.1.1.1.1.0.now a.1.1.1.1.1.0.now z e.1.1.0.now e.1.1.1.0.now e.1.1.1.1.0.now e.1.1.1.1.1.0.now }
+st-merge = record { types = st-merge·.ended; Learnt = λ κs a z e. StMerge a.0.now a.1.0.now a.1.1.0.now a.1.1.1.0.now a.1.1.1.1.0.now a.1.1.1.1.1.0.now z e.1.1.0.now e.1.1.1.0.now e.1.1.1.1.0.now e.1.1.1.1.1.0.now }
 
 pub st-merge·anywhere : Anywhere st-merge (λ κs a e. StMerge a.0.now a.1.0.now a.1.1.0.now a.1.1.1.0.now a.1.1.1.1.0.now a.1.1.1.1.1.0.now e.result e.last.1.1.0 e.last.1.1.1.0 e.last.1.1.1.1.0 e.last.1.1.1.1.1.0)
 st-merge·anywhere κs a e = refl
@@ -105,7 +108,7 @@ abbrev pub StOrigin : List ℕ → List ℤ → ℕ → ℕ → ℕ → ℕ → 
 StOrigin words shifts frame source source-frame flag shift index ans source' source-frame' flag' shift' index' = (ans, source', source-frame', flag', shift', index') ≡ traced_told (origin_of words shifts frame) source source-frame flag shift
 
 abbrev pub st-origin : Promise
-st-origin = record { types = st-origin·.ended; Asked = λ κs a. Unit {0}; Learnt = λ κs a z e. StOrigin a.0.now a.1.0.now a.1.1.0 a.1.1.1.0.now a.1.1.1.1.0.now a.1.1.1.1.1.0.now a.1.1.1.1.1.1.0.now a.1.1.1.1.1.1.1.0.now z e.1.1.1.0.now e.1.1.1.1.0.now e.1.1.1.1.1.0.now e.1.1.1.1.1.1.0.now e.1.1.1.1.1.1.1.0.now }
+st-origin = record { types = st-origin·.ended; Learnt = λ κs a z e. StOrigin a.0.now a.1.0.now a.1.1.0 a.1.1.1.0.now a.1.1.1.1.0.now a.1.1.1.1.1.0.now a.1.1.1.1.1.1.0.now a.1.1.1.1.1.1.1.0.now z e.1.1.1.0.now e.1.1.1.1.0.now e.1.1.1.1.1.0.now e.1.1.1.1.1.1.0.now e.1.1.1.1.1.1.1.0.now }
 
 pub st-origin·anywhere : Anywhere st-origin (λ κs a e. StOrigin a.0.now a.1.0.now a.1.1.0 a.1.1.1.0.now a.1.1.1.1.0.now a.1.1.1.1.1.0.now a.1.1.1.1.1.1.0.now a.1.1.1.1.1.1.1.0.now e.result e.last.1.1.1.0 e.last.1.1.1.1.0 e.last.1.1.1.1.1.0 e.last.1.1.1.1.1.1.0 e.last.1.1.1.1.1.1.1.0)
 st-origin·anywhere κs a e = refl
@@ -115,7 +118,7 @@ abbrev pub StValidateNoVideo : List ℕ → List ℕ → List ℤ → Bool → L
 StValidateNoVideo sources segments times log text index ans index' = (ans, index') ≡ refusal_told (validate_of (table_of sources segments times log text) nothing)
 
 abbrev pub st-validate-no-video : Promise
-st-validate-no-video = record { types = st-validate-no-video·.ended; Asked = λ κs a. Unit {0}; Learnt = λ κs a z e. StValidateNoVideo a.0.now a.1.0.now a.1.1.0.now a.1.1.1.0 a.1.1.1.1.0.now a.1.1.1.1.1.0.now z e.1.1.1.1.1.0.now }
+st-validate-no-video = record { types = st-validate-no-video·.ended; Learnt = λ κs a z e. StValidateNoVideo a.0.now a.1.0.now a.1.1.0.now a.1.1.1.0 a.1.1.1.1.0.now a.1.1.1.1.1.0.now z e.1.1.1.1.1.0.now }
 
 pub st-validate-no-video·anywhere : Anywhere st-validate-no-video (λ κs a e. StValidateNoVideo a.0.now a.1.0.now a.1.1.0.now a.1.1.1.0 a.1.1.1.1.0.now a.1.1.1.1.1.0.now e.result e.last.1.1.1.1.1.0)
 st-validate-no-video·anywhere κs a e = refl
@@ -125,7 +128,7 @@ abbrev pub StValidateConstant : List ℕ → List ℕ → List ℤ → Bool → 
 StValidateConstant sources segments times log text video-frames num den frames index ans frames' index' = (ans, frames', index') ≡ checked_told (validate_of (table_of sources segments times log text) (constant video-frames num den)) frames
 
 abbrev pub st-validate-constant : Promise
-st-validate-constant = record { types = st-validate-constant·.ended; Asked = λ κs a. Unit {0}; Learnt = λ κs a z e. StValidateConstant a.0.now a.1.0.now a.1.1.0.now a.1.1.1.0 a.1.1.1.1.0.now a.1.1.1.1.1.0 a.1.1.1.1.1.1.0 a.1.1.1.1.1.1.1.0 a.1.1.1.1.1.1.1.1.0.now a.1.1.1.1.1.1.1.1.1.0.now z e.1.1.1.1.1.1.1.1.0.now e.1.1.1.1.1.1.1.1.1.0.now }
+st-validate-constant = record { types = st-validate-constant·.ended; Learnt = λ κs a z e. StValidateConstant a.0.now a.1.0.now a.1.1.0.now a.1.1.1.0 a.1.1.1.1.0.now a.1.1.1.1.1.0 a.1.1.1.1.1.1.0 a.1.1.1.1.1.1.1.0 a.1.1.1.1.1.1.1.1.0.now a.1.1.1.1.1.1.1.1.1.0.now z e.1.1.1.1.1.1.1.1.0.now e.1.1.1.1.1.1.1.1.1.0.now }
 
 pub st-validate-constant·anywhere : Anywhere st-validate-constant (λ κs a e. StValidateConstant a.0.now a.1.0.now a.1.1.0.now a.1.1.1.0 a.1.1.1.1.0.now a.1.1.1.1.1.0 a.1.1.1.1.1.1.0 a.1.1.1.1.1.1.1.0 a.1.1.1.1.1.1.1.1.0.now a.1.1.1.1.1.1.1.1.1.0.now e.result e.last.1.1.1.1.1.1.1.1.0 e.last.1.1.1.1.1.1.1.1.1.0)
 st-validate-constant·anywhere κs a e = refl
@@ -135,7 +138,7 @@ abbrev pub StValidateTimes : List ℕ → List ℕ → List ℤ → Bool → Lis
 StValidateTimes sources segments times log text scale starts end nominal frames index ans frames' index' = (ans, frames', index') ≡ checked_told (validate_of (table_of sources segments times log text) (timed starts scale end nominal)) frames
 
 abbrev pub st-validate-times : Promise
-st-validate-times = record { types = st-validate-times·.ended; Asked = λ κs a. Unit {0}; Learnt = λ κs a z e. StValidateTimes a.0.now a.1.0.now a.1.1.0.now a.1.1.1.0 a.1.1.1.1.0.now a.1.1.1.1.1.0 a.1.1.1.1.1.1.0.now a.1.1.1.1.1.1.1.0 a.1.1.1.1.1.1.1.1.0 a.1.1.1.1.1.1.1.1.1.0.now a.1.1.1.1.1.1.1.1.1.1.0.now z e.1.1.1.1.1.1.1.1.1.0.now e.1.1.1.1.1.1.1.1.1.1.0.now }
+st-validate-times = record { types = st-validate-times·.ended; Learnt = λ κs a z e. StValidateTimes a.0.now a.1.0.now a.1.1.0.now a.1.1.1.0 a.1.1.1.1.0.now a.1.1.1.1.1.0 a.1.1.1.1.1.1.0.now a.1.1.1.1.1.1.1.0 a.1.1.1.1.1.1.1.1.0 a.1.1.1.1.1.1.1.1.1.0.now a.1.1.1.1.1.1.1.1.1.1.0.now z e.1.1.1.1.1.1.1.1.1.0.now e.1.1.1.1.1.1.1.1.1.1.0.now }
 
 pub st-validate-times·anywhere : Anywhere st-validate-times (λ κs a e. StValidateTimes a.0.now a.1.0.now a.1.1.0.now a.1.1.1.0 a.1.1.1.1.0.now a.1.1.1.1.1.0 a.1.1.1.1.1.1.0.now a.1.1.1.1.1.1.1.0 a.1.1.1.1.1.1.1.1.0 a.1.1.1.1.1.1.1.1.1.0.now a.1.1.1.1.1.1.1.1.1.1.0.now e.result e.last.1.1.1.1.1.1.1.1.1.0 e.last.1.1.1.1.1.1.1.1.1.1.0)
 st-validate-times·anywhere κs a e = refl
@@ -145,7 +148,7 @@ abbrev pub StCheckMcraw : List ℕ → List ℕ → List ℤ → Bool → List �
 StCheckMcraw sources segments times log text timestamps work-a work-b frames index ans work-a' work-b' frames' index' = JudgedTold (table_of sources segments times log text) timestamps work-a work-b frames ans work-a' work-b' frames' index'
 
 abbrev pub st-check-mcraw : Promise
-st-check-mcraw = record { types = st-check-mcraw·.ended; Asked = λ κs a. Unit {0}; Learnt = λ κs a z e. StCheckMcraw a.0.now a.1.0.now a.1.1.0.now a.1.1.1.0 a.1.1.1.1.0.now a.1.1.1.1.1.0.now a.1.1.1.1.1.1.0.now a.1.1.1.1.1.1.1.0.now a.1.1.1.1.1.1.1.1.0.now a.1.1.1.1.1.1.1.1.1.0.now z e.1.1.1.1.1.1.0.now e.1.1.1.1.1.1.1.0.now e.1.1.1.1.1.1.1.1.0.now e.1.1.1.1.1.1.1.1.1.0.now }
+st-check-mcraw = record { types = st-check-mcraw·.ended; Learnt = λ κs a z e. StCheckMcraw a.0.now a.1.0.now a.1.1.0.now a.1.1.1.0 a.1.1.1.1.0.now a.1.1.1.1.1.0.now a.1.1.1.1.1.1.0.now a.1.1.1.1.1.1.1.0.now a.1.1.1.1.1.1.1.1.0.now a.1.1.1.1.1.1.1.1.1.0.now z e.1.1.1.1.1.1.0.now e.1.1.1.1.1.1.1.0.now e.1.1.1.1.1.1.1.1.0.now e.1.1.1.1.1.1.1.1.1.0.now }
 
 pub st-check-mcraw·anywhere : Anywhere st-check-mcraw (λ κs a e. StCheckMcraw a.0.now a.1.0.now a.1.1.0.now a.1.1.1.0 a.1.1.1.1.0.now a.1.1.1.1.1.0.now a.1.1.1.1.1.1.0.now a.1.1.1.1.1.1.1.0.now a.1.1.1.1.1.1.1.1.0.now a.1.1.1.1.1.1.1.1.1.0.now e.result e.last.1.1.1.1.1.1.0 e.last.1.1.1.1.1.1.1.0 e.last.1.1.1.1.1.1.1.1.0 e.last.1.1.1.1.1.1.1.1.1.0)
 st-check-mcraw·anywhere κs a e = refl
@@ -155,7 +158,7 @@ abbrev pub StSegmentOfFrameRecords : List ℕ → List ℕ → List TrimSegment 
 StSegmentOfFrameRecords sources text records log frame segment index ans segment' index' = (ans, segment', index') ≡ lookup_told (locate sources text records log frame) segment
 
 abbrev pub st-segment-of-frame-records : Promise
-st-segment-of-frame-records = record { types = st-segment-of-frame-records·.ended; Asked = λ κs a. Unit {0}; Learnt = λ κs a z e. StSegmentOfFrameRecords a.0.now a.1.0.now a.1.1.0.now a.1.1.1.0 a.1.1.1.1.0 a.1.1.1.1.1.0.now a.1.1.1.1.1.1.0.now z e.1.1.1.1.1.0.now e.1.1.1.1.1.1.0.now }
+st-segment-of-frame-records = record { types = st-segment-of-frame-records·.ended; Learnt = λ κs a z e. StSegmentOfFrameRecords a.0.now a.1.0.now a.1.1.0.now a.1.1.1.0 a.1.1.1.1.0 a.1.1.1.1.1.0.now a.1.1.1.1.1.1.0.now z e.1.1.1.1.1.0.now e.1.1.1.1.1.1.0.now }
 
 pub st-segment-of-frame-records·anywhere : Anywhere st-segment-of-frame-records (λ κs a e. StSegmentOfFrameRecords a.0.now a.1.0.now a.1.1.0.now a.1.1.1.0 a.1.1.1.1.0 a.1.1.1.1.1.0.now a.1.1.1.1.1.1.0.now e.result e.last.1.1.1.1.1.0 e.last.1.1.1.1.1.1.0)
 st-segment-of-frame-records·anywhere κs a e = refl
@@ -165,7 +168,7 @@ abbrev pub StMcrawTimes : List ℤ → List ℤ → List ℤ → ℕ → ℕ →
 StMcrawTimes timestamps starts work frames scale nominal end index ans starts' work' frames' scale' nominal' end' index' = McrawTold timestamps starts work frames scale nominal end ans starts' work' frames' scale' nominal' end' index'
 
 abbrev pub st-mcraw-times : Promise
-st-mcraw-times = record { types = st-mcraw-times·.ended; Asked = λ κs a. Unit {0}; Learnt = λ κs a z e. StMcrawTimes a.0.now a.1.0.now a.1.1.0.now a.1.1.1.0.now a.1.1.1.1.0.now a.1.1.1.1.1.0.now a.1.1.1.1.1.1.0.now a.1.1.1.1.1.1.1.0.now z e.1.0.now e.1.1.0.now e.1.1.1.0.now e.1.1.1.1.0.now e.1.1.1.1.1.0.now e.1.1.1.1.1.1.0.now e.1.1.1.1.1.1.1.0.now }
+st-mcraw-times = record { types = st-mcraw-times·.ended; Learnt = λ κs a z e. StMcrawTimes a.0.now a.1.0.now a.1.1.0.now a.1.1.1.0.now a.1.1.1.1.0.now a.1.1.1.1.1.0.now a.1.1.1.1.1.1.0.now a.1.1.1.1.1.1.1.0.now z e.1.0.now e.1.1.0.now e.1.1.1.0.now e.1.1.1.1.0.now e.1.1.1.1.1.0.now e.1.1.1.1.1.1.0.now e.1.1.1.1.1.1.1.0.now }
 
 pub st-mcraw-times·anywhere : Anywhere st-mcraw-times (λ κs a e. StMcrawTimes a.0.now a.1.0.now a.1.1.0.now a.1.1.1.0.now a.1.1.1.1.0.now a.1.1.1.1.1.0.now a.1.1.1.1.1.1.0.now a.1.1.1.1.1.1.1.0.now e.result e.last.1.0 e.last.1.1.0 e.last.1.1.1.0 e.last.1.1.1.1.0 e.last.1.1.1.1.1.0 e.last.1.1.1.1.1.1.0 e.last.1.1.1.1.1.1.1.0)
 st-mcraw-times·anywhere κs a e = refl
@@ -175,7 +178,7 @@ abbrev pub StVideoFrameTimesOfMoov : List ℕ → Bool → List ℤ → List ℤ
 StVideoFrameTimesOfMoov moov standard starts work-a work-b frames scale nominal end index ans starts' work-a' work-b' frames' scale' nominal' end' index' = MoovTold standard moov starts work-a work-b frames scale nominal end ans starts' work-a' work-b' frames' scale' nominal' end' index'
 
 abbrev pub st-video-frame-times-of-moov : Promise
-st-video-frame-times-of-moov = record { types = st-video-frame-times-of-moov·.ended; Asked = λ κs a. Unit {0}; Learnt = λ κs a z e. StVideoFrameTimesOfMoov a.0.now a.1.0 a.1.1.0.now a.1.1.1.0.now a.1.1.1.1.0.now a.1.1.1.1.1.0.now a.1.1.1.1.1.1.0.now a.1.1.1.1.1.1.1.0.now a.1.1.1.1.1.1.1.1.0.now a.1.1.1.1.1.1.1.1.1.0.now z e.1.1.0.now e.1.1.1.0.now e.1.1.1.1.0.now e.1.1.1.1.1.0.now e.1.1.1.1.1.1.0.now e.1.1.1.1.1.1.1.0.now e.1.1.1.1.1.1.1.1.0.now e.1.1.1.1.1.1.1.1.1.0.now }
+st-video-frame-times-of-moov = record { types = st-video-frame-times-of-moov·.ended; Learnt = λ κs a z e. StVideoFrameTimesOfMoov a.0.now a.1.0 a.1.1.0.now a.1.1.1.0.now a.1.1.1.1.0.now a.1.1.1.1.1.0.now a.1.1.1.1.1.1.0.now a.1.1.1.1.1.1.1.0.now a.1.1.1.1.1.1.1.1.0.now a.1.1.1.1.1.1.1.1.1.0.now z e.1.1.0.now e.1.1.1.0.now e.1.1.1.1.0.now e.1.1.1.1.1.0.now e.1.1.1.1.1.1.0.now e.1.1.1.1.1.1.1.0.now e.1.1.1.1.1.1.1.1.0.now e.1.1.1.1.1.1.1.1.1.0.now }
 
 pub st-video-frame-times-of-moov·anywhere : Anywhere st-video-frame-times-of-moov (λ κs a e. StVideoFrameTimesOfMoov a.0.now a.1.0 a.1.1.0.now a.1.1.1.0.now a.1.1.1.1.0.now a.1.1.1.1.1.0.now a.1.1.1.1.1.1.0.now a.1.1.1.1.1.1.1.0.now a.1.1.1.1.1.1.1.1.0.now a.1.1.1.1.1.1.1.1.1.0.now e.result e.last.1.1.0 e.last.1.1.1.0 e.last.1.1.1.1.0 e.last.1.1.1.1.1.0 e.last.1.1.1.1.1.1.0 e.last.1.1.1.1.1.1.1.0 e.last.1.1.1.1.1.1.1.1.0 e.last.1.1.1.1.1.1.1.1.1.0)
 st-video-frame-times-of-moov·anywhere κs a e = refl
@@ -185,7 +188,7 @@ abbrev pub StCheck : List ℕ → List ℕ → List ℤ → Bool → List ℕ �
 StCheck sources segments times log text frames index ans frames' index' = (ans, frames', index') ≡ checked_told (check_of (table_of sources segments times log text)) frames
 
 abbrev pub st-check : Promise
-st-check = record { types = st-check·.ended; Asked = λ κs a. Unit {0}; Learnt = λ κs a z e. StCheck a.0.now a.1.0.now a.1.1.0.now a.1.1.1.0 a.1.1.1.1.0.now a.1.1.1.1.1.0.now a.1.1.1.1.1.1.0.now z e.1.1.1.1.1.0.now e.1.1.1.1.1.1.0.now }
+st-check = record { types = st-check·.ended; Learnt = λ κs a z e. StCheck a.0.now a.1.0.now a.1.1.0.now a.1.1.1.0 a.1.1.1.1.0.now a.1.1.1.1.1.0.now a.1.1.1.1.1.1.0.now z e.1.1.1.1.1.0.now e.1.1.1.1.1.1.0.now }
 
 pub st-check·anywhere : Anywhere st-check (λ κs a e. StCheck a.0.now a.1.0.now a.1.1.0.now a.1.1.1.0 a.1.1.1.1.0.now a.1.1.1.1.1.0.now a.1.1.1.1.1.1.0.now e.result e.last.1.1.1.1.1.0 e.last.1.1.1.1.1.1.0)
 st-check·anywhere κs a e = refl
@@ -195,7 +198,7 @@ abbrev pub StSegmentOfFrame : List ℕ → List ℕ → List ℤ → Bool → Li
 StSegmentOfFrame sources segments times log text frame segment index ans segment' index' = (ans, segment', index') ≡ lookup_told (segment_of_frame (table_of sources segments times log text) frame) segment
 
 abbrev pub st-segment-of-frame : Promise
-st-segment-of-frame = record { types = st-segment-of-frame·.ended; Asked = λ κs a. Unit {0}; Learnt = λ κs a z e. StSegmentOfFrame a.0.now a.1.0.now a.1.1.0.now a.1.1.1.0 a.1.1.1.1.0.now a.1.1.1.1.1.0 a.1.1.1.1.1.1.0.now a.1.1.1.1.1.1.1.0.now z e.1.1.1.1.1.1.0.now e.1.1.1.1.1.1.1.0.now }
+st-segment-of-frame = record { types = st-segment-of-frame·.ended; Learnt = λ κs a z e. StSegmentOfFrame a.0.now a.1.0.now a.1.1.0.now a.1.1.1.0 a.1.1.1.1.0.now a.1.1.1.1.1.0 a.1.1.1.1.1.1.0.now a.1.1.1.1.1.1.1.0.now z e.1.1.1.1.1.1.0.now e.1.1.1.1.1.1.1.0.now }
 
 pub st-segment-of-frame·anywhere : Anywhere st-segment-of-frame (λ κs a e. StSegmentOfFrame a.0.now a.1.0.now a.1.1.0.now a.1.1.1.0 a.1.1.1.1.0.now a.1.1.1.1.1.0 a.1.1.1.1.1.1.0.now a.1.1.1.1.1.1.1.0.now e.result e.last.1.1.1.1.1.1.0 e.last.1.1.1.1.1.1.1.0)
 st-segment-of-frame·anywhere κs a e = refl
@@ -205,7 +208,7 @@ abbrev pub StSegmentsOfFrames : List ℕ → List ℕ → List ℤ → Bool → 
 StSegmentsOfFrames sources segments times log text frames out-segments written index ans out-segments' written' index' = IndexingTold (table_of sources segments times log text) frames out-segments written ans out-segments' written' index'
 
 abbrev pub st-segments-of-frames : Promise
-st-segments-of-frames = record { types = st-segments-of-frames·.ended; Asked = λ κs a. Unit {0}; Learnt = λ κs a z e. StSegmentsOfFrames a.0.now a.1.0.now a.1.1.0.now a.1.1.1.0 a.1.1.1.1.0.now a.1.1.1.1.1.0.now a.1.1.1.1.1.1.0.now a.1.1.1.1.1.1.1.0.now a.1.1.1.1.1.1.1.1.0.now z e.1.1.1.1.1.1.0.now e.1.1.1.1.1.1.1.0.now e.1.1.1.1.1.1.1.1.0.now }
+st-segments-of-frames = record { types = st-segments-of-frames·.ended; Learnt = λ κs a z e. StSegmentsOfFrames a.0.now a.1.0.now a.1.1.0.now a.1.1.1.0 a.1.1.1.1.0.now a.1.1.1.1.1.0.now a.1.1.1.1.1.1.0.now a.1.1.1.1.1.1.1.0.now a.1.1.1.1.1.1.1.1.0.now z e.1.1.1.1.1.1.0.now e.1.1.1.1.1.1.1.0.now e.1.1.1.1.1.1.1.1.0.now }
 
 pub st-segments-of-frames·anywhere : Anywhere st-segments-of-frames (λ κs a e. StSegmentsOfFrames a.0.now a.1.0.now a.1.1.0.now a.1.1.1.0 a.1.1.1.1.0.now a.1.1.1.1.1.0.now a.1.1.1.1.1.1.0.now a.1.1.1.1.1.1.1.0.now a.1.1.1.1.1.1.1.1.0.now e.result e.last.1.1.1.1.1.1.0 e.last.1.1.1.1.1.1.1.0 e.last.1.1.1.1.1.1.1.1.0)
 st-segments-of-frames·anywhere κs a e = refl
@@ -215,7 +218,7 @@ abbrev pub StSegmentOfTimeUs : List ℕ → List ℕ → List ℤ → Bool → L
 StSegmentOfTimeUs sources segments times log text time segment index ans segment' index' = (ans, segment', index') ≡ lookup_told (segment_of_time (table_of sources segments times log text) time) segment
 
 abbrev pub st-segment-of-time-us : Promise
-st-segment-of-time-us = record { types = st-segment-of-time-us·.ended; Asked = λ κs a. Unit {0}; Learnt = λ κs a z e. StSegmentOfTimeUs a.0.now a.1.0.now a.1.1.0.now a.1.1.1.0 a.1.1.1.1.0.now a.1.1.1.1.1.0 a.1.1.1.1.1.1.0.now a.1.1.1.1.1.1.1.0.now z e.1.1.1.1.1.1.0.now e.1.1.1.1.1.1.1.0.now }
+st-segment-of-time-us = record { types = st-segment-of-time-us·.ended; Learnt = λ κs a z e. StSegmentOfTimeUs a.0.now a.1.0.now a.1.1.0.now a.1.1.1.0 a.1.1.1.1.0.now a.1.1.1.1.1.0 a.1.1.1.1.1.1.0.now a.1.1.1.1.1.1.1.0.now z e.1.1.1.1.1.1.0.now e.1.1.1.1.1.1.1.0.now }
 
 pub st-segment-of-time-us·anywhere : Anywhere st-segment-of-time-us (λ κs a e. StSegmentOfTimeUs a.0.now a.1.0.now a.1.1.0.now a.1.1.1.0 a.1.1.1.1.0.now a.1.1.1.1.1.0 a.1.1.1.1.1.1.0.now a.1.1.1.1.1.1.1.0.now e.result e.last.1.1.1.1.1.1.0 e.last.1.1.1.1.1.1.1.0)
 st-segment-of-time-us·anywhere κs a e = refl
@@ -225,7 +228,7 @@ abbrev pub StContinues : List ℕ → List ℕ → List ℤ → Bool → List �
 StContinues sources segments times log text segment answer index ans answer' index' = (ans, answer', index') ≡ continued_told (continues_at (table_of sources segments times log text) segment) answer
 
 abbrev pub st-continues : Promise
-st-continues = record { types = st-continues·.ended; Asked = λ κs a. Unit {0}; Learnt = λ κs a z e. StContinues a.0.now a.1.0.now a.1.1.0.now a.1.1.1.0 a.1.1.1.1.0.now a.1.1.1.1.1.0 a.1.1.1.1.1.1.0.now a.1.1.1.1.1.1.1.0.now z e.1.1.1.1.1.1.0.now e.1.1.1.1.1.1.1.0.now }
+st-continues = record { types = st-continues·.ended; Learnt = λ κs a z e. StContinues a.0.now a.1.0.now a.1.1.0.now a.1.1.1.0 a.1.1.1.1.0.now a.1.1.1.1.1.0 a.1.1.1.1.1.1.0.now a.1.1.1.1.1.1.1.0.now z e.1.1.1.1.1.1.0.now e.1.1.1.1.1.1.1.0.now }
 
 pub st-continues·anywhere : Anywhere st-continues (λ κs a e. StContinues a.0.now a.1.0.now a.1.1.0.now a.1.1.1.0 a.1.1.1.1.0.now a.1.1.1.1.1.0 a.1.1.1.1.1.1.0.now a.1.1.1.1.1.1.1.0.now e.result e.last.1.1.1.1.1.1.0 e.last.1.1.1.1.1.1.1.0)
 st-continues·anywhere κs a e = refl
@@ -235,7 +238,7 @@ abbrev pub StRowsOfTable : List ℕ → List ℕ → List ℤ → Bool → List 
 StRowsOfTable sources segments times log text out-words out-shifts rows index ans out-words' out-shifts' rows' index' = RowedTold (table_of sources segments times log text) out-words out-shifts rows ans out-words' out-shifts' rows' index'
 
 abbrev pub st-rows-of-table : Promise
-st-rows-of-table = record { types = st-rows-of-table·.ended; Asked = λ κs a. Unit {0}; Learnt = λ κs a z e. StRowsOfTable a.0.now a.1.0.now a.1.1.0.now a.1.1.1.0 a.1.1.1.1.0.now a.1.1.1.1.1.0.now a.1.1.1.1.1.1.0.now a.1.1.1.1.1.1.1.0.now a.1.1.1.1.1.1.1.1.0.now z e.1.1.1.1.1.0.now e.1.1.1.1.1.1.0.now e.1.1.1.1.1.1.1.0.now e.1.1.1.1.1.1.1.1.0.now }
+st-rows-of-table = record { types = st-rows-of-table·.ended; Learnt = λ κs a z e. StRowsOfTable a.0.now a.1.0.now a.1.1.0.now a.1.1.1.0 a.1.1.1.1.0.now a.1.1.1.1.1.0.now a.1.1.1.1.1.1.0.now a.1.1.1.1.1.1.1.0.now a.1.1.1.1.1.1.1.1.0.now z e.1.1.1.1.1.0.now e.1.1.1.1.1.1.0.now e.1.1.1.1.1.1.1.0.now e.1.1.1.1.1.1.1.1.0.now }
 
 pub st-rows-of-table·anywhere : Anywhere st-rows-of-table (λ κs a e. StRowsOfTable a.0.now a.1.0.now a.1.1.0.now a.1.1.1.0 a.1.1.1.1.0.now a.1.1.1.1.1.0.now a.1.1.1.1.1.1.0.now a.1.1.1.1.1.1.1.0.now a.1.1.1.1.1.1.1.1.0.now e.result e.last.1.1.1.1.1.0 e.last.1.1.1.1.1.1.0 e.last.1.1.1.1.1.1.1.0 e.last.1.1.1.1.1.1.1.1.0)
 st-rows-of-table·anywhere κs a e = refl
@@ -245,7 +248,7 @@ abbrev pub StBoxSize : List ℕ → ℕ → ℕ → ℕ → ℕ → ℕ → ℕ 
 StBoxSize «data» remaining size header index ans size' header' index' = (ans, size', header', index') ≡ size_told (box_size «data» remaining) size header
 
 abbrev pub st-box-size : Promise
-st-box-size = record { types = st-box-size·.ended; Asked = λ κs a. Unit {0}; Learnt = λ κs a z e. StBoxSize a.0.now a.1.0 a.1.1.0.now a.1.1.1.0.now a.1.1.1.1.0.now z e.1.1.0.now e.1.1.1.0.now e.1.1.1.1.0.now }
+st-box-size = record { types = st-box-size·.ended; Learnt = λ κs a z e. StBoxSize a.0.now a.1.0 a.1.1.0.now a.1.1.1.0.now a.1.1.1.1.0.now z e.1.1.0.now e.1.1.1.0.now e.1.1.1.1.0.now }
 
 pub st-box-size·anywhere : Anywhere st-box-size (λ κs a e. StBoxSize a.0.now a.1.0 a.1.1.0.now a.1.1.1.0.now a.1.1.1.1.0.now e.result e.last.1.1.0 e.last.1.1.1.0 e.last.1.1.1.1.0)
 st-box-size·anywhere κs a e = refl
@@ -255,7 +258,7 @@ abbrev pub StChildren : List ℕ → ℕ → ℕ → ℕ → ℕ → ℕ → ℕ
 StChildren payload at kind start length next index ans kind' start' length' next' index' = (ans, kind', start', length', next', index') ≡ reached_told (children_at payload at) kind start length next
 
 abbrev pub st-children : Promise
-st-children = record { types = st-children·.ended; Asked = λ κs a. Unit {0}; Learnt = λ κs a z e. StChildren a.0.now a.1.0 a.1.1.0.now a.1.1.1.0.now a.1.1.1.1.0.now a.1.1.1.1.1.0.now a.1.1.1.1.1.1.0.now z e.1.1.0.now e.1.1.1.0.now e.1.1.1.1.0.now e.1.1.1.1.1.0.now e.1.1.1.1.1.1.0.now }
+st-children = record { types = st-children·.ended; Learnt = λ κs a z e. StChildren a.0.now a.1.0 a.1.1.0.now a.1.1.1.0.now a.1.1.1.1.0.now a.1.1.1.1.1.0.now a.1.1.1.1.1.1.0.now z e.1.1.0.now e.1.1.1.0.now e.1.1.1.1.0.now e.1.1.1.1.1.0.now e.1.1.1.1.1.1.0.now }
 
 pub st-children·anywhere : Anywhere st-children (λ κs a e. StChildren a.0.now a.1.0 a.1.1.0.now a.1.1.1.0.now a.1.1.1.1.0.now a.1.1.1.1.1.0.now a.1.1.1.1.1.1.0.now e.result e.last.1.1.0 e.last.1.1.1.0 e.last.1.1.1.1.0 e.last.1.1.1.1.1.0 e.last.1.1.1.1.1.1.0)
 st-children·anywhere κs a e = refl
@@ -265,7 +268,7 @@ abbrev pub StChild : List ℕ → ℕ → ℕ → ℕ → ℕ → ℕ → ℕ �
 StChild payload kind start length index ans start' length' index' = (ans, start', length', index') ≡ place_told (child_place payload kind) start length
 
 abbrev pub st-child : Promise
-st-child = record { types = st-child·.ended; Asked = λ κs a. Unit {0}; Learnt = λ κs a z e. StChild a.0.now a.1.0 a.1.1.0.now a.1.1.1.0.now a.1.1.1.1.0.now z e.1.1.0.now e.1.1.1.0.now e.1.1.1.1.0.now }
+st-child = record { types = st-child·.ended; Learnt = λ κs a z e. StChild a.0.now a.1.0 a.1.1.0.now a.1.1.1.0.now a.1.1.1.1.0.now z e.1.1.0.now e.1.1.1.0.now e.1.1.1.1.0.now }
 
 pub st-child·anywhere : Anywhere st-child (λ κs a e. StChild a.0.now a.1.0 a.1.1.0.now a.1.1.1.0.now a.1.1.1.1.0.now e.result e.last.1.1.0 e.last.1.1.1.0 e.last.1.1.1.1.0)
 st-child·anywhere κs a e = refl
@@ -275,7 +278,7 @@ abbrev pub StFindBox : List ℕ → ℕ → ℕ → ℕ → Bool → ℕ → ℕ
 StFindBox bytes from to kind text-types start length index ans start' length' index' = (ans, start', length', index') ≡ place_told (find_box_place bytes from to kind text-types) start length
 
 abbrev pub st-find-box : Promise
-st-find-box = record { types = st-find-box·.ended; Asked = λ κs a. Unit {0}; Learnt = λ κs a z e. StFindBox a.0.now a.1.0 a.1.1.0 a.1.1.1.0 a.1.1.1.1.0 a.1.1.1.1.1.0.now a.1.1.1.1.1.1.0.now a.1.1.1.1.1.1.1.0.now z e.1.1.1.1.1.0.now e.1.1.1.1.1.1.0.now e.1.1.1.1.1.1.1.0.now }
+st-find-box = record { types = st-find-box·.ended; Learnt = λ κs a z e. StFindBox a.0.now a.1.0 a.1.1.0 a.1.1.1.0 a.1.1.1.1.0 a.1.1.1.1.1.0.now a.1.1.1.1.1.1.0.now a.1.1.1.1.1.1.1.0.now z e.1.1.1.1.1.0.now e.1.1.1.1.1.1.0.now e.1.1.1.1.1.1.1.0.now }
 
 pub st-find-box·anywhere : Anywhere st-find-box (λ κs a e. StFindBox a.0.now a.1.0 a.1.1.0 a.1.1.1.0 a.1.1.1.1.0 a.1.1.1.1.1.0.now a.1.1.1.1.1.1.0.now a.1.1.1.1.1.1.1.0.now e.result e.last.1.1.1.1.1.0 e.last.1.1.1.1.1.1.0 e.last.1.1.1.1.1.1.1.0)
 st-find-box·anywhere κs a e = refl
@@ -285,7 +288,7 @@ abbrev pub StTableText : List ℕ → ℕ → ℕ → ℕ → ℕ → ℕ → �
 StTableText file start length index ans start' length' index' = (ans, start', length', index') ≡ place_told (table_text_place file) start length
 
 abbrev pub st-table-text : Promise
-st-table-text = record { types = st-table-text·.ended; Asked = λ κs a. Unit {0}; Learnt = λ κs a z e. StTableText a.0.now a.1.0.now a.1.1.0.now a.1.1.1.0.now z e.1.0.now e.1.1.0.now e.1.1.1.0.now }
+st-table-text = record { types = st-table-text·.ended; Learnt = λ κs a z e. StTableText a.0.now a.1.0.now a.1.1.0.now a.1.1.1.0.now z e.1.0.now e.1.1.0.now e.1.1.1.0.now }
 
 pub st-table-text·anywhere : Anywhere st-table-text (λ κs a e. StTableText a.0.now a.1.0.now a.1.1.0.now a.1.1.1.0.now e.result e.last.1.0 e.last.1.1.0 e.last.1.1.1.0)
 st-table-text·anywhere κs a e = refl

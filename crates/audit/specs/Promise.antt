@@ -4,11 +4,10 @@ use contract.Lifetimes.{Lfts}
 use denote.Triple.Entry.{Args, Res}
 use denote.Triple.Clauses.{Ended, Lasts, AtExit, at_exit}
 
--- A promise, quoted from the modules that Rattle generates of a function's source: the types of its parameters and of its result, what its
--- `requires` asks of the arguments, and what its `ensures` says of the result and of the parameters at exit.
+-- A promise: the types of a function's parameters and of its result, which Rattle generates of its source, and what its `ensures` says of
+-- the result and of the parameters at exit. Nothing is asked of the arguments: Promised.antt.
 pub record Promise : Type 2 where
   pub types : Ended
-  pub Asked : (κs : Lfts types.signature.lifetimes) → Args types.signature κs → Type 0
   pub Learnt : (κs : Lfts types.signature.lifetimes) → Args types.signature κs → Res types.signature κs → AtExit types κs → Type 0
 
 module _ (f : Promise) where
@@ -37,9 +36,9 @@ module _ (f : Promise) where
     pub said : Says κs a the
     pub only : (e : End κs a) → Says κs a e → e ≡ the
 
-  -- ONE ANSWER: the call asks nothing of its arguments, and whatever they are, exactly one end meets the promise
+  -- ONE ANSWER: whatever a call's arguments, exactly one end meets the promise
   abbrev pub OneAnswer : Type 0
-  OneAnswer = (κs : Regions) (a : Given κs) → f.Asked κs a × ExactlyOne κs a
+  OneAnswer = (κs : Regions) (a : Given κs) → ExactlyOne κs a
 
   -- the promise of any call, wherever its slices live and lie, is P of it
   abbrev pub Anywhere : ((κs : Regions) (a : Given κs) → End κs a → Type 0) → Type 1

@@ -7,7 +7,7 @@ use denote.Triple.Spec.{Spec, exits}
 use types.Logic.{Logic}
 use Rattle.audit.specs.Promise.{Promise}
 
--- Nothing is asked; and at each exit the result, and what the parameters hold there, are as the promise says.
+-- Nothing is asked (`emp`); and at each exit the result, and what the parameters hold there, are as the promise says.
 abbrev pub promised : (f : Promise) → {M : Type 1} {𝓤 : Ura M} (𝓛 : Logic 𝓤) → Spec 𝓤 f.types.signature
 promised f {𝓤 = 𝓤} 𝓛 = λ κs a. record {
   ghost = Unit {0};

@@ -177,7 +177,8 @@ pub fn cuts(
     }
 }
 
-// Each of many cuts is the cut of its range alone.
+// Each of many cuts is the cut of its range alone, and one range is one cut; which lists are accepted, how others are refused, and what stays
+// as lent.
 #[tactic(auto, using(crate::proofs::Lawful::lawful))]
 pub fn each_cut_is_one_cut()
     ensures { CutsLaws Cuts Cut }

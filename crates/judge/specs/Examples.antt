@@ -1,4 +1,4 @@
--- Document 01's numbers on near ends, and some beside them on every refusal by a video; the same of recordings. They are the contract of `worked_examples_hold`.
+-- Document 01's numbers on near ends, and some beside them on every refusal by a video; and some of recordings. They are the contract of `worked_examples_hold`.
 use Rattle.std.specs.Prelude.{ℕ, false, List, [], ◌∷◌, ℤ, pos, neg_ℤ}
 use Rattle.choice.specs.Examples.{Example, is, Hold}
 use Rattle.rules.specs.declared.Checked.{Checked}

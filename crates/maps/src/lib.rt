@@ -488,7 +488,8 @@ pub fn origin(u: &[u64], s: &[i64], frame: u64) -> Traced
     }
 }
 
-// What the calls give together: what is written is a map again, with the origins that it must have.
+// What the calls give together: when they accept, that what they write is a map again, with the origins that it must have, and what they
+// leave as lent.
 #[tactic(auto, using(crate::proofs::Lawful::lawful))]
 pub fn calls_keep_origins()
     ensures { Laws Cut Join Merge Trace }

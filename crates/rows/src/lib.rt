@@ -35,7 +35,8 @@ pub fn last_begun(u: &[u64], n: usize, frame: u64) -> usize
     at / 5
 }
 
-// The rows of a well-formed map tile its frames, and cut, join and merge keep origins.
+// The rows of a well-formed map tile its frames, so that each has one origin; a cut, a join and a merge keep origins; two maps merge alike
+// exactly when their origins agree; and an absent shift isn't a shift of 0.
 #[tactic(auto, using(crate::proofs::Demanded::demanded))]
 pub fn maps_meet_the_demands()
     ensures { Demands }

@@ -1,4 +1,4 @@
--- That an accepted table's rows are a map, as its proof says it.
+-- What it is for an accepted table's rows to be a map of its frames.
 use Rattle.std.specs.Prelude.{ℕ, ◌≡◌, length}
 use Rattle.rows.specs.Rows.{total, WellFormed}
 use Rattle.rows.specs.Lent.{rows, words_of, shifts_of}

@@ -1,4 +1,4 @@
--- Both modes of composition offsets answer the same: by modes' law of the definition. Assumes nothing.
+-- Both modes of composition offsets answer the same: by modes' theorem on the definition. Assumes nothing.
 use Prim.Native.Nat.{ℕ}
 use mathlib.Core.Path.{◌≡◌, sym, ap, ◌∙◌}
 use mathlib.Core.Bool.{Bool}
@@ -7,8 +7,8 @@ use lib.IntN.{ℤ}
 use Rattle.slices.specs.Slices.{laid}
 use Rattle.frame_times.specs.declared.FrameTimes.{FrameTimes}
 use Rattle.frame_times.specs.Times.{Outcome, MoovAnswers, room, times_of_moov}
-use Rattle.modes.proofs.Modes.{modes_agree}
 use Rattle.audit.specs.Claims.{Agreeing}
+use Rattle.audit.proofs.Theorems.{Theorems}
 
 -- what a mode answers, another one does that has the same outcome
 same : {moov : List ℕ} {m n : Bool} {starts a b starts' a' b' : List ℤ} {r : FrameTimes} → times_of_moov m moov (room starts a b) ≡ times_of_moov n moov (room starts a b)
@@ -20,5 +20,5 @@ same {starts = starts} e p = record {
   second-clear = p.second-clear;
 }
 
-pub agreeing : Agreeing
-agreeing = record { frame-times = λ moov starts a b starts' a' b' r h. let e = modes_agree moov (room starts a b) h in (same e, same (sym e)) }
+pub agreeing : Theorems → Agreeing
+agreeing by = record { frame-times = λ moov starts a b starts' a' b' r h. let e = by.modes moov (room starts a b) h in (same e, same (sym e)) }

@@ -1,14 +1,8 @@
--- Every claim holds.
-use Rattle.rows.proofs.Demanded.{demanded}
-use Rattle.maps.proofs.Lawful.{lawful}
-use Rattle.cuts.proofs.Lawful as cuts
-use Rattle.differ.proofs.Differing.{differing}
-use Rattle.stops.proofs.Answers as stops
-use Rattle.stops.proofs.Stopping.{stopping}
-use Rattle.stops.proofs.Dividing.{dividing}
-use Rattle.audit.specs.Calls as calls
+-- Every claim holds, by the theorems of the crates below. Assumes nothing.
+use Rattle.differ.specs.Differ.{Differing}
 use Rattle.audit.specs.Words.{table, Validate, CheckMcraw}
 use Rattle.audit.specs.Claims.{Claims}
+use Rattle.audit.proofs.Theorems.{Theorems}
 use Rattle.audit.proofs.Once.{once}
 use Rattle.audit.proofs.Faced.{faced}
 use Rattle.audit.proofs.Telling.{telling}
@@ -22,14 +16,34 @@ use Rattle.audit.proofs.Rounded.{rounding, ordering}
 use Rattle.audit.proofs.Absent.{absent}
 use Rattle.audit.proofs.Worked.{all_hold}
 
--- the calls on boxes and frame times answer by their definitions
-by-definition : stops.Answers calls.ChildPlace calls.FindBoxPlace calls.Children calls.VideoFrameTimesOfMoov
-by-definition = record {
-  child = λ b kind r. (meant.child-place b kind r).0;
-  find-box = λ b start end kind text r. (meant.find-box-place b start end kind text r).0;
-  children = λ b at r. (meant.children b at r).0;
-  frame-times = λ moov standard starts a b starts' a' b' r. (meant.video-frame-times-of-moov moov standard starts a b starts' a' b' r).0;
+-- of tables as they are lent, of which the calls answer what the judge's definitions do of the tables
+differing : Theorems → Differing table Validate CheckMcraw
+differing by = record {
+  constant = λ l m frames num den M N s s' x y. by.one-video.constant (table l) (table m) frames num den M N s s' x y;
+  times = λ l m scale end nominal starts M N x y. by.one-video.times (table l) (table m) scale end nominal starts M N x y;
+  recording = λ l m ts a b a' b' c d c' d' M N h x y. by.one-video.recording (table l) (table m) ts a b a' b' c d c' d' M N h x y;
+  one-timestamp = λ l m z a b a' b' c d c' d' M N x y. by.one-video.one-timestamp (table l) (table m) z a b a' b' c d c' d' M N x y;
 }
 
-pub audited : Claims
-audited = record { answers = once; face = faced; telling = telling; origins = tiled; laws = lawful; demands = demanded; many-cuts = cuts.lawful; refusals = right; differing = differing table Validate CheckMcraw (λ l video starts r. (meant.validate l video starts r).0) (λ l ts a b a' b' r p. ((meant.check-mcraw l ts a b a' b' r).0 p).answer); each-frame = each-frame; meanings = meant; walking = walked; stopping = stopping calls.ChildPlace calls.FindBoxPlace calls.Children calls.VideoFrameTimesOfMoov by-definition; dividing = dividing calls.ChildPlace calls.FindBoxPlace calls.Children calls.VideoFrameTimesOfMoov by-definition; agreeing = agreeing; rounding = rounding; ordering = ordering; ignored = absent; worked = all_hold }
+pub audited : Theorems → Claims
+audited by = record {
+  answers = once;
+  face = faced;
+  telling = telling;
+  origins = tiled by;
+  laws = by.laws;
+  demands = by.demands;
+  many-cuts = by.cuts;
+  refusals = right by;
+  differing = differing by;
+  each-frame = each-frame;
+  meanings = meant;
+  walking = walked;
+  stopping = by.stopping;
+  dividing = by.dividing;
+  agreeing = agreeing by;
+  rounding = rounding;
+  ordering = ordering;
+  ignored = absent;
+  worked = all_hold;
+}

@@ -1,5 +1,6 @@
 pub mod Quoted
 pub mod FaceQuoted
+pub mod Theorems
 pub mod Once
 pub mod Faced
 pub mod Telling

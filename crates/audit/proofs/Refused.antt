@@ -1,23 +1,22 @@
--- Refusals are right: of every answer, by the theorems of rules and judge on the definitions and table's on lengths. Assumes nothing.
+-- Refusals are right: of every answer, by the theorems of rules and judge on the definitions and table's law on lengths. Assumes nothing.
 use mathlib.Core.Path.{sym, subst}
 use lib.ListN.{length}
 use Rattle.rules.specs.declared.Checked.{Checked}
 use Rattle.rules.specs.Records.{frame_total}
 use Rattle.rules.specs.Paper.{tests, Rightly}
-use Rattle.rules.proofs.Exact.{rightly}
 use Rattle.table.proofs.Lengths.{uneven}
 use Rattle.judge.specs.Paper.{validate_tests, mcraw_tests}
-use Rattle.judge.proofs.Exact.{validated_rightly, recorded_rightly}
 use Rattle.audit.specs.Words.{table}
 use Rattle.audit.specs.Claims.{Refusals}
+use Rattle.audit.proofs.Theorems.{Theorems}
 
-pub right : Refusals
-right = record {
-  check = λ l r p. subst (λ (c : Checked). Rightly c (tests (table l)) (frame_total (table l).segments)) (sym p) (rightly (table l));
+pub right : Theorems → Refusals
+right by = record {
+  check = λ l r p. subst (λ (c : Checked). Rightly c (tests (table l)) (frame_total (table l).segments)) (sym p) (by.refusals (table l));
   validate = λ l video starts r p.
-      subst (λ (c : Checked). Rightly c (validate_tests (table l) video starts) (frame_total (table l).segments)) (sym p) (validated_rightly (table l) video starts);
+      subst (λ (c : Checked). Rightly c (validate_tests (table l) video starts) (frame_total (table l).segments)) (sym p) (by.by-video (table l) video starts);
   check-mcraw = λ l ts a b a' b' r p.
       subst (λ (c : Checked). Rightly c (mcraw_tests (table l) ts (length a) (length b)) (frame_total (table l).segments)) (sym p.answer)
-      (recorded_rightly (table l) ts (length a) (length b));
+      (by.by-recording (table l) ts (length a) (length b));
   uneven = λ l. uneven l.sources l.words l.stamps l.log l.text;
 }

@@ -18,7 +18,6 @@ use Rattle.slices.specs.Slices.{after}
 use Rattle.rows.specs.declared.Row.{Row}
 use Rattle.rows.specs.Rows.{row_end, total, origin, WellFormed}
 use Rattle.rows.specs.Lent.{row_at, rows, words_of, shifts_of}
-use Rattle.rows.proofs.Demanded.{demanded}
 use Rattle.rows.proofs.Flat.{length-words, length-shifts, rows-flat}
 use Rattle.rules.specs.declared.Checked.TheVariants.{Frames}
 use Rattle.rules.specs.declared.Lookup.TheVariants.{Index}
@@ -31,14 +30,13 @@ use Rattle.rules.proofs.Holder.{Holds, holder}
 use Rattle.table_rows.specs.declared.Filled.{Filled}
 use Rattle.table_rows.specs.declared.Filled.TheVariants.{Rows}
 use Rattle.table_rows.specs.Rows.{row_of, rows_of, rows_refusal, filled, Rowed}
-use Rattle.table_rows.proofs.Mapped.{mapped}
 use Rattle.maps.specs.declared.Traced.{Traced}
 use Rattle.maps.specs.declared.Mapped.TheVariants as answers
 use Rattle.maps.specs.Answers.{traced_of, origin_refusal, Cut, Trace}
 use Rattle.maps.specs.Laws.{LentMap}
-use Rattle.maps.proofs.Lawful.{lawful}
 use Rattle.audit.specs.Words.{table, map_written}
 use Rattle.audit.specs.Claims.{traced_in, Origins}
+use Rattle.audit.proofs.Theorems.{Theorems}
 
 filled_of : (x : Refusal) (n k : ℕ) → Rows k ≡ filled x n → (x ≡ Never) × (k ≡ n)
 unfolding filled
@@ -60,12 +58,12 @@ unfolding filled
 rows-of t N ou ou' os os' r c g h p = p.answer ∙ ap (λ (x : Refusal). filled x (length t.segments)) (room t N (length ou) (length os) c g h)
 
 -- what was written is the rows of the table
-module _ (t : Table) (N k : ℕ) (ou ou' : List ℕ) (os os' : List ℤ) (c : Frames N ≡ check_of t) (p : Rowed t ou os (Rows k) ou' os') where
+module _ (by : Theorems) (t : Table) (N k : ℕ) (ou ou' : List ℕ) (os os' : List ℤ) (c : Frames N ≡ check_of t) (p : Rowed t ou os (Rows k) ou' os') where
   none : rows_refusal t (length ou) (length os) ≡ Never
   none = (filled_of _ (length t.segments) k p.answer).0
 
   rows-count : k ≡ length (rows_of t)
-  rows-count = (filled_of _ (length t.segments) k p.answer).1 ∙ sym (mapped t).each
+  rows-count = (filled_of _ (length t.segments) k p.answer).1 ∙ sym (by.mapped t).each
 
   words_are : take (5 * k) ou' ≡ words_of (rows_of t)
   words_are =
@@ -81,15 +79,15 @@ module _ (t : Table) (N k : ℕ) (ou ou' : List ℕ) (os os' : List ℤ) (c : Fr
   is = ap₂ rows words_are shifts-are ∙ rows-flat (rows_of t)
 
   well : WellFormed (map_written k ou' os')
-  well = rw is ((mapped t).well N (sym c))
+  well = rw is ((by.mapped t).well N (sym c))
 
   frames : total (map_written k ou' os') ≡ N
-  frames = ap total is ∙ (mapped t).frames N (sym c)
+  frames = ap total is ∙ (by.mapped t).frames N (sym c)
 
   lent : LentMap (take (5 * k) ou') (take k os')
   lent =
       let a = accepted t N (sym c) in
-      let e = (mapped t).each in
+      let e = (by.mapped t).each in
       let nu = ap length words_are ∙ length-words (rows_of t) in
       let ns = ap length shifts-are ∙ length-shifts (rows_of t) in
       record { some = omega (arith, a.some-segments); sizes = omega arith; well = well; few = omega (arith, a.few-segments) }
@@ -103,58 +101,58 @@ index_is t N f i c e = let q : Index i ≡ looked_up (Frames N) (ended (over_by 
 made : (u : List ℕ) (s : List ℤ) (f i j : ℕ) (r : Traced) (x : Row) → i ≡ j → row_at u s i ≡ x → r ≡ traced_in (row_at u s j) f → r ≡ traced_in x f
 made u s f i j r x e q g = g ∙ ap (λ (n : ℕ). traced_in (row_at u s n) f) (sym e) ∙ ap (λ (y : Row). traced_in y f) q
 
-module _ (t : Table) (N k f i : ℕ) (ou ou' : List ℕ) (os os' : List ℤ) (r : Traced) (c : Frames N ≡ check_of t) (p : Rowed t ou os (Rows k) ou' os') (h : f < N)
+module _ (by : Theorems) (t : Table) (N k f i : ℕ) (ou ou' : List ℕ) (os os' : List ℤ) (r : Traced) (c : Frames N ≡ check_of t) (p : Rowed t ou os (Rows k) ou' os') (h : f < N)
     (e : Index i ≡ segment_of_frame t f) (o : Trace (take (5 * k) ou') (take k os') f r) where
   here : Holds t f i
   here = subst (Holds t f) (sym (index_is t N f i c e)) (holder (accepted t N (sym c)) f h)
 
   inside : i < length (take k os')
-  inside = omega (arith, here.exists, ap length (shifts-are t N k ou ou' os os' c p) ∙ length-shifts (rows_of t) ∙ (mapped t).each)
+  inside = omega (arith, here.exists, ap length (shifts-are by t N k ou ou' os os' c p) ∙ length-shifts (rows_of t) ∙ (by.mapped t).each)
 
   row_is : row_at (take (5 * k) ou') (take k os') i ≡ row_of (segment t i)
   unfolding rows_of
   row_is =
       sym (get_d-run (row_at (take (5 * k) ou') (take k os')) 0 (length (take k os')) i (row_of no_segment) inside ∙ ap (row_at (take (5 * k) ou') (take k os')) (zero-add i))
-      ∙ ap (λ (x : List Row). get_or x i (row_of no_segment)) (is t N k ou ou' os os' c p)
+      ∙ ap (λ (x : List Row). get_or x i (row_of no_segment)) (is by t N k ou ou' os os' c p)
       ∙ get_or-map row_of t.segments i no_segment
 
   agreed : (i < length t.segments) × (r ≡ traced_in (row_of (segment t i)) f)
   unfolding row_of
   agreed =
-      let m = lent t N k ou ou' os os' c p in
-      let w = lawful.origin-found _ _ f r m (omega (arith, frames t N k ou ou' os os' c p)) o in
+      let m = lent by t N k ou ou' os os' c p in
+      let w = by.laws.origin-found _ _ f r m (omega (arith, frames by t N k ou ou' os os' c p)) o in
       let j = w.only i inside (subst (λ (x : Row). x.out ≤ f) (sym row_is) here.from) (subst (λ (x : Row). f < row_end x) (sym row_is) here.to) in
       (here.exists, made (take (5 * k) ou') (take k os') f i w.index r (row_of (segment t i)) j row_is w.gives)
 
 -- the same of a clip that was cut twice
-module _ (t : Table) (N k m n a b c d f i : ℕ) (ou ou' pu pu' qu qu' : List ℕ) (os os' ps ps' qs qs' : List ℤ) (r : Traced) (ch : Frames N ≡ check_of t)
+module _ (by : Theorems) (t : Table) (N k m n a b c d f i : ℕ) (ou ou' pu pu' qu qu' : List ℕ) (os os' ps ps' qs qs' : List ℤ) (r : Traced) (ch : Frames N ≡ check_of t)
     (p : Rowed t ou os (Rows k) ou' os') (x : Cut (take (5 * k) ou') (take k os') a b pu ps (answers.Rows m) pu' ps')
     (y : Cut (take (5 * m) pu') (take m ps') c d qu qs (answers.Rows n) qu' qs') (h : f < d - c) (e : Index i ≡ segment_of_frame t (a + (c + f)))
     (o : Trace (take (5 * n) qu') (take n qs') f r) where
   pub agreed-twice : (i < length t.segments) × (r ≡ traced_in (row_of (segment t i)) (a + (c + f)))
   agreed-twice =
-      let gx = lawful.cut-gives (take (5 * k) ou') (take k os') a b m pu pu' ps ps' x in
-      let gy = lawful.cut-gives (take (5 * m) pu') (take m ps') c d n qu qu' qs qs' y in
+      let gx = by.laws.cut-gives (take (5 * k) ou') (take k os') a b m pu pu' ps ps' x in
+      let gy = by.laws.cut-gives (take (5 * m) pu') (take m ps') c d n qu qu' qs qs' y in
       let between : total (rows (take (5 * m) pu') (take m ps')) ≡ b - a = ap total gx.3.is ∙ gx.4 in
       let z = traced_of (origin_refusal (take (5 * m) pu') (take m ps') (c + f)) (origin (rows (take (5 * m) pu') (take m ps')) (c + f)) in
       let w = traced_of (origin_refusal (take (5 * k) ou') (take k os') (a + (c + f))) (origin (rows (take (5 * k) ou') (take k os')) (a + (c + f))) in
       let in-first : c + f < b - a = omega (arith, gy.2) in
-      let in_table : a + (c + f) < N = omega (arith, gx.2, frames t N k ou ou' os os' ch p) in
-      let first : r ≡ z = lawful.cut-origins (take (5 * m) pu') (take m ps') c d n f qu qu' qs qs' r z y h o refl in
-      let second : z ≡ w = lawful.cut-origins (take (5 * k) ou') (take k os') a b m (c + f) pu pu' ps ps' z w x in-first refl refl in
-      agreed t N k (a + (c + f)) i ou ou' os os' r ch p in_table e (first ∙ second)
+      let in_table : a + (c + f) < N = omega (arith, gx.2, frames by t N k ou ou' os os' ch p) in
+      let first : r ≡ z = by.laws.cut-origins (take (5 * m) pu') (take m ps') c d n f qu qu' qs qs' r z y h o refl in
+      let second : z ≡ w = by.laws.cut-origins (take (5 * k) ou') (take k os') a b m (c + f) pu pu' ps ps' z w x in-first refl refl in
+      agreed by t N k (a + (c + f)) i ou ou' os os' r ch p in_table e (first ∙ second)
 
-pub tiled : Origins
-tiled = record {
+pub tiled : Theorems → Origins
+tiled by = record {
   written_out = λ l N ou ou' os os' r c g h p. rows-of (table l) N ou ou' os os' r c g h p;
   tiles = λ l N k ou ou' os os' c p.
       let t = table l in
-      (record { lent = lent t N k ou ou' os os' c p; is = is t N k ou ou' os os' c p }, (demanded.tiles (map_written k ou' os') (well t N k ou ou' os os' c p)).0, frames t N k ou ou' os os' c p);
+      (record { lent = lent by t N k ou ou' os os' c p; is = is by t N k ou ou' os os' c p }, (by.demands.tiles (map_written k ou' os') (well by t N k ou ou' os os' c p)).0, frames by t N k ou ou' os os' c p);
   one = λ l N k f ou ou' os os' r c p o.
-      let t = frames (table l) N k ou ou' os os' c p in
-      let m = lent (table l) N k ou ou' os os' c p in
-      (λ h. lawful.origin-found _ _ f r m (omega arith) o, λ h. lawful.origin-past _ _ f r m (omega arith) o);
+      let t = frames by (table l) N k ou ou' os os' c p in
+      let m = lent by (table l) N k ou ou' os os' c p in
+      (λ h. by.laws.origin-found _ _ f r m (omega arith) o, λ h. by.laws.origin-past _ _ f r m (omega arith) o);
   twice = λ l N k m n a b c d f i ou ou' pu pu' qu qu' os os' ps ps' qs qs' r ch p x y h e o.
-      agreed-twice (table l) N k m n a b c d f i ou ou' pu pu' qu qu' os os' ps ps' qs qs' r ch p x y h e o;
-  agree = λ l N k f i ou ou' os os' r c p h e o. agreed (table l) N k f i ou ou' os os' r c p h e o;
+      agreed-twice by (table l) N k m n a b c d f i ou ou' pu pu' qu qu' os os' ps ps' qs qs' r ch p x y h e o;
+  agree = λ l N k f i ou ou' os os' r c p h e o. agreed by (table l) N k f i ou ou' os os' r c p h e o;
 }

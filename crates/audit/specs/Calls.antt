@@ -1,10 +1,9 @@
 -- Made by tools/calls: of each public call its promise. First, with a capital, its clause in the source's own words, of plain lists and numbers; a part of the caller's
 -- bytes stays a reference, and `X·of` is the clause's X where the quotation has that name. Then the same as a promise: of the arguments (a.0 is the first,
--- a.1.0 the second), the result z and the exit e. Then that so it is wherever the slices lie. The first is for readers; that the second is what was proved of
--- the call's code stands in proofs/Quoted.antt.
-use Rattle.std.specs.Prelude.{ℕ, Bool, List, ◌≡◌, refl, ℤ}
+-- a.1.0 the second), the result z and the exit e. The first is for readers; that the second is what was proved of the call's code stands in proofs/Quoted.antt.
+use Rattle.std.specs.Prelude.{ℕ, Bool, List, ◌≡◌, ℤ}
 use Rattle.std.specs.Borrow.{Bor}
-use Rattle.audit.specs.Promise.{Promise, Anywhere}
+use Rattle.audit.specs.Promise.{Promise}
 use Rattle.boxes.specs.Boxes.{box_size, children_at}
 use Rattle.boxes.specs.Places.{PartAt, child_place, find_box_place, table_text_place}
 use Rattle.boxes.specs.declared.Place.{Place}
@@ -70,18 +69,12 @@ TicksToUs ticks scale ans = ans ≡ ticks_to_us ticks scale
 abbrev pub ticks-to-us : Promise
 ticks-to-us = record { types = ticks-to-us·.ended; Learnt = λ κs a z e. TicksToUs a.0 a.1.0 z }
 
-pub ticks-to-us·anywhere : Anywhere ticks-to-us (λ κs a e. TicksToUs a.0 a.1.0 e.result)
-ticks-to-us·anywhere κs a e = refl
-
 -- utc::is_utc_second: is_utc_second(b) answers ans
 abbrev pub IsUtcSecond : List ℕ → Bool → Type 0
 IsUtcSecond b ans = ans ≡ utc_second b
 
 abbrev pub is-utc-second : Promise
 is-utc-second = record { types = is-utc-second·.ended; Learnt = λ κs a z e. IsUtcSecond a.0.now z }
-
-pub is-utc-second·anywhere : Anywhere is-utc-second (λ κs a e. IsUtcSecond a.0.now e.result)
-is-utc-second·anywhere κs a e = refl
 
 -- table::check: check(sources, u, t, log, text) answers ans
 abbrev pub Check : List ℕ → List ℕ → List ℤ → Bool → List ℕ → Checked → Type 0
@@ -90,18 +83,12 @@ Check sources u t log text ans = ans ≡ check_of (table_of sources u t log text
 abbrev pub check : Promise
 check = record { types = check·.ended; Learnt = λ κs a z e. Check a.0.now a.1.0.now a.1.1.0.now a.1.1.1.0 a.1.1.1.1.0.now z }
 
-pub check·anywhere : Anywhere check (λ κs a e. Check a.0.now a.1.0.now a.1.1.0.now a.1.1.1.0 a.1.1.1.1.0.now e.result)
-check·anywhere κs a e = refl
-
 -- lookup::segment_of_frame: segment_of_frame(sources, u, t, log, text, frame) answers ans
 abbrev pub SegmentOfFrame : List ℕ → List ℕ → List ℤ → Bool → List ℕ → ℕ → Lookup → Type 0
 SegmentOfFrame sources u t log text frame ans = ans ≡ segment_of_frame (table_of sources u t log text) frame
 
 abbrev pub segment-of-frame : Promise
 segment-of-frame = record { types = segment-of-frame·.ended; Learnt = λ κs a z e. SegmentOfFrame a.0.now a.1.0.now a.1.1.0.now a.1.1.1.0 a.1.1.1.1.0.now a.1.1.1.1.1.0 z }
-
-pub segment-of-frame·anywhere : Anywhere segment-of-frame (λ κs a e. SegmentOfFrame a.0.now a.1.0.now a.1.1.0.now a.1.1.1.0 a.1.1.1.1.0.now a.1.1.1.1.1.0 e.result)
-segment-of-frame·anywhere κs a e = refl
 
 -- lookup::segment_of_time_us: segment_of_time_us(sources, u, t, log, text, time) answers ans
 abbrev pub SegmentOfTimeUs : List ℕ → List ℕ → List ℤ → Bool → List ℕ → ℤ → Lookup → Type 0
@@ -110,18 +97,12 @@ SegmentOfTimeUs sources u t log text time ans = ans ≡ segment_of_time (table_o
 abbrev pub segment-of-time-us : Promise
 segment-of-time-us = record { types = segment-of-time-us·.ended; Learnt = λ κs a z e. SegmentOfTimeUs a.0.now a.1.0.now a.1.1.0.now a.1.1.1.0 a.1.1.1.1.0.now a.1.1.1.1.1.0 z }
 
-pub segment-of-time-us·anywhere : Anywhere segment-of-time-us (λ κs a e. SegmentOfTimeUs a.0.now a.1.0.now a.1.1.0.now a.1.1.1.0 a.1.1.1.1.0.now a.1.1.1.1.1.0 e.result)
-segment-of-time-us·anywhere κs a e = refl
-
 -- lookup::continues: continues(sources, u, t, log, text, r) answers ans
 abbrev pub Continues : List ℕ → List ℕ → List ℤ → Bool → List ℕ → ℕ → Continued → Type 0
 Continues sources u t log text r ans = ans ≡ continues_at (table_of sources u t log text) r
 
 abbrev pub continues : Promise
 continues = record { types = continues·.ended; Learnt = λ κs a z e. Continues a.0.now a.1.0.now a.1.1.0.now a.1.1.1.0 a.1.1.1.1.0.now a.1.1.1.1.1.0 z }
-
-pub continues·anywhere : Anywhere continues (λ κs a e. Continues a.0.now a.1.0.now a.1.1.0.now a.1.1.1.0 a.1.1.1.1.0.now a.1.1.1.1.1.0 e.result)
-continues·anywhere κs a e = refl
 
 -- table_rows::rows_of_table: rows_of_table(sources, u, t, log, text, ou, os) answers ans, and leaves ou', os'
 abbrev pub RowsOfTable : List ℕ → List ℕ → List ℤ → Bool → List ℕ → List ℕ → List ℤ → Filled → List ℕ → List ℤ → Type 0
@@ -130,18 +111,12 @@ RowsOfTable sources u t log text ou os ans ou' os' = Rowed (table_of sources u t
 abbrev pub rows-of-table : Promise
 rows-of-table = record { types = rows-of-table·.ended; Learnt = λ κs a z e. RowsOfTable a.0.now a.1.0.now a.1.1.0.now a.1.1.1.0 a.1.1.1.1.0.now a.1.1.1.1.1.0.now a.1.1.1.1.1.1.0.now z e.1.1.1.1.1.0.now e.1.1.1.1.1.1.0.now }
 
-pub rows-of-table·anywhere : Anywhere rows-of-table (λ κs a e. RowsOfTable a.0.now a.1.0.now a.1.1.0.now a.1.1.1.0 a.1.1.1.1.0.now a.1.1.1.1.1.0.now a.1.1.1.1.1.1.0.now e.result e.last.1.1.1.1.1.0 e.last.1.1.1.1.1.1.0)
-rows-of-table·anywhere κs a e = refl
-
 -- lookups::segments_of_frames: segments_of_frames(sources, u, t, log, text, frames, out) answers ans, and leaves out'
 abbrev pub SegmentsOfFrames : List ℕ → List ℕ → List ℤ → Bool → List ℕ → List ℕ → List ℕ → Indexed → List ℕ → Type 0
 SegmentsOfFrames sources u t log text frames out ans out' = Indexing (table_of sources u t log text) frames out ans out'
 
 abbrev pub segments-of-frames : Promise
 segments-of-frames = record { types = segments-of-frames·.ended; Learnt = λ κs a z e. SegmentsOfFrames a.0.now a.1.0.now a.1.1.0.now a.1.1.1.0 a.1.1.1.1.0.now a.1.1.1.1.1.0.now a.1.1.1.1.1.1.0.now z e.1.1.1.1.1.1.0.now }
-
-pub segments-of-frames·anywhere : Anywhere segments-of-frames (λ κs a e. SegmentsOfFrames a.0.now a.1.0.now a.1.1.0.now a.1.1.1.0 a.1.1.1.1.0.now a.1.1.1.1.1.0.now a.1.1.1.1.1.1.0.now e.result e.last.1.1.1.1.1.1.0)
-segments-of-frames·anywhere κs a e = refl
 
 -- judge::validate: validate(sources, u, t, log, text, video, starts) answers ans
 abbrev pub Validate : List ℕ → List ℕ → List ℤ → Bool → List ℕ → Video → List ℤ → Checked → Type 0
@@ -150,18 +125,12 @@ Validate sources u t log text video starts ans = ans ≡ validate_of (table_of s
 abbrev pub validate : Promise
 validate = record { types = validate·.ended; Learnt = λ κs a z e. Validate a.0.now a.1.0.now a.1.1.0.now a.1.1.1.0 a.1.1.1.1.0.now a.1.1.1.1.1.0 a.1.1.1.1.1.1.0.now z }
 
-pub validate·anywhere : Anywhere validate (λ κs a e. Validate a.0.now a.1.0.now a.1.1.0.now a.1.1.1.0 a.1.1.1.1.0.now a.1.1.1.1.1.0 a.1.1.1.1.1.1.0.now e.result)
-validate·anywhere κs a e = refl
-
 -- judge::check_mcraw: check_mcraw(sources, u, t, log, text, timestamps, work-a, work-b) answers ans, and leaves work-a', work-b'
 abbrev pub CheckMcraw : List ℕ → List ℕ → List ℤ → Bool → List ℕ → List ℤ → List ℤ → List ℤ → Checked → List ℤ → List ℤ → Type 0
 CheckMcraw sources u t log text timestamps work-a work-b ans work-a' work-b' = Settled (table_of sources u t log text) timestamps work-a work-b ans work-a' work-b'
 
 abbrev pub check-mcraw : Promise
 check-mcraw = record { types = check-mcraw·.ended; Learnt = λ κs a z e. CheckMcraw a.0.now a.1.0.now a.1.1.0.now a.1.1.1.0 a.1.1.1.1.0.now a.1.1.1.1.1.0.now a.1.1.1.1.1.1.0.now a.1.1.1.1.1.1.1.0.now z e.1.1.1.1.1.1.0.now e.1.1.1.1.1.1.1.0.now }
-
-pub check-mcraw·anywhere : Anywhere check-mcraw (λ κs a e. CheckMcraw a.0.now a.1.0.now a.1.1.0.now a.1.1.1.0 a.1.1.1.1.0.now a.1.1.1.1.1.0.now a.1.1.1.1.1.1.0.now a.1.1.1.1.1.1.1.0.now e.result e.last.1.1.1.1.1.1.0 e.last.1.1.1.1.1.1.1.0)
-check-mcraw·anywhere κs a e = refl
 
 -- boxes::box_size: box_size(«data», remaining) answers ans
 abbrev pub BoxSize : List ℕ → ℕ → Sized → Type 0
@@ -170,18 +139,12 @@ BoxSize «data» remaining ans = ans ≡ box_size «data» remaining
 abbrev pub box-size : Promise
 box-size = record { types = box-size·.ended; Learnt = λ κs a z e. BoxSize a.0.now a.1.0 z }
 
-pub box-size·anywhere : Anywhere box-size (λ κs a e. BoxSize a.0.now a.1.0 e.result)
-box-size·anywhere κs a e = refl
-
 -- boxes::children: children(payload, at) answers ans
 abbrev pub Children : List ℕ → ℕ → Reached → Type 0
 Children payload at ans = ans ≡ children_at payload at
 
 abbrev pub children : Promise
 children = record { types = children·.ended; Learnt = λ κs a z e. Children a.0.now a.1.0 z }
-
-pub children·anywhere : Anywhere children (λ κs a e. Children a.0.now a.1.0 e.result)
-children·anywhere κs a e = refl
 
 -- boxes::child_place: child_place(payload, kind) answers ans
 abbrev pub ChildPlace : List ℕ → ℕ → Place → Type 0
@@ -190,18 +153,12 @@ ChildPlace payload kind ans = ans ≡ child_place payload kind
 abbrev pub child-place : Promise
 child-place = record { types = child-place·.ended; Learnt = λ κs a z e. ChildPlace a.0.now a.1.0 z }
 
-pub child-place·anywhere : Anywhere child-place (λ κs a e. ChildPlace a.0.now a.1.0 e.result)
-child-place·anywhere κs a e = refl
-
 -- boxes::child: child(payload, kind) answers ans
 abbrev pub Child : Bor (List ℕ) → ℕ → Bor (List ℕ) → Type 0
 Child payload kind ans = PartAt payload (child_place payload.now kind) ans
 
 abbrev pub child : Promise
 child = record { types = child·.ended; Learnt = λ κs a z e. Child a.0 a.1.0 z }
-
-pub child·anywhere : Anywhere child (λ κs a e. Child a.0 a.1.0 e.result)
-child·anywhere κs a e = refl
 
 -- boxes::find_box_place: find_box_place(bytes, start, end, kind, text-types) answers ans
 abbrev pub FindBoxPlace : List ℕ → ℕ → ℕ → ℕ → Bool → Place → Type 0
@@ -210,18 +167,12 @@ FindBoxPlace bytes start end kind text-types ans = ans ≡ find_box_place bytes 
 abbrev pub find-box-place : Promise
 find-box-place = record { types = find-box-place·.ended; Learnt = λ κs a z e. FindBoxPlace a.0.now a.1.0 a.1.1.0 a.1.1.1.0 a.1.1.1.1.0 z }
 
-pub find-box-place·anywhere : Anywhere find-box-place (λ κs a e. FindBoxPlace a.0.now a.1.0 a.1.1.0 a.1.1.1.0 a.1.1.1.1.0 e.result)
-find-box-place·anywhere κs a e = refl
-
 -- boxes::find_box: find_box(bytes, start, end, kind, text-types) answers ans
 abbrev pub FindBox : Bor (List ℕ) → ℕ → ℕ → ℕ → Bool → Bor (List ℕ) → Type 0
 FindBox bytes start end kind text-types ans = PartAt bytes (find_box_place bytes.now start end kind text-types) ans
 
 abbrev pub find-box : Promise
 find-box = record { types = find-box·.ended; Learnt = λ κs a z e. FindBox a.0 a.1.0 a.1.1.0 a.1.1.1.0 a.1.1.1.1.0 z }
-
-pub find-box·anywhere : Anywhere find-box (λ κs a e. FindBox a.0 a.1.0 a.1.1.0 a.1.1.1.0 a.1.1.1.1.0 e.result)
-find-box·anywhere κs a e = refl
 
 -- boxes::table_text_place: table_text_place(file) answers ans
 abbrev pub TableTextPlace : List ℕ → Place → Type 0
@@ -230,18 +181,12 @@ TableTextPlace file ans = ans ≡ table_text_place file
 abbrev pub table-text-place : Promise
 table-text-place = record { types = table-text-place·.ended; Learnt = λ κs a z e. TableTextPlace a.0.now z }
 
-pub table-text-place·anywhere : Anywhere table-text-place (λ κs a e. TableTextPlace a.0.now e.result)
-table-text-place·anywhere κs a e = refl
-
 -- boxes::table_text: table_text(file) answers ans
 abbrev pub TableText : Bor (List ℕ) → Bor (List ℕ) → Type 0
 TableText file ans = PartAt file (table_text_place file.now) ans
 
 abbrev pub table-text : Promise
 table-text = record { types = table-text·.ended; Learnt = λ κs a z e. TableText a.0 z }
-
-pub table-text·anywhere : Anywhere table-text (λ κs a e. TableText a.0 e.result)
-table-text·anywhere κs a e = refl
 
 -- frame_times::video_frame_times_of_moov: video_frame_times_of_moov(moov, standard, starts, work-a, work-b) answers ans, and leaves starts', work-a', work-b'
 abbrev pub VideoFrameTimesOfMoov : List ℕ → Bool → List ℤ → List ℤ → List ℤ → FrameTimes → List ℤ → List ℤ → List ℤ → Type 0
@@ -250,18 +195,12 @@ VideoFrameTimesOfMoov moov standard starts work-a work-b ans starts' work-a' wor
 abbrev pub video-frame-times-of-moov : Promise
 video-frame-times-of-moov = record { types = video-frame-times-of-moov·.ended; Learnt = λ κs a z e. VideoFrameTimesOfMoov a.0.now a.1.0 a.1.1.0.now a.1.1.1.0.now a.1.1.1.1.0.now z e.1.1.0.now e.1.1.1.0.now e.1.1.1.1.0.now }
 
-pub video-frame-times-of-moov·anywhere : Anywhere video-frame-times-of-moov (λ κs a e. VideoFrameTimesOfMoov a.0.now a.1.0 a.1.1.0.now a.1.1.1.0.now a.1.1.1.1.0.now e.result e.last.1.1.0 e.last.1.1.1.0 e.last.1.1.1.1.0)
-video-frame-times-of-moov·anywhere κs a e = refl
-
 -- mcraw::mcraw_times: mcraw_times(timestamps, starts, work) answers ans, and leaves starts', work'
 abbrev pub McrawTimes : List ℤ → List ℤ → List ℤ → RecordingTimes → List ℤ → List ℤ → Type 0
 McrawTimes timestamps starts work ans starts' work' = McrawAnswers timestamps starts work ans starts' work'
 
 abbrev pub mcraw-times : Promise
 mcraw-times = record { types = mcraw-times·.ended; Learnt = λ κs a z e. McrawTimes a.0.now a.1.0.now a.1.1.0.now z e.1.0.now e.1.1.0.now }
-
-pub mcraw-times·anywhere : Anywhere mcraw-times (λ κs a e. McrawTimes a.0.now a.1.0.now a.1.1.0.now e.result e.last.1.0 e.last.1.1.0)
-mcraw-times·anywhere κs a e = refl
 
 -- maps::cut: cut(u, s, a, b, ou, os) answers ans, and leaves ou', os'
 abbrev pub Cut : List ℕ → List ℤ → ℕ → ℕ → List ℕ → List ℤ → Mapped → List ℕ → List ℤ → Type 0
@@ -270,18 +209,12 @@ Cut u s a b ou os ans ou' os' = Cut·of u s a b ou os ans ou' os'
 abbrev pub cut : Promise
 cut = record { types = cut·.ended; Learnt = λ κs a z e. Cut a.0.now a.1.0.now a.1.1.0 a.1.1.1.0 a.1.1.1.1.0.now a.1.1.1.1.1.0.now z e.1.1.1.1.0.now e.1.1.1.1.1.0.now }
 
-pub cut·anywhere : Anywhere cut (λ κs a e. Cut a.0.now a.1.0.now a.1.1.0 a.1.1.1.0 a.1.1.1.1.0.now a.1.1.1.1.1.0.now e.result e.last.1.1.1.1.0 e.last.1.1.1.1.1.0)
-cut·anywhere κs a e = refl
-
 -- maps::merge: merge(u, s, ou, os) answers ans, and leaves ou', os'
 abbrev pub Merge : List ℕ → List ℤ → List ℕ → List ℤ → Mapped → List ℕ → List ℤ → Type 0
 Merge u s ou os ans ou' os' = Merge·of u s ou os ans ou' os'
 
 abbrev pub merge : Promise
 merge = record { types = merge·.ended; Learnt = λ κs a z e. Merge a.0.now a.1.0.now a.1.1.0.now a.1.1.1.0.now z e.1.1.0.now e.1.1.1.0.now }
-
-pub merge·anywhere : Anywhere merge (λ κs a e. Merge a.0.now a.1.0.now a.1.1.0.now a.1.1.1.0.now e.result e.last.1.1.0 e.last.1.1.1.0)
-merge·anywhere κs a e = refl
 
 -- maps::join: join(u, s, v, t, ou, os) answers ans, and leaves ou', os'
 abbrev pub Join : List ℕ → List ℤ → List ℕ → List ℤ → List ℕ → List ℤ → Mapped → List ℕ → List ℤ → Type 0
@@ -290,18 +223,12 @@ Join u s v t ou os ans ou' os' = Join·of u s v t ou os ans ou' os'
 abbrev pub join : Promise
 join = record { types = join·.ended; Learnt = λ κs a z e. Join a.0.now a.1.0.now a.1.1.0.now a.1.1.1.0.now a.1.1.1.1.0.now a.1.1.1.1.1.0.now z e.1.1.1.1.0.now e.1.1.1.1.1.0.now }
 
-pub join·anywhere : Anywhere join (λ κs a e. Join a.0.now a.1.0.now a.1.1.0.now a.1.1.1.0.now a.1.1.1.1.0.now a.1.1.1.1.1.0.now e.result e.last.1.1.1.1.0 e.last.1.1.1.1.1.0)
-join·anywhere κs a e = refl
-
 -- maps::origin: origin(u, s, frame) answers ans
 abbrev pub Origin : List ℕ → List ℤ → ℕ → Traced → Type 0
 Origin u s frame ans = Trace u s frame ans
 
 abbrev pub origin : Promise
 origin = record { types = origin·.ended; Learnt = λ κs a z e. Origin a.0.now a.1.0.now a.1.1.0 z }
-
-pub origin·anywhere : Anywhere origin (λ κs a e. Origin a.0.now a.1.0.now a.1.1.0 e.result)
-origin·anywhere κs a e = refl
 
 -- cuts::cuts: cuts(u, s, ranges, ou, os, counts) answers ans, and leaves ou', os', counts'
 abbrev pub Cuts : List ℕ → List ℤ → List ℕ → List ℕ → List ℤ → List ℕ → Mapped → List ℕ → List ℤ → List ℕ → Type 0
@@ -310,15 +237,9 @@ Cuts u s ranges ou os counts ans ou' os' counts' = Cuts·of u s ranges ou os cou
 abbrev pub cuts : Promise
 cuts = record { types = cuts·.ended; Learnt = λ κs a z e. Cuts a.0.now a.1.0.now a.1.1.0.now a.1.1.1.0.now a.1.1.1.1.0.now a.1.1.1.1.1.0.now z e.1.1.1.0.now e.1.1.1.1.0.now e.1.1.1.1.1.0.now }
 
-pub cuts·anywhere : Anywhere cuts (λ κs a e. Cuts a.0.now a.1.0.now a.1.1.0.now a.1.1.1.0.now a.1.1.1.1.0.now a.1.1.1.1.1.0.now e.result e.last.1.1.1.0 e.last.1.1.1.1.0 e.last.1.1.1.1.1.0)
-cuts·anywhere κs a e = refl
-
 -- records::segment_of_frame_records: segment_of_frame_records(sources, text, records, log, frame) answers ans
 abbrev pub SegmentOfFrameRecords : List ℕ → List ℕ → List TrimSegment → Bool → ℕ → Lookup → Type 0
 SegmentOfFrameRecords sources text records log frame ans = ans ≡ locate sources text records log frame
 
 abbrev pub segment-of-frame-records : Promise
 segment-of-frame-records = record { types = segment-of-frame-records·.ended; Learnt = λ κs a z e. SegmentOfFrameRecords a.0.now a.1.0.now a.1.1.0.now a.1.1.1.0 a.1.1.1.1.0 z }
-
-pub segment-of-frame-records·anywhere : Anywhere segment-of-frame-records (λ κs a e. SegmentOfFrameRecords a.0.now a.1.0.now a.1.1.0.now a.1.1.1.0 a.1.1.1.1.0 e.result)
-segment-of-frame-records·anywhere κs a e = refl

@@ -1,9 +1,8 @@
 -- Made by tools/calls: of each call for C its promise. First, with a capital, its clause in the source's own words, of plain lists and numbers; a part of the caller's
 -- bytes stays a reference, and `X·of` is the clause's X where the quotation has that name. Then the same as a promise: of the arguments (a.0 is the first,
--- a.1.0 the second), the result z and the exit e. Then that so it is wherever the slices lie. The first is for readers; that the second is what was proved of
--- the call's code stands in proofs/FaceQuoted.antt.
-use Rattle.std.specs.Prelude.{ℕ, Bool, List, ◌≡◌, refl, ℤ}
-use Rattle.audit.specs.Promise.{Promise, Anywhere}
+-- a.1.0 the second), the result z and the exit e. The first is for readers; that the second is what was proved of the call's code stands in proofs/FaceQuoted.antt.
+use Rattle.std.specs.Prelude.{ℕ, Bool, List, ◌≡◌, ℤ}
+use Rattle.audit.specs.Promise.{Promise}
 use Rattle.boxes.specs.Boxes.{box_size, children_at}
 use Rattle.boxes.specs.Places.{child_place, find_box_place, table_text_place}
 use Rattle.judge.specs.Judge.{validate_of}
@@ -50,18 +49,12 @@ StIsUtcSecond bytes ans = ans ≡ utc_second bytes
 abbrev pub st-is-utc-second : Promise
 st-is-utc-second = record { types = st-is-utc-second·.ended; Learnt = λ κs a z e. StIsUtcSecond a.0.now z }
 
-pub st-is-utc-second·anywhere : Anywhere st-is-utc-second (λ κs a e. StIsUtcSecond a.0.now e.result)
-st-is-utc-second·anywhere κs a e = refl
-
 -- segment_table::clock::st_ticks_to_us: st_ticks_to_us(ticks, scale, us, index) answers ans, and leaves us', index'
 abbrev pub StTicksToUs : ℤ → ℕ → ℤ → ℕ → ℕ → ℤ → ℕ → Type 0
 StTicksToUs ticks scale us index ans us' index' = (ans, us', index') ≡ us_told (ticks_to_us ticks scale) us
 
 abbrev pub st-ticks-to-us : Promise
 st-ticks-to-us = record { types = st-ticks-to-us·.ended; Learnt = λ κs a z e. StTicksToUs a.0 a.1.0 a.1.1.0.now a.1.1.1.0.now z e.1.1.0.now e.1.1.1.0.now }
-
-pub st-ticks-to-us·anywhere : Anywhere st-ticks-to-us (λ κs a e. StTicksToUs a.0 a.1.0 a.1.1.0.now a.1.1.1.0.now e.result e.last.1.1.0 e.last.1.1.1.0)
-st-ticks-to-us·anywhere κs a e = refl
 
 -- segment_table::cutting::st_cut: st_cut(words, shifts, a, b, out-words, out-shifts, rows, index) answers ans, and leaves out-words', out-shifts', rows', index'
 abbrev pub StCut : List ℕ → List ℤ → ℕ → ℕ → List ℕ → List ℤ → ℕ → ℕ → ℕ → List ℕ → List ℤ → ℕ → ℕ → Type 0
@@ -70,18 +63,12 @@ StCut words shifts a b out-words out-shifts rows index ans out-words' out-shifts
 abbrev pub st-cut : Promise
 st-cut = record { types = st-cut·.ended; Learnt = λ κs a z e. StCut a.0.now a.1.0.now a.1.1.0 a.1.1.1.0 a.1.1.1.1.0.now a.1.1.1.1.1.0.now a.1.1.1.1.1.1.0.now a.1.1.1.1.1.1.1.0.now z e.1.1.1.1.0.now e.1.1.1.1.1.0.now e.1.1.1.1.1.1.0.now e.1.1.1.1.1.1.1.0.now }
 
-pub st-cut·anywhere : Anywhere st-cut (λ κs a e. StCut a.0.now a.1.0.now a.1.1.0 a.1.1.1.0 a.1.1.1.1.0.now a.1.1.1.1.1.0.now a.1.1.1.1.1.1.0.now a.1.1.1.1.1.1.1.0.now e.result e.last.1.1.1.1.0 e.last.1.1.1.1.1.0 e.last.1.1.1.1.1.1.0 e.last.1.1.1.1.1.1.1.0)
-st-cut·anywhere κs a e = refl
-
 -- segment_table::cutting::st_cuts: st_cuts(words, shifts, ranges, out-words, out-shifts, counts, rows, index) answers ans, and leaves out-words', out-shifts', counts', rows', index'
 abbrev pub StCuts : List ℕ → List ℤ → List ℕ → List ℕ → List ℤ → List ℕ → ℕ → ℕ → ℕ → List ℕ → List ℤ → List ℕ → ℕ → ℕ → Type 0
 StCuts words shifts ranges out-words out-shifts counts rows index ans out-words' out-shifts' counts' rows' index' = CutsTold words shifts ranges out-words out-shifts counts rows ans out-words' out-shifts' counts' rows' index'
 
 abbrev pub st-cuts : Promise
 st-cuts = record { types = st-cuts·.ended; Learnt = λ κs a z e. StCuts a.0.now a.1.0.now a.1.1.0.now a.1.1.1.0.now a.1.1.1.1.0.now a.1.1.1.1.1.0.now a.1.1.1.1.1.1.0.now a.1.1.1.1.1.1.1.0.now z e.1.1.1.0.now e.1.1.1.1.0.now e.1.1.1.1.1.0.now e.1.1.1.1.1.1.0.now e.1.1.1.1.1.1.1.0.now }
-
-pub st-cuts·anywhere : Anywhere st-cuts (λ κs a e. StCuts a.0.now a.1.0.now a.1.1.0.now a.1.1.1.0.now a.1.1.1.1.0.now a.1.1.1.1.1.0.now a.1.1.1.1.1.1.0.now a.1.1.1.1.1.1.1.0.now e.result e.last.1.1.1.0 e.last.1.1.1.1.0 e.last.1.1.1.1.1.0 e.last.1.1.1.1.1.1.0 e.last.1.1.1.1.1.1.1.0)
-st-cuts·anywhere κs a e = refl
 
 -- segment_table::cutting::st_join: st_join(words, shifts, second-words, second-shifts, out-words, out-shifts, rows, index) answers ans, and leaves out-words', out-shifts', rows', index'
 abbrev pub StJoin : List ℕ → List ℤ → List ℕ → List ℤ → List ℕ → List ℤ → ℕ → ℕ → ℕ → List ℕ → List ℤ → ℕ → ℕ → Type 0
@@ -90,18 +77,12 @@ StJoin words shifts second-words second-shifts out-words out-shifts rows index a
 abbrev pub st-join : Promise
 st-join = record { types = st-join·.ended; Learnt = λ κs a z e. StJoin a.0.now a.1.0.now a.1.1.0.now a.1.1.1.0.now a.1.1.1.1.0.now a.1.1.1.1.1.0.now a.1.1.1.1.1.1.0.now a.1.1.1.1.1.1.1.0.now z e.1.1.1.1.0.now e.1.1.1.1.1.0.now e.1.1.1.1.1.1.0.now e.1.1.1.1.1.1.1.0.now }
 
-pub st-join·anywhere : Anywhere st-join (λ κs a e. StJoin a.0.now a.1.0.now a.1.1.0.now a.1.1.1.0.now a.1.1.1.1.0.now a.1.1.1.1.1.0.now a.1.1.1.1.1.1.0.now a.1.1.1.1.1.1.1.0.now e.result e.last.1.1.1.1.0 e.last.1.1.1.1.1.0 e.last.1.1.1.1.1.1.0 e.last.1.1.1.1.1.1.1.0)
-st-join·anywhere κs a e = refl
-
 -- segment_table::cutting::st_merge: st_merge(words, shifts, out-words, out-shifts, rows, index) answers ans, and leaves out-words', out-shifts', rows', index'
 abbrev pub StMerge : List ℕ → List ℤ → List ℕ → List ℤ → ℕ → ℕ → ℕ → List ℕ → List ℤ → ℕ → ℕ → Type 0
 StMerge words shifts out-words out-shifts rows index ans out-words' out-shifts' rows' index' = MergeTold words shifts out-words out-shifts rows ans out-words' out-shifts' rows' index'
 
 abbrev pub st-merge : Promise
 st-merge = record { types = st-merge·.ended; Learnt = λ κs a z e. StMerge a.0.now a.1.0.now a.1.1.0.now a.1.1.1.0.now a.1.1.1.1.0.now a.1.1.1.1.1.0.now z e.1.1.0.now e.1.1.1.0.now e.1.1.1.1.0.now e.1.1.1.1.1.0.now }
-
-pub st-merge·anywhere : Anywhere st-merge (λ κs a e. StMerge a.0.now a.1.0.now a.1.1.0.now a.1.1.1.0.now a.1.1.1.1.0.now a.1.1.1.1.1.0.now e.result e.last.1.1.0 e.last.1.1.1.0 e.last.1.1.1.1.0 e.last.1.1.1.1.1.0)
-st-merge·anywhere κs a e = refl
 
 -- segment_table::cutting::st_origin: st_origin(words, shifts, frame, source, source-frame, flag, shift, index) answers ans, and leaves source', source-frame', flag', shift', index'
 abbrev pub StOrigin : List ℕ → List ℤ → ℕ → ℕ → ℕ → ℕ → ℤ → ℕ → ℕ → ℕ → ℕ → ℕ → ℤ → ℕ → Type 0
@@ -110,18 +91,12 @@ StOrigin words shifts frame source source-frame flag shift index ans source' sou
 abbrev pub st-origin : Promise
 st-origin = record { types = st-origin·.ended; Learnt = λ κs a z e. StOrigin a.0.now a.1.0.now a.1.1.0 a.1.1.1.0.now a.1.1.1.1.0.now a.1.1.1.1.1.0.now a.1.1.1.1.1.1.0.now a.1.1.1.1.1.1.1.0.now z e.1.1.1.0.now e.1.1.1.1.0.now e.1.1.1.1.1.0.now e.1.1.1.1.1.1.0.now e.1.1.1.1.1.1.1.0.now }
 
-pub st-origin·anywhere : Anywhere st-origin (λ κs a e. StOrigin a.0.now a.1.0.now a.1.1.0 a.1.1.1.0.now a.1.1.1.1.0.now a.1.1.1.1.1.0.now a.1.1.1.1.1.1.0.now a.1.1.1.1.1.1.1.0.now e.result e.last.1.1.1.0 e.last.1.1.1.1.0 e.last.1.1.1.1.1.0 e.last.1.1.1.1.1.1.0 e.last.1.1.1.1.1.1.1.0)
-st-origin·anywhere κs a e = refl
-
 -- segment_table::judging::st_validate_no_video: st_validate_no_video(sources, segments, times, log, text, index) answers ans, and leaves index'
 abbrev pub StValidateNoVideo : List ℕ → List ℕ → List ℤ → Bool → List ℕ → ℕ → ℕ → ℕ → Type 0
 StValidateNoVideo sources segments times log text index ans index' = (ans, index') ≡ refusal_told (validate_of (table_of sources segments times log text) nothing)
 
 abbrev pub st-validate-no-video : Promise
 st-validate-no-video = record { types = st-validate-no-video·.ended; Learnt = λ κs a z e. StValidateNoVideo a.0.now a.1.0.now a.1.1.0.now a.1.1.1.0 a.1.1.1.1.0.now a.1.1.1.1.1.0.now z e.1.1.1.1.1.0.now }
-
-pub st-validate-no-video·anywhere : Anywhere st-validate-no-video (λ κs a e. StValidateNoVideo a.0.now a.1.0.now a.1.1.0.now a.1.1.1.0 a.1.1.1.1.0.now a.1.1.1.1.1.0.now e.result e.last.1.1.1.1.1.0)
-st-validate-no-video·anywhere κs a e = refl
 
 -- segment_table::judging::st_validate_constant: st_validate_constant(sources, segments, times, log, text, video-frames, num, den, frames, index) answers ans, and leaves frames', index'
 abbrev pub StValidateConstant : List ℕ → List ℕ → List ℤ → Bool → List ℕ → ℕ → ℕ → ℕ → ℕ → ℕ → ℕ → ℕ → ℕ → Type 0
@@ -130,18 +105,12 @@ StValidateConstant sources segments times log text video-frames num den frames i
 abbrev pub st-validate-constant : Promise
 st-validate-constant = record { types = st-validate-constant·.ended; Learnt = λ κs a z e. StValidateConstant a.0.now a.1.0.now a.1.1.0.now a.1.1.1.0 a.1.1.1.1.0.now a.1.1.1.1.1.0 a.1.1.1.1.1.1.0 a.1.1.1.1.1.1.1.0 a.1.1.1.1.1.1.1.1.0.now a.1.1.1.1.1.1.1.1.1.0.now z e.1.1.1.1.1.1.1.1.0.now e.1.1.1.1.1.1.1.1.1.0.now }
 
-pub st-validate-constant·anywhere : Anywhere st-validate-constant (λ κs a e. StValidateConstant a.0.now a.1.0.now a.1.1.0.now a.1.1.1.0 a.1.1.1.1.0.now a.1.1.1.1.1.0 a.1.1.1.1.1.1.0 a.1.1.1.1.1.1.1.0 a.1.1.1.1.1.1.1.1.0.now a.1.1.1.1.1.1.1.1.1.0.now e.result e.last.1.1.1.1.1.1.1.1.0 e.last.1.1.1.1.1.1.1.1.1.0)
-st-validate-constant·anywhere κs a e = refl
-
 -- segment_table::judging::st_validate_times: st_validate_times(sources, segments, times, log, text, scale, starts, end, nominal, frames, index) answers ans, and leaves frames', index'
 abbrev pub StValidateTimes : List ℕ → List ℕ → List ℤ → Bool → List ℕ → ℕ → List ℤ → ℤ → ℤ → ℕ → ℕ → ℕ → ℕ → ℕ → Type 0
 StValidateTimes sources segments times log text scale starts end nominal frames index ans frames' index' = (ans, frames', index') ≡ checked_told (validate_of (table_of sources segments times log text) (timed starts scale end nominal)) frames
 
 abbrev pub st-validate-times : Promise
 st-validate-times = record { types = st-validate-times·.ended; Learnt = λ κs a z e. StValidateTimes a.0.now a.1.0.now a.1.1.0.now a.1.1.1.0 a.1.1.1.1.0.now a.1.1.1.1.1.0 a.1.1.1.1.1.1.0.now a.1.1.1.1.1.1.1.0 a.1.1.1.1.1.1.1.1.0 a.1.1.1.1.1.1.1.1.1.0.now a.1.1.1.1.1.1.1.1.1.1.0.now z e.1.1.1.1.1.1.1.1.1.0.now e.1.1.1.1.1.1.1.1.1.1.0.now }
-
-pub st-validate-times·anywhere : Anywhere st-validate-times (λ κs a e. StValidateTimes a.0.now a.1.0.now a.1.1.0.now a.1.1.1.0 a.1.1.1.1.0.now a.1.1.1.1.1.0 a.1.1.1.1.1.1.0.now a.1.1.1.1.1.1.1.0 a.1.1.1.1.1.1.1.1.0 a.1.1.1.1.1.1.1.1.1.0.now a.1.1.1.1.1.1.1.1.1.1.0.now e.result e.last.1.1.1.1.1.1.1.1.1.0 e.last.1.1.1.1.1.1.1.1.1.1.0)
-st-validate-times·anywhere κs a e = refl
 
 -- segment_table::judging::st_check_mcraw: st_check_mcraw(sources, segments, times, log, text, timestamps, work-a, work-b, frames, index) answers ans, and leaves work-a', work-b', frames', index'
 abbrev pub StCheckMcraw : List ℕ → List ℕ → List ℤ → Bool → List ℕ → List ℤ → List ℤ → List ℤ → ℕ → ℕ → ℕ → List ℤ → List ℤ → ℕ → ℕ → Type 0
@@ -150,18 +119,12 @@ StCheckMcraw sources segments times log text timestamps work-a work-b frames ind
 abbrev pub st-check-mcraw : Promise
 st-check-mcraw = record { types = st-check-mcraw·.ended; Learnt = λ κs a z e. StCheckMcraw a.0.now a.1.0.now a.1.1.0.now a.1.1.1.0 a.1.1.1.1.0.now a.1.1.1.1.1.0.now a.1.1.1.1.1.1.0.now a.1.1.1.1.1.1.1.0.now a.1.1.1.1.1.1.1.1.0.now a.1.1.1.1.1.1.1.1.1.0.now z e.1.1.1.1.1.1.0.now e.1.1.1.1.1.1.1.0.now e.1.1.1.1.1.1.1.1.0.now e.1.1.1.1.1.1.1.1.1.0.now }
 
-pub st-check-mcraw·anywhere : Anywhere st-check-mcraw (λ κs a e. StCheckMcraw a.0.now a.1.0.now a.1.1.0.now a.1.1.1.0 a.1.1.1.1.0.now a.1.1.1.1.1.0.now a.1.1.1.1.1.1.0.now a.1.1.1.1.1.1.1.0.now a.1.1.1.1.1.1.1.1.0.now a.1.1.1.1.1.1.1.1.1.0.now e.result e.last.1.1.1.1.1.1.0 e.last.1.1.1.1.1.1.1.0 e.last.1.1.1.1.1.1.1.1.0 e.last.1.1.1.1.1.1.1.1.1.0)
-st-check-mcraw·anywhere κs a e = refl
-
 -- segment_table::listed::st_segment_of_frame_records: st_segment_of_frame_records(sources, text, records, log, frame, segment, index) answers ans, and leaves segment', index'
 abbrev pub StSegmentOfFrameRecords : List ℕ → List ℕ → List TrimSegment → Bool → ℕ → ℕ → ℕ → ℕ → ℕ → ℕ → Type 0
 StSegmentOfFrameRecords sources text records log frame segment index ans segment' index' = (ans, segment', index') ≡ lookup_told (locate sources text records log frame) segment
 
 abbrev pub st-segment-of-frame-records : Promise
 st-segment-of-frame-records = record { types = st-segment-of-frame-records·.ended; Learnt = λ κs a z e. StSegmentOfFrameRecords a.0.now a.1.0.now a.1.1.0.now a.1.1.1.0 a.1.1.1.1.0 a.1.1.1.1.1.0.now a.1.1.1.1.1.1.0.now z e.1.1.1.1.1.0.now e.1.1.1.1.1.1.0.now }
-
-pub st-segment-of-frame-records·anywhere : Anywhere st-segment-of-frame-records (λ κs a e. StSegmentOfFrameRecords a.0.now a.1.0.now a.1.1.0.now a.1.1.1.0 a.1.1.1.1.0 a.1.1.1.1.1.0.now a.1.1.1.1.1.1.0.now e.result e.last.1.1.1.1.1.0 e.last.1.1.1.1.1.1.0)
-st-segment-of-frame-records·anywhere κs a e = refl
 
 -- segment_table::recordings::st_mcraw_times: st_mcraw_times(timestamps, starts, work, frames, scale, nominal, end, index) answers ans, and leaves starts', work', frames', scale', nominal', end', index'
 abbrev pub StMcrawTimes : List ℤ → List ℤ → List ℤ → ℕ → ℕ → ℤ → ℤ → ℕ → ℕ → List ℤ → List ℤ → ℕ → ℕ → ℤ → ℤ → ℕ → Type 0
@@ -170,18 +133,12 @@ StMcrawTimes timestamps starts work frames scale nominal end index ans starts' w
 abbrev pub st-mcraw-times : Promise
 st-mcraw-times = record { types = st-mcraw-times·.ended; Learnt = λ κs a z e. StMcrawTimes a.0.now a.1.0.now a.1.1.0.now a.1.1.1.0.now a.1.1.1.1.0.now a.1.1.1.1.1.0.now a.1.1.1.1.1.1.0.now a.1.1.1.1.1.1.1.0.now z e.1.0.now e.1.1.0.now e.1.1.1.0.now e.1.1.1.1.0.now e.1.1.1.1.1.0.now e.1.1.1.1.1.1.0.now e.1.1.1.1.1.1.1.0.now }
 
-pub st-mcraw-times·anywhere : Anywhere st-mcraw-times (λ κs a e. StMcrawTimes a.0.now a.1.0.now a.1.1.0.now a.1.1.1.0.now a.1.1.1.1.0.now a.1.1.1.1.1.0.now a.1.1.1.1.1.1.0.now a.1.1.1.1.1.1.1.0.now e.result e.last.1.0 e.last.1.1.0 e.last.1.1.1.0 e.last.1.1.1.1.0 e.last.1.1.1.1.1.0 e.last.1.1.1.1.1.1.0 e.last.1.1.1.1.1.1.1.0)
-st-mcraw-times·anywhere κs a e = refl
-
 -- segment_table::recordings::st_video_frame_times_of_moov: st_video_frame_times_of_moov(moov, standard, starts, work-a, work-b, frames, scale, nominal, end, index) answers ans, and leaves starts', work-a', work-b', frames', scale', nominal', end', index'
 abbrev pub StVideoFrameTimesOfMoov : List ℕ → Bool → List ℤ → List ℤ → List ℤ → ℕ → ℕ → ℤ → ℤ → ℕ → ℕ → List ℤ → List ℤ → List ℤ → ℕ → ℕ → ℤ → ℤ → ℕ → Type 0
 StVideoFrameTimesOfMoov moov standard starts work-a work-b frames scale nominal end index ans starts' work-a' work-b' frames' scale' nominal' end' index' = MoovTold standard moov starts work-a work-b frames scale nominal end ans starts' work-a' work-b' frames' scale' nominal' end' index'
 
 abbrev pub st-video-frame-times-of-moov : Promise
 st-video-frame-times-of-moov = record { types = st-video-frame-times-of-moov·.ended; Learnt = λ κs a z e. StVideoFrameTimesOfMoov a.0.now a.1.0 a.1.1.0.now a.1.1.1.0.now a.1.1.1.1.0.now a.1.1.1.1.1.0.now a.1.1.1.1.1.1.0.now a.1.1.1.1.1.1.1.0.now a.1.1.1.1.1.1.1.1.0.now a.1.1.1.1.1.1.1.1.1.0.now z e.1.1.0.now e.1.1.1.0.now e.1.1.1.1.0.now e.1.1.1.1.1.0.now e.1.1.1.1.1.1.0.now e.1.1.1.1.1.1.1.0.now e.1.1.1.1.1.1.1.1.0.now e.1.1.1.1.1.1.1.1.1.0.now }
-
-pub st-video-frame-times-of-moov·anywhere : Anywhere st-video-frame-times-of-moov (λ κs a e. StVideoFrameTimesOfMoov a.0.now a.1.0 a.1.1.0.now a.1.1.1.0.now a.1.1.1.1.0.now a.1.1.1.1.1.0.now a.1.1.1.1.1.1.0.now a.1.1.1.1.1.1.1.0.now a.1.1.1.1.1.1.1.1.0.now a.1.1.1.1.1.1.1.1.1.0.now e.result e.last.1.1.0 e.last.1.1.1.0 e.last.1.1.1.1.0 e.last.1.1.1.1.1.0 e.last.1.1.1.1.1.1.0 e.last.1.1.1.1.1.1.1.0 e.last.1.1.1.1.1.1.1.1.0 e.last.1.1.1.1.1.1.1.1.1.0)
-st-video-frame-times-of-moov·anywhere κs a e = refl
 
 -- segment_table::tables::st_check: st_check(sources, segments, times, log, text, frames, index) answers ans, and leaves frames', index'
 abbrev pub StCheck : List ℕ → List ℕ → List ℤ → Bool → List ℕ → ℕ → ℕ → ℕ → ℕ → ℕ → Type 0
@@ -190,18 +147,12 @@ StCheck sources segments times log text frames index ans frames' index' = (ans, 
 abbrev pub st-check : Promise
 st-check = record { types = st-check·.ended; Learnt = λ κs a z e. StCheck a.0.now a.1.0.now a.1.1.0.now a.1.1.1.0 a.1.1.1.1.0.now a.1.1.1.1.1.0.now a.1.1.1.1.1.1.0.now z e.1.1.1.1.1.0.now e.1.1.1.1.1.1.0.now }
 
-pub st-check·anywhere : Anywhere st-check (λ κs a e. StCheck a.0.now a.1.0.now a.1.1.0.now a.1.1.1.0 a.1.1.1.1.0.now a.1.1.1.1.1.0.now a.1.1.1.1.1.1.0.now e.result e.last.1.1.1.1.1.0 e.last.1.1.1.1.1.1.0)
-st-check·anywhere κs a e = refl
-
 -- segment_table::tables::st_segment_of_frame: st_segment_of_frame(sources, segments, times, log, text, frame, segment, index) answers ans, and leaves segment', index'
 abbrev pub StSegmentOfFrame : List ℕ → List ℕ → List ℤ → Bool → List ℕ → ℕ → ℕ → ℕ → ℕ → ℕ → ℕ → Type 0
 StSegmentOfFrame sources segments times log text frame segment index ans segment' index' = (ans, segment', index') ≡ lookup_told (segment_of_frame (table_of sources segments times log text) frame) segment
 
 abbrev pub st-segment-of-frame : Promise
 st-segment-of-frame = record { types = st-segment-of-frame·.ended; Learnt = λ κs a z e. StSegmentOfFrame a.0.now a.1.0.now a.1.1.0.now a.1.1.1.0 a.1.1.1.1.0.now a.1.1.1.1.1.0 a.1.1.1.1.1.1.0.now a.1.1.1.1.1.1.1.0.now z e.1.1.1.1.1.1.0.now e.1.1.1.1.1.1.1.0.now }
-
-pub st-segment-of-frame·anywhere : Anywhere st-segment-of-frame (λ κs a e. StSegmentOfFrame a.0.now a.1.0.now a.1.1.0.now a.1.1.1.0 a.1.1.1.1.0.now a.1.1.1.1.1.0 a.1.1.1.1.1.1.0.now a.1.1.1.1.1.1.1.0.now e.result e.last.1.1.1.1.1.1.0 e.last.1.1.1.1.1.1.1.0)
-st-segment-of-frame·anywhere κs a e = refl
 
 -- segment_table::tables::st_segments_of_frames: st_segments_of_frames(sources, segments, times, log, text, frames, out-segments, written, index) answers ans, and leaves out-segments', written', index'
 abbrev pub StSegmentsOfFrames : List ℕ → List ℕ → List ℤ → Bool → List ℕ → List ℕ → List ℕ → ℕ → ℕ → ℕ → List ℕ → ℕ → ℕ → Type 0
@@ -210,18 +161,12 @@ StSegmentsOfFrames sources segments times log text frames out-segments written i
 abbrev pub st-segments-of-frames : Promise
 st-segments-of-frames = record { types = st-segments-of-frames·.ended; Learnt = λ κs a z e. StSegmentsOfFrames a.0.now a.1.0.now a.1.1.0.now a.1.1.1.0 a.1.1.1.1.0.now a.1.1.1.1.1.0.now a.1.1.1.1.1.1.0.now a.1.1.1.1.1.1.1.0.now a.1.1.1.1.1.1.1.1.0.now z e.1.1.1.1.1.1.0.now e.1.1.1.1.1.1.1.0.now e.1.1.1.1.1.1.1.1.0.now }
 
-pub st-segments-of-frames·anywhere : Anywhere st-segments-of-frames (λ κs a e. StSegmentsOfFrames a.0.now a.1.0.now a.1.1.0.now a.1.1.1.0 a.1.1.1.1.0.now a.1.1.1.1.1.0.now a.1.1.1.1.1.1.0.now a.1.1.1.1.1.1.1.0.now a.1.1.1.1.1.1.1.1.0.now e.result e.last.1.1.1.1.1.1.0 e.last.1.1.1.1.1.1.1.0 e.last.1.1.1.1.1.1.1.1.0)
-st-segments-of-frames·anywhere κs a e = refl
-
 -- segment_table::tables::st_segment_of_time_us: st_segment_of_time_us(sources, segments, times, log, text, time, segment, index) answers ans, and leaves segment', index'
 abbrev pub StSegmentOfTimeUs : List ℕ → List ℕ → List ℤ → Bool → List ℕ → ℤ → ℕ → ℕ → ℕ → ℕ → ℕ → Type 0
 StSegmentOfTimeUs sources segments times log text time segment index ans segment' index' = (ans, segment', index') ≡ lookup_told (segment_of_time (table_of sources segments times log text) time) segment
 
 abbrev pub st-segment-of-time-us : Promise
 st-segment-of-time-us = record { types = st-segment-of-time-us·.ended; Learnt = λ κs a z e. StSegmentOfTimeUs a.0.now a.1.0.now a.1.1.0.now a.1.1.1.0 a.1.1.1.1.0.now a.1.1.1.1.1.0 a.1.1.1.1.1.1.0.now a.1.1.1.1.1.1.1.0.now z e.1.1.1.1.1.1.0.now e.1.1.1.1.1.1.1.0.now }
-
-pub st-segment-of-time-us·anywhere : Anywhere st-segment-of-time-us (λ κs a e. StSegmentOfTimeUs a.0.now a.1.0.now a.1.1.0.now a.1.1.1.0 a.1.1.1.1.0.now a.1.1.1.1.1.0 a.1.1.1.1.1.1.0.now a.1.1.1.1.1.1.1.0.now e.result e.last.1.1.1.1.1.1.0 e.last.1.1.1.1.1.1.1.0)
-st-segment-of-time-us·anywhere κs a e = refl
 
 -- segment_table::tables::st_continues: st_continues(sources, segments, times, log, text, segment, answer, index) answers ans, and leaves answer', index'
 abbrev pub StContinues : List ℕ → List ℕ → List ℤ → Bool → List ℕ → ℕ → ℕ → ℕ → ℕ → ℕ → ℕ → Type 0
@@ -230,18 +175,12 @@ StContinues sources segments times log text segment answer index ans answer' ind
 abbrev pub st-continues : Promise
 st-continues = record { types = st-continues·.ended; Learnt = λ κs a z e. StContinues a.0.now a.1.0.now a.1.1.0.now a.1.1.1.0 a.1.1.1.1.0.now a.1.1.1.1.1.0 a.1.1.1.1.1.1.0.now a.1.1.1.1.1.1.1.0.now z e.1.1.1.1.1.1.0.now e.1.1.1.1.1.1.1.0.now }
 
-pub st-continues·anywhere : Anywhere st-continues (λ κs a e. StContinues a.0.now a.1.0.now a.1.1.0.now a.1.1.1.0 a.1.1.1.1.0.now a.1.1.1.1.1.0 a.1.1.1.1.1.1.0.now a.1.1.1.1.1.1.1.0.now e.result e.last.1.1.1.1.1.1.0 e.last.1.1.1.1.1.1.1.0)
-st-continues·anywhere κs a e = refl
-
 -- segment_table::tables::st_rows_of_table: st_rows_of_table(sources, segments, times, log, text, out-words, out-shifts, rows, index) answers ans, and leaves out-words', out-shifts', rows', index'
 abbrev pub StRowsOfTable : List ℕ → List ℕ → List ℤ → Bool → List ℕ → List ℕ → List ℤ → ℕ → ℕ → ℕ → List ℕ → List ℤ → ℕ → ℕ → Type 0
 StRowsOfTable sources segments times log text out-words out-shifts rows index ans out-words' out-shifts' rows' index' = RowedTold (table_of sources segments times log text) out-words out-shifts rows ans out-words' out-shifts' rows' index'
 
 abbrev pub st-rows-of-table : Promise
 st-rows-of-table = record { types = st-rows-of-table·.ended; Learnt = λ κs a z e. StRowsOfTable a.0.now a.1.0.now a.1.1.0.now a.1.1.1.0 a.1.1.1.1.0.now a.1.1.1.1.1.0.now a.1.1.1.1.1.1.0.now a.1.1.1.1.1.1.1.0.now a.1.1.1.1.1.1.1.1.0.now z e.1.1.1.1.1.0.now e.1.1.1.1.1.1.0.now e.1.1.1.1.1.1.1.0.now e.1.1.1.1.1.1.1.1.0.now }
-
-pub st-rows-of-table·anywhere : Anywhere st-rows-of-table (λ κs a e. StRowsOfTable a.0.now a.1.0.now a.1.1.0.now a.1.1.1.0 a.1.1.1.1.0.now a.1.1.1.1.1.0.now a.1.1.1.1.1.1.0.now a.1.1.1.1.1.1.1.0.now a.1.1.1.1.1.1.1.1.0.now e.result e.last.1.1.1.1.1.0 e.last.1.1.1.1.1.1.0 e.last.1.1.1.1.1.1.1.0 e.last.1.1.1.1.1.1.1.1.0)
-st-rows-of-table·anywhere κs a e = refl
 
 -- segment_table::walk::st_box_size: st_box_size(«data», remaining, size, header, index) answers ans, and leaves size', header', index'
 abbrev pub StBoxSize : List ℕ → ℕ → ℕ → ℕ → ℕ → ℕ → ℕ → ℕ → ℕ → Type 0
@@ -250,18 +189,12 @@ StBoxSize «data» remaining size header index ans size' header' index' = (ans, 
 abbrev pub st-box-size : Promise
 st-box-size = record { types = st-box-size·.ended; Learnt = λ κs a z e. StBoxSize a.0.now a.1.0 a.1.1.0.now a.1.1.1.0.now a.1.1.1.1.0.now z e.1.1.0.now e.1.1.1.0.now e.1.1.1.1.0.now }
 
-pub st-box-size·anywhere : Anywhere st-box-size (λ κs a e. StBoxSize a.0.now a.1.0 a.1.1.0.now a.1.1.1.0.now a.1.1.1.1.0.now e.result e.last.1.1.0 e.last.1.1.1.0 e.last.1.1.1.1.0)
-st-box-size·anywhere κs a e = refl
-
 -- segment_table::walk::st_children: st_children(payload, at, kind, start, length, next, index) answers ans, and leaves kind', start', length', next', index'
 abbrev pub StChildren : List ℕ → ℕ → ℕ → ℕ → ℕ → ℕ → ℕ → ℕ → ℕ → ℕ → ℕ → ℕ → ℕ → Type 0
 StChildren payload at kind start length next index ans kind' start' length' next' index' = (ans, kind', start', length', next', index') ≡ reached_told (children_at payload at) kind start length next
 
 abbrev pub st-children : Promise
 st-children = record { types = st-children·.ended; Learnt = λ κs a z e. StChildren a.0.now a.1.0 a.1.1.0.now a.1.1.1.0.now a.1.1.1.1.0.now a.1.1.1.1.1.0.now a.1.1.1.1.1.1.0.now z e.1.1.0.now e.1.1.1.0.now e.1.1.1.1.0.now e.1.1.1.1.1.0.now e.1.1.1.1.1.1.0.now }
-
-pub st-children·anywhere : Anywhere st-children (λ κs a e. StChildren a.0.now a.1.0 a.1.1.0.now a.1.1.1.0.now a.1.1.1.1.0.now a.1.1.1.1.1.0.now a.1.1.1.1.1.1.0.now e.result e.last.1.1.0 e.last.1.1.1.0 e.last.1.1.1.1.0 e.last.1.1.1.1.1.0 e.last.1.1.1.1.1.1.0)
-st-children·anywhere κs a e = refl
 
 -- segment_table::walk::st_child: st_child(payload, kind, start, length, index) answers ans, and leaves start', length', index'
 abbrev pub StChild : List ℕ → ℕ → ℕ → ℕ → ℕ → ℕ → ℕ → ℕ → ℕ → Type 0
@@ -270,9 +203,6 @@ StChild payload kind start length index ans start' length' index' = (ans, start'
 abbrev pub st-child : Promise
 st-child = record { types = st-child·.ended; Learnt = λ κs a z e. StChild a.0.now a.1.0 a.1.1.0.now a.1.1.1.0.now a.1.1.1.1.0.now z e.1.1.0.now e.1.1.1.0.now e.1.1.1.1.0.now }
 
-pub st-child·anywhere : Anywhere st-child (λ κs a e. StChild a.0.now a.1.0 a.1.1.0.now a.1.1.1.0.now a.1.1.1.1.0.now e.result e.last.1.1.0 e.last.1.1.1.0 e.last.1.1.1.1.0)
-st-child·anywhere κs a e = refl
-
 -- segment_table::walk::st_find_box: st_find_box(bytes, from, to, kind, text-types, start, length, index) answers ans, and leaves start', length', index'
 abbrev pub StFindBox : List ℕ → ℕ → ℕ → ℕ → Bool → ℕ → ℕ → ℕ → ℕ → ℕ → ℕ → ℕ → Type 0
 StFindBox bytes from to kind text-types start length index ans start' length' index' = (ans, start', length', index') ≡ place_told (find_box_place bytes from to kind text-types) start length
@@ -280,15 +210,9 @@ StFindBox bytes from to kind text-types start length index ans start' length' in
 abbrev pub st-find-box : Promise
 st-find-box = record { types = st-find-box·.ended; Learnt = λ κs a z e. StFindBox a.0.now a.1.0 a.1.1.0 a.1.1.1.0 a.1.1.1.1.0 a.1.1.1.1.1.0.now a.1.1.1.1.1.1.0.now a.1.1.1.1.1.1.1.0.now z e.1.1.1.1.1.0.now e.1.1.1.1.1.1.0.now e.1.1.1.1.1.1.1.0.now }
 
-pub st-find-box·anywhere : Anywhere st-find-box (λ κs a e. StFindBox a.0.now a.1.0 a.1.1.0 a.1.1.1.0 a.1.1.1.1.0 a.1.1.1.1.1.0.now a.1.1.1.1.1.1.0.now a.1.1.1.1.1.1.1.0.now e.result e.last.1.1.1.1.1.0 e.last.1.1.1.1.1.1.0 e.last.1.1.1.1.1.1.1.0)
-st-find-box·anywhere κs a e = refl
-
 -- segment_table::walk::st_table_text: st_table_text(file, start, length, index) answers ans, and leaves start', length', index'
 abbrev pub StTableText : List ℕ → ℕ → ℕ → ℕ → ℕ → ℕ → ℕ → ℕ → Type 0
 StTableText file start length index ans start' length' index' = (ans, start', length', index') ≡ place_told (table_text_place file) start length
 
 abbrev pub st-table-text : Promise
 st-table-text = record { types = st-table-text·.ended; Learnt = λ κs a z e. StTableText a.0.now a.1.0.now a.1.1.0.now a.1.1.1.0.now z e.1.0.now e.1.1.0.now e.1.1.1.0.now }
-
-pub st-table-text·anywhere : Anywhere st-table-text (λ κs a e. StTableText a.0.now a.1.0.now a.1.1.0.now a.1.1.1.0.now e.result e.last.1.0 e.last.1.1.0 e.last.1.1.1.0)
-st-table-text·anywhere κs a e = refl

@@ -39,7 +39,3 @@ module _ (f : Promise) where
   -- ONE ANSWER: whatever a call's arguments, exactly one end meets the promise
   abbrev pub OneAnswer : Type 0
   OneAnswer = (κs : Regions) (a : Given κs) → ExactlyOne κs a
-
-  -- the promise of any call, wherever its slices live and lie, is P of it
-  abbrev pub Anywhere : ((κs : Regions) (a : Given κs) → End κs a → Type 0) → Type 1
-  Anywhere P = (κs : Regions) (a : Given κs) (e : End κs a) → Says κs a e ≡ P κs a e

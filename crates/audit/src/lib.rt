@@ -3,8 +3,19 @@
 
 ghost use Rattle.audit.specs.Claims.{Claims};
 
-// Every claim holds.
-#[tactic(auto, using(crate::proofs::Audited::audited))]
+// Every claim holds, by the theorems of the crates below: the contracts of the functions called here, which do nothing either.
 pub fn all_claims_hold()
     ensures { Claims }
-{}
+{
+    rows::maps_meet_the_demands();
+    maps::calls_keep_origins();
+    cuts::each_cut_is_one_cut();
+    rules::refusals_are_right();
+    judge::refusals_by_video_are_right();
+    judge::refusals_by_recording_are_right();
+    table_rows::accepted_rows_are_a_map();
+    differ::tables_of_one_video();
+    stops::stops_at_a_bad_header();
+    stops::only_divides();
+    modes::both_readings_agree();
+}

@@ -1,6 +1,6 @@
 -- Worked examples of boxes and of the searches for them. They are the contract of `worked_examples_hold`.
 use Rattle.std.specs.Prelude.{ℕ, true, false, List, [], ◌∷◌, ◌++◌}
-use Rattle.choice.specs.Examples.{Example, is, Hold}
+use Rattle.choice.specs.Worked.{Worked, is, AllRight}
 use Rattle.boxes.specs.Bytes.{mtrm}
 use Rattle.boxes.specs.Boxes.{Boxes, clean, bad, box, boxes_of, box_size}
 use Rattle.boxes.specs.Places.{child_place, find_box_place, table_text_place}
@@ -34,7 +34,7 @@ abbrev pub typed : ℕ → List ℕ
 typed b = 0 ∷ 0 ∷ 0 ∷ 8 ∷ 0x66 ∷ 0x72 ∷ 0x65 ∷ b ∷ []
 
 -- how the boxes end: three bytes are left; a size below its header; a size that passes the bytes
-abbrev pub walks : List (Example Boxes)
+abbrev pub walks : List (Worked Boxes)
 walks =
     is (boxes_of (free 8 ++ table ++ (9 ∷ 9 ∷ 9 ∷ []))) (box 0 0x66726565 8 0 (box 8 mtrm 16 2 clean))
     ∷ is (boxes_of (free 8 ++ free 7)) (box 0 0x66726565 8 0 (bad 8))
@@ -42,13 +42,13 @@ walks =
     ∷ []
 
 -- four bytes are enough for a 32-bit size; size 0 is what remains, which is 8 at least
-abbrev pub sizes : List (Example Sized)
+abbrev pub sizes : List (Worked Sized)
 sizes =
     is (box_size (0 ∷ 0 ∷ 0 ∷ 20 ∷ []) 20) (Box 20 8)
     ∷ is (box_size (0 ∷ 0 ∷ 0 ∷ 0 ∷ []) 7) (NoSize 31 0)
     ∷ []
 
-abbrev pub places : List (Example Place)
+abbrev pub places : List (Worked Place)
 places =
     -- a 64-bit size has a header of 16
     is (child_place large mtrm) (At 16 2)
@@ -70,4 +70,4 @@ places =
     ∷ []
 
 abbrev pub WorkedExamples : Type 0
-WorkedExamples = Hold walks × Hold sizes × Hold places
+WorkedExamples = AllRight walks × AllRight sizes × AllRight places

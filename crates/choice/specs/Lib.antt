@@ -2,4 +2,4 @@ pub mod Choice
 pub mod Records
 pub mod Numbers
 pub mod Steps
-pub mod Examples
+pub mod Worked

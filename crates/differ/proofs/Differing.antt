@@ -1,24 +1,21 @@
 -- How far two tables of one video may differ. Assumes nothing.
 use mathlib.Core.Path.{◌≡◌, refl, sym, ap, ◌∙◌, subst}
 use mathlib.Core.List.{List, [], ◌∷◌}
-use mathlib.Core.Logic.{⊎_elim}
+use mathlib.Core.Logic.{⊎_elim, ◌↔◌}
 use Prim.Native.Nat.{ℕ, suc, ◌-◌, ◌≤◌, ◌<◌}
 use native.Mathlib.Omega.{arith}
 use lib.IntN.{ℤ, pos, ◌-ℤ◌, ◌*ℤ◌}
 use lib.ListN.{length}
 use Rattle.signed.specs.Rounded.{rounded}
-use Rattle.rules.specs.declared.Checked.{Checked}
 use Rattle.rules.specs.declared.Checked.TheVariants.{Frames}
 use Rattle.rules.specs.Records.{Table, segment, out_end, out_end_us}
 use Rattle.rules.proofs.Accepted.{Accepted, accepted}
 use Rattle.rules.proofs.Search.{frames-ordered}
 use Rattle.mcraw.specs.Mcraw.{nanoseconds, nominal}
-use Rattle.judge.specs.declared.Video.{Video}
 use Rattle.judge.specs.Video.{Shown, shown_by}
 use Rattle.judge.specs.Judge.{last_segment, validate_of, single, check_mcraw, Settled}
 use Rattle.judge.specs.Means.{Fits, Recorded}
 use Rattle.judge.specs.Paper.{Near, first_source}
-use Rattle.judge.proofs.Meaning.{validated, recorded}
 use Rattle.differ.specs.Differ.{SameFrames, Alike, SameFps, Differing}
 use Rattle.differ.proofs.Distances.{last-near, duration-is, time-0, near-rates}
 
@@ -100,26 +97,20 @@ one t u x a b c d M N =
     ⊎_elim (λ f. ⊎_elim (λ g. same-frame t u M N f.1 g.1) (λ g. absurd (g.0 refl)))
     (λ f. absurd (f.0 refl))
 
--- of calls that answer by the definitions
-pub differing : {L : Type 0} (table : L → Table)
-    (Validate : L → Video → List ℤ → Checked → Type 0) (CheckMcraw : L → List ℤ → List ℤ → List ℤ → Checked → List ℤ → List ℤ → Type 0)
-    → ((l : L) (video : Video) (starts : List ℤ) (r : Checked) → Validate l video starts r → r ≡ validate_of (table l) (shown_by video starts))
-    → ((l : L) (ts a b a' b' : List ℤ) (r : Checked) → CheckMcraw l ts a b r a' b' → r ≡ check_mcraw (table l) ts (length a) (length b))
-    → Differing table Validate CheckMcraw
+-- of the judge's calls, by what it means that they accept
+pub differing : ((t : Table) (v : Shown) (N : ℕ) → (validate_of t v ≡ Frames N) ↔ Fits t v N)
+    → ((t : Table) (ts : List ℤ) (a b N : ℕ) → (check_mcraw t ts a b ≡ Frames N) ↔ Recorded t ts a b N)
+    → Differing (λ (t : Table). t) (λ t video starts r. r ≡ validate_of t (shown_by video starts)) Settled
 unfolding shown_by
-differing {L} table Validate CheckMcraw judged settled = record {
-  constant = λ l m frames num den M N s s' x y. same-video (table l) (table m) _ M N (fits l x) (fits m y);
-  times = λ l m scale end nominal starts M N x y. same-video (table l) (table m) _ M N (fits l x) (fits m y);
-  recording = λ l m ts a b a' b' c d c' d' M N h x y. several (table l) (table m) ts _ _ _ _ M N h (holds l x) (holds m y);
-  one-timestamp = λ l m z a b a' b' c d c' d' M N x y. one (table l) (table m) z _ _ _ _ M N (holds l x) (holds m y);
+differing fit recorded = record {
+  constant = λ t u frames num den M N s s' x y. same-video t u _ M N (fits t _ x) (fits u _ y);
+  times = λ t u scale end nominal starts M N x y. same-video t u _ M N (fits t _ x) (fits u _ y);
+  recording = λ t u ts a b a' b' c d c' d' M N h x y. several t u ts _ _ _ _ M N h (holds t x) (holds u y);
+  one-timestamp = λ t u z a b a' b' c d c' d' M N x y. one t u z _ _ _ _ M N (holds t x) (holds u y);
 }
   where
-    fits : (l : L) {video : Video} {starts : List ℤ} {N : ℕ} → Validate l video starts (Frames N) → Fits (table l) (shown_by video starts) N
-    fits l x = (validated (table l) _ _).0 (sym (judged l _ _ _ x))
+    fits : (t : Table) (v : Shown) {N : ℕ} → Frames N ≡ validate_of t v → Fits t v N
+    fits t v x = (fit t v _).0 (sym x)
 
-    holds : (l : L) {ts a b a' b' : List ℤ} {N : ℕ} → CheckMcraw l ts a b (Frames N) a' b' → Recorded (table l) ts (length a) (length b) N
-    holds l x = (recorded (table l) _ _ _ _).0 (sym (settled l _ _ _ _ _ _ x))
-
--- the judge's own calls
-pub by_the_judge : Differing (λ (t : Table). t) (λ t video starts r. r ≡ validate_of t (shown_by video starts)) Settled
-by_the_judge = differing _ _ _ (λ t video starts r p. p) (λ t ts a b a' b' r p. p.answer)
+    holds : (t : Table) {ts a b a' b' : List ℤ} {N : ℕ} → Settled t ts a b (Frames N) a' b' → Recorded t ts (length a) (length b) N
+    holds t x = (recorded t _ _ _ _).0 (sym x.answer)

@@ -1,6 +1,6 @@
 -- Document 01's numbers on near ends, and some beside them on every refusal by a video; and some of recordings. They are the contract of `worked_examples_hold`.
 use Rattle.std.specs.Prelude.{ℕ, false, List, [], ◌∷◌, ℤ, pos, neg_ℤ}
-use Rattle.choice.specs.Examples.{Example, is, Hold}
+use Rattle.choice.specs.Worked.{Worked, is, AllRight}
 use Rattle.rules.specs.declared.Checked.{Checked}
 use Rattle.rules.specs.declared.Checked.TheVariants.{Frames, Refused}
 use Rattle.rules.specs.Records.{Table}
@@ -29,7 +29,7 @@ judged_by t video starts = validate_of t (shown_by video starts)
 abbrev pub recorded_by : Table → List ℤ → ℕ → Checked
 recorded_by t timestamps room = check_mcraw t timestamps room room
 
-abbrev pub videos : List (Example Checked)
+abbrev pub videos : List (Worked Checked)
 videos =
     -- 30 frames at 30000/1001: ends 967,633 and 1,034,367 are near; 967,632 and 1,034,368 are 25
     is (judged_by (one_segment 30000 1001 30 (pos 0) (pos 967633)) (Constant 30 30000 1001) []) (Frames 30)
@@ -58,7 +58,7 @@ videos =
     ∷ is (judged_by (one_segment 25 1 1 (pos 0) (pos 1)) (Times 4000000 (neg_ℤ (pos 1)) (neg_ℤ (pos 1))) (pos 1 ∷ [])) (Refused 25 0)
     ∷ []
 
-abbrev pub recordings : List (Example Checked)
+abbrev pub recordings : List (Worked Checked)
 recordings =
     -- three frames, one, none; then too little room, a fall, and a nominal of 0
     is (recorded_by (one_segment 25 1 3 (pos 0) (pos 0)) (pos 1000 ∷ pos 1010 ∷ pos 1025 ∷ []) 3) (Frames 3)
@@ -73,4 +73,4 @@ recordings =
     ∷ []
 
 abbrev pub WorkedExamples : Type 0
-WorkedExamples = Hold videos × Hold recordings
+WorkedExamples = AllRight videos × AllRight recordings

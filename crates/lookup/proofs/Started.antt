@@ -3,10 +3,10 @@ use Prim.Native.Nat.{ℕ, ◌+◌, ◌-◌, ◌*◌, ◌/◌, ◌%◌, ◌<◌}
 use native.Mathlib.Omega.{arith}
 use mathlib.Core.Bool.{false}
 use mathlib.Core.List.{List}
-use mathlib.Core.Path.{◌≡◌, refl, ap, subst}
+use mathlib.Core.Path.{◌≡◌, ap, subst}
 use lib.IntN.{ℤ, pos, nat_abs}
 use lib.ListN.{length, get_or}
-use Rattle.rows.proofs.Begun.{Halved, halved-start, halved-down}
+use Rattle.rows.proofs.Begun.{Halved, halved-down}
 use Rattle.rules.specs.Rules.{negative}
 use Rattle.lookup.specs.Steps.{start_us_at, StartsRise}
 
@@ -15,9 +15,6 @@ pub record Started (t : List ℤ) (n time at left : ℕ) : Type 0 where
   pub segments : Halved (start_us_at t) n time (at / 7) left
 
 module _ {t : List ℤ} {n time : ℕ} (o : StartsRise t n) where
-  pub started-start : Started t n time 1 n
-  started-start = record { word = refl; segments = halved-start o.some }
-
   module _ {at left : ℕ} (h : Started t n time at left) (few : 1 < left) where
     mid-word : 7 * ((at + 7 * (left / 2)) / 7) + 1 ≡ at + 7 * (left / 2)
     mid-word = omega (arith, h.word)

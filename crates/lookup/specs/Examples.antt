@@ -1,6 +1,6 @@
 -- The lookups in T of document 01, and which of its segments continue. They are the contract of `worked_examples_hold`.
 use Rattle.std.specs.Prelude.{true, false, List, [], ◌∷◌, ◌++◌, ℤ, pos, neg_ℤ}
-use Rattle.choice.specs.Examples.{Example, is, Hold}
+use Rattle.choice.specs.Worked.{Worked, is, AllRight}
 use Rattle.rules.specs.declared.Lookup.{Lookup}
 use Rattle.rules.specs.declared.Lookup.TheVariants.{Index}
 use Rattle.rules.specs.declared.Continued.{Continued}
@@ -11,7 +11,7 @@ use Rattle.table.specs.Layout.{table_of}
 use Rattle.table.specs.Examples.{source, words, T}
 
 -- frames 29, 30 and 50; times -5 and 1,200,000
-abbrev pub lookups : List (Example Lookup)
+abbrev pub lookups : List (Worked Lookup)
 lookups =
     is (segment_of_frame T 29) (Index 0)
     ∷ is (segment_of_frame T 30) (Index 1)
@@ -26,7 +26,7 @@ halves shift =
     table_of (source 100 0 0 1 1 0) (words 0 10 30 0 1 ++ words 0 40 20 30 1)
     (pos 0 ∷ pos 0 ∷ pos 3 ∷ pos 0 ∷ pos 0 ∷ pos 0 ∷ pos 5 ∷ pos 0 ∷ pos 3 ∷ pos 4 ∷ pos 0 ∷ pos 0 ∷ pos 0 ∷ shift ∷ []) false []
 
-abbrev pub follows : List (Example Continued)
+abbrev pub follows : List (Worked Continued)
 follows =
     is (continues_at T 1) (Answer false)
     ∷ is (continues_at (halves (pos 5)) 0) (Answer false)
@@ -36,4 +36,4 @@ follows =
     ∷ []
 
 abbrev pub WorkedExamples : Type 0
-WorkedExamples = Hold lookups × Hold follows
+WorkedExamples = AllRight lookups × AllRight follows

@@ -1,6 +1,6 @@
 -- Document 01's numbers on a recording, and some beside them. They are the contract of `worked_examples_hold`.
 use Rattle.std.specs.Prelude.{ℕ, List, [], ◌∷◌, ℤ, pos, neg_ℤ}
-use Rattle.choice.specs.Examples.{Example, is, Hold}
+use Rattle.choice.specs.Worked.{Worked, is, AllRight}
 use Rattle.mcraw.specs.declared.RecordingTimes.{RecordingTimes}
 use Rattle.mcraw.specs.declared.RecordingTimes.TheVariants.{Timed, Refused}
 use Rattle.mcraw.specs.Mcraw.{mcraw_times, starts_written}
@@ -9,7 +9,7 @@ use Rattle.mcraw.specs.Mcraw.{mcraw_times, starts_written}
 abbrev pub answered : List ℤ → ℕ → RecordingTimes × List ℤ
 answered timestamps room = (mcraw_times timestamps room room, starts_written (mcraw_times timestamps room room) timestamps)
 
-abbrev pub recordings : List (Example (RecordingTimes × List ℤ))
+abbrev pub recordings : List (Worked (RecordingTimes × List ℤ))
 recordings =
     -- nominal 10, end 35
     is (answered (pos 1000 ∷ pos 1010 ∷ pos 1025 ∷ []) 3) (Timed 3 1000000000 (pos 10) (pos 35), pos 0 ∷ pos 10 ∷ pos 25 ∷ [])
@@ -31,4 +31,4 @@ recordings =
     ∷ []
 
 abbrev pub WorkedExamples : Type 0
-WorkedExamples = Hold recordings
+WorkedExamples = AllRight recordings

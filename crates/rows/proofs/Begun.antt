@@ -2,7 +2,7 @@
 use Prim.Native.Nat.{ℕ, ◌+◌, ◌-◌, ◌*◌, ◌/◌, ◌%◌, ◌≤◌, ◌<◌}
 use native.Mathlib.Omega.{arith}
 use mathlib.Core.List.{List}
-use mathlib.Core.Path.{◌≡◌, refl, ap, subst}
+use mathlib.Core.Path.{◌≡◌, ap}
 use lib.ListN.{get_or}
 use Rattle.rows.specs.Steps.{out_at, OutsRise}
 
@@ -13,20 +13,7 @@ pub record Halved (b : ℕ → ℕ) (n v lo left : ℕ) : Type 0 where
   pub high : lo + left < n → v < b (lo + left)
 
 module _ {b : ℕ → ℕ} {n v : ℕ} where
-  pub halved-start : 0 < n → Halved b n v 0 n
-  halved-start s = record { some = s; within = omega arith; low = λ l. absurd (omega arith); high = λ l. absurd (omega arith) }
-
   module _ {lo left : ℕ} (h : Halved b n v lo left) (few : 1 < left) {mid : ℕ} (e : lo + left / 2 ≡ mid) where
-    pub halved-up : b mid ≤ v → Halved b n v mid (left - left / 2)
-    halved-up l =
-        let y : lo + left ≡ mid + (left - left / 2) = omega arith in
-        record {
-          some = omega arith;
-          within = omega (arith, h.within);
-          low = λ z. l;
-          high = λ z. subst (λ (k : ℕ). v < b k) y (h.high (omega arith));
-        }
-
     pub halved-down : ((i j : ℕ) → i ≤ j → j < n → b i ≤ b j) → v < b mid → Halved b n v lo (left - left / 2)
     halved-down rising l = record {
       some = omega arith;
@@ -41,9 +28,6 @@ pub record Begun (u : List ℕ) (n frame at left : ℕ) : Type 0 where
   pub rows : Halved (out_at u) n frame (at / 5) left
 
 module _ {u : List ℕ} {n frame : ℕ} (o : OutsRise u n) where
-  pub begun-start : Begun u n frame 3 n
-  begun-start = record { word = refl; rows = halved-start o.some }
-
   module _ {at left : ℕ} (h : Begun u n frame at left) (few : 1 < left) where
     mid-out : out_at u ((at + 5 * (left / 2)) / 5) ≡ get_or u (at + 5 * (left / 2)) 0
     mid-out = let e : 5 * ((at + 5 * (left / 2)) / 5) + 3 ≡ at + 5 * (left / 2) = omega (arith, h.word) in ap (λ (j : ℕ). get_or u j 0) e

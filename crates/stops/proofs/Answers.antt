@@ -1,12 +1,8 @@
--- Calls that answer by the definitions of boxes/specs and frame_times/specs, and what is so of an answer where it is 36. Assumes nothing.
+-- What is so of an answer where it is 36, and where it is 31. Assumes nothing.
 use mathlib.Core.Path.{◌≡◌, refl}
-use mathlib.Core.Bool.{Bool}
-use mathlib.Core.List.{List}
 use Prim.Native.Nat.{ℕ, ◌+◌}
 use native.Mathlib.Omega.{arith}
-use lib.IntN.{ℤ}
-use Rattle.boxes.specs.Boxes.{children_at}
-use Rattle.boxes.specs.Places.{child_place, find_box_place, place_of, moved_walk}
+use Rattle.boxes.specs.Places.{place_of, moved_walk}
 use Rattle.boxes.specs.declared.Place.{Place}
 use Rattle.boxes.specs.declared.Place.TheVariants as place
 use Rattle.boxes.specs.declared.Reached.{Reached}
@@ -15,21 +11,6 @@ use Rattle.boxes.specs.declared.Walk.{Walk}
 use Rattle.boxes.specs.declared.Walk.TheVariants.{Found, End, Bad as BadAt}
 use Rattle.frame_times.specs.declared.FrameTimes.{FrameTimes}
 use Rattle.frame_times.specs.declared.FrameTimes.TheVariants as times
-use Rattle.frame_times.specs.Times.{MoovAnswers}
-use Rattle.stops.specs.Promises.{Child, FindBox, Children, FrameTimesOf}
-
--- every answer of a call is the one that the definition has
-pub record Answers
-    (Child : List ℕ → ℕ → Place → Type 0) (FindBox : List ℕ → ℕ → ℕ → ℕ → Bool → Place → Type 0) (Children : List ℕ → ℕ → Reached → Type 0)
-    (FrameTimesOf : List ℕ → Bool → List ℤ → List ℤ → List ℤ → FrameTimes → List ℤ → List ℤ → List ℤ → Type 0) : Type 0 where
-  pub child : (b : List ℕ) (kind : ℕ) (r : Place) → Child b kind r → r ≡ child_place b kind
-  pub find-box : (b : List ℕ) (start end kind : ℕ) (text : Bool) (r : Place) → FindBox b start end kind text r → r ≡ find_box_place b start end kind text
-  pub children : (b : List ℕ) (at : ℕ) (r : Reached) → Children b at r → r ≡ children_at b at
-  pub frame-times : (moov : List ℕ) (standard : Bool) (starts a b starts' a' b' : List ℤ) (r : FrameTimes) → FrameTimesOf moov standard starts a b r starts' a' b' → MoovAnswers standard moov starts a b r starts' a' b'
-
--- the calls themselves, of which each promises just that
-pub promised : Answers Child FindBox Children FrameTimesOf
-promised = record { child = λ b kind r p. p; find-box = λ b start end kind text r p. p; children = λ b at r p. p; frame-times = λ moov standard starts a b starts' a' b' r p. p }
 
 -- P holds of the index, where an answer is 36
 abbrev pub PlaceTold : (ℕ → Type 0) → Place → Type 0

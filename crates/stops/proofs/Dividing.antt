@@ -12,16 +12,12 @@ use Rattle.boxes.specs.Boxes.{most_bytes, header_at, boxes_of, searched, first_o
 use Rattle.boxes.specs.Places.{place_or, place_of, moved_walk, moved_place, child_place, find_box_place}
 use Rattle.boxes.specs.declared.Header.{Header}
 use Rattle.boxes.specs.declared.Header.TheVariants.{Whole, Short, Bad}
-use Rattle.boxes.specs.declared.Place.{Place}
-use Rattle.boxes.specs.declared.Reached.{Reached}
 use Rattle.boxes.specs.declared.Walk.{Walk}
 use Rattle.boxes.specs.declared.Walk.TheVariants.{Found, End, Bad as BadAt}
-use Rattle.frame_times.specs.declared.FrameTimes.{FrameTimes}
 use Rattle.frame_times.specs.Times.{room}
 use Rattle.stops.specs.Stops.{Dividing}
 use Rattle.stops.specs.Undivided.{place_taken_back, reached_taken_back, times_taken_back, reached_undivided, child_undivided, find_box_undivided, children_undivided}
-use Rattle.stops.specs.Promises.{Child, FindBox, Children, FrameTimesOf}
-use Rattle.stops.proofs.Answers.{Answers, promised}
+use Rattle.stops.specs.Promises.{ChildPlace, FindBoxPlace, Children, FrameTimesOf}
 use Rattle.stops.proofs.TakenBack.{moov-back}
 
 -- through a choice
@@ -64,18 +60,11 @@ children-back b at =
     chosen reached_taken_back (ltb most_bytes (length b)) _ _ _ _ refl
     (chosen reached_taken_back (ltb (length b) at) _ _ _ _ refl (reached-back (header_at b at) at))
 
--- of calls that answer by the definitions
-pub dividing : (Child : List ℕ → ℕ → Place → Type 0) (FindBox : List ℕ → ℕ → ℕ → ℕ → Bool → Place → Type 0) (Children : List ℕ → ℕ → Reached → Type 0)
-    (FrameTimesOf : List ℕ → Bool → List ℤ → List ℤ → List ℤ → FrameTimes → List ℤ → List ℤ → List ℤ → Type 0)
-    → Answers Child FindBox Children FrameTimesOf → Dividing Child FindBox Children FrameTimesOf
-dividing Child FindBox Children FrameTimesOf given = record {
-  child = λ b kind r p. ap place_taken_back (given.child b kind r p) ∙ child-back b kind;
-  find-box = λ b start end kind text r p. ap place_taken_back (given.find-box b start end kind text r p) ∙ find-box-back b start end kind text;
-  children = λ b at r p. ap reached_taken_back (given.children b at r p) ∙ children-back b at;
+pub dividing : Dividing ChildPlace FindBoxPlace Children FrameTimesOf
+dividing = record {
+  child = λ b kind r p. ap place_taken_back p ∙ child-back b kind;
+  find-box = λ b start end kind text r p. ap place_taken_back p ∙ find-box-back b start end kind text;
+  children = λ b at r p. ap reached_taken_back p ∙ children-back b at;
   frame-times = λ moov standard starts a b starts' a' b' r p.
-      let m = given.frame-times moov standard starts a b starts' a' b' r p in
-      (ap times_taken_back m.answer ∙ (moov-back standard moov (room starts a b)).answer, m.starts ∙ ap (λ (l : List ℤ). laid l starts) (moov-back standard moov (room starts a b)).starts);
+      (ap times_taken_back p.answer ∙ (moov-back standard moov (room starts a b)).answer, p.starts ∙ ap (λ (l : List ℤ). laid l starts) (moov-back standard moov (room starts a b)).starts);
 }
-
-pub divides : Dividing Child FindBox Children FrameTimesOf
-divides = dividing _ _ _ _ promised

@@ -6,7 +6,6 @@ use mathlib.Core.List.{List}
 use Prim.Native.Nat.{ℕ, ◌+◌, ◌-◌, ◌≤◌}
 use native.Mathlib.Nat.{add-sub_cancel_left}
 use native.Mathlib.Omega.{arith}
-use lib.IntN.{ℤ}
 use lib.ListN.{length, take, drop}
 use lib.Dec.{ltb, eqb}
 use borrow.Author.Tests.{ltb-false}
@@ -15,16 +14,13 @@ use Rattle.boxes.specs.Boxes.{most_bytes, header_at, boxes_of, searched, first_o
 use Rattle.boxes.specs.Places.{child_place, find_box_place}
 use Rattle.boxes.specs.declared.Header.{Header}
 use Rattle.boxes.specs.declared.Header.TheVariants.{Whole, Short, Bad}
-use Rattle.boxes.specs.declared.Place.{Place}
-use Rattle.boxes.specs.declared.Reached.{Reached}
 use Rattle.boxes.specs.declared.Walk.TheVariants.{End, Bad as BadAt}
 use Rattle.boxes.proofs.Sizes.{Lies, header-lies}
 use Rattle.boxes.proofs.Parts.{length_part}
 use Rattle.boxes.proofs.Within.{search-stays}
-use Rattle.frame_times.specs.declared.FrameTimes.{FrameTimes}
 use Rattle.stops.specs.Stops.{ending, Broken, StopsAt, StopsIn, OfOne, searches, Stopping}
-use Rattle.stops.specs.Promises.{Child, FindBox, Children, FrameTimesOf}
-use Rattle.stops.proofs.Answers.{Answers, PlaceTold, ReachedTold, TimesTold, PlaceEnded, place-told, moved_told, place-ended, moved-ended, promised}
+use Rattle.stops.specs.Promises.{ChildPlace, FindBoxPlace, Children, FrameTimesOf}
+use Rattle.stops.proofs.Answers.{PlaceTold, ReachedTold, TimesTold, PlaceEnded, place-told, moved_told, place-ended, moved-ended}
 use Rattle.stops.proofs.Ends.{walk_ends, stopped-at-bad}
 use Rattle.stops.proofs.Descent.{moov-told}
 
@@ -93,21 +89,12 @@ module _ (b : List ℕ) (at : ℕ) where
       (λ t. either (ReachedTold BrokenThere) (ltb (length b) at) (λ u n. absurd (omega arith))
       (λ u. reached-told (header_at b at) refl (header-lies b at)))
 
--- of calls that answer by the definitions
-pub stopping : (Child : List ℕ → ℕ → Place → Type 0) (FindBox : List ℕ → ℕ → ℕ → ℕ → Bool → Place → Type 0) (Children : List ℕ → ℕ → Reached → Type 0)
-    (FrameTimesOf : List ℕ → Bool → List ℤ → List ℤ → List ℤ → FrameTimes → List ℤ → List ℤ → List ℤ → Type 0)
-    → Answers Child FindBox Children FrameTimesOf → Stopping Child FindBox Children FrameTimesOf
-stopping Child FindBox Children FrameTimesOf given = record {
-  child = λ b kind i p. subst (PlaceTold (StopsAt false b)) (sym (given.child b kind _ p)) (child-told b kind) refl;
-  child-end = λ b kind i p. subst (PlaceEnded (AllWalked b false)) (sym (given.child b kind _ p)) (child-ended b kind) refl;
-  find-box = λ b start end kind text i p.
-      subst (PlaceTold (StopsFrom b start end kind text)) (sym (given.find-box b start end kind text _ p)) (find-box-told b start end kind text) refl;
-  find-box-end = λ b start end kind text i p.
-      subst (PlaceEnded (AllWalked (take (end - start) (drop start b)) text)) (sym (given.find-box b start end kind text _ p)) (find-box-ended b start end kind text) refl;
-  children = λ b at i p. subst (ReachedTold (BrokenThere b at)) (sym (given.children b at _ p)) (children-told b at) refl;
-  frame-times = λ moov standard starts a b starts' a' b' i p.
-      subst (TimesTold (λ i. OfOne (StopsIn moov i) (searches moov))) (sym (given.frame-times moov standard starts a b starts' a' b' _ p).answer) (moov-told moov standard _) refl;
+pub stopping : Stopping ChildPlace FindBoxPlace Children FrameTimesOf
+stopping = record {
+  child = λ b kind i p. subst (PlaceTold (StopsAt false b)) (sym p) (child-told b kind) refl;
+  child-end = λ b kind i p. subst (PlaceEnded (AllWalked b false)) (sym p) (child-ended b kind) refl;
+  find-box = λ b start end kind text i p. subst (PlaceTold (StopsFrom b start end kind text)) (sym p) (find-box-told b start end kind text) refl;
+  find-box-end = λ b start end kind text i p. subst (PlaceEnded (AllWalked (take (end - start) (drop start b)) text)) (sym p) (find-box-ended b start end kind text) refl;
+  children = λ b at i p. subst (ReachedTold (BrokenThere b at)) (sym p) (children-told b at) refl;
+  frame-times = λ moov standard starts a b starts' a' b' i p. subst (TimesTold (λ i. OfOne (StopsIn moov i) (searches moov))) (sym p.answer) (moov-told moov standard _) refl;
 }
-
-pub stops : Stopping Child FindBox Children FrameTimesOf
-stops = stopping _ _ _ _ promised

@@ -7,11 +7,11 @@ use Rattle.boxes.specs.declared.Reached.{Reached}
 use Rattle.frame_times.specs.declared.FrameTimes.{FrameTimes}
 use Rattle.frame_times.specs.Times.{MoovAnswers}
 
-abbrev pub Child : List ℕ → ℕ → Place → Type 0
-Child b kind r = r ≡ child_place b kind
+abbrev pub ChildPlace : List ℕ → ℕ → Place → Type 0
+ChildPlace b kind r = r ≡ child_place b kind
 
-abbrev pub FindBox : List ℕ → ℕ → ℕ → ℕ → Bool → Place → Type 0
-FindBox b start end kind text r = r ≡ find_box_place b start end kind text
+abbrev pub FindBoxPlace : List ℕ → ℕ → ℕ → ℕ → Bool → Place → Type 0
+FindBoxPlace b start end kind text r = r ≡ find_box_place b start end kind text
 
 abbrev pub Children : List ℕ → ℕ → Reached → Type 0
 Children b at r = r ≡ children_at b at

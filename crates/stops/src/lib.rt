@@ -2,16 +2,16 @@
 #![tactic(auto)]
 
 ghost use Rattle.stops.specs.Stops.{Stopping, Dividing};
-ghost use Rattle.stops.specs.Promises.{Child, FindBox, Children, FrameTimesOf};
+ghost use Rattle.stops.specs.Promises.{ChildPlace, FindBoxPlace, Children, FrameTimesOf};
 
 // Where 36 is answered, its index is the offset of a header that is there and bad, and the walk for the box stopped at it.
-#[tactic(auto, using(crate::proofs::Stopping::stops))]
+#[tactic(auto, using(crate::proofs::Stopping::stopping))]
 pub fn stops_at_a_bad_header()
-    ensures { Stopping Child FindBox Children FrameTimesOf }
+    ensures { Stopping ChildPlace FindBoxPlace Children FrameTimesOf }
 {}
 
 // With 36 taken back to 31, every answer is the undivided one.
-#[tactic(auto, using(crate::proofs::Dividing::divides))]
+#[tactic(auto, using(crate::proofs::Dividing::dividing))]
 pub fn only_divides()
-    ensures { Dividing Child FindBox Children FrameTimesOf }
+    ensures { Dividing ChildPlace FindBoxPlace Children FrameTimesOf }
 {}

@@ -1,6 +1,6 @@
 -- T of document 01, and each refusal of a check. They are the contract of `worked_examples_hold`.
 use Rattle.std.specs.Prelude.{ℕ, zero, suc, true, false, List, [], ◌∷◌, ◌++◌, ℤ, pos, neg_ℤ}
-use Rattle.choice.specs.Examples.{Example, is, Hold}
+use Rattle.choice.specs.Worked.{Worked, is, AllRight}
 use Rattle.rules.specs.declared.Checked.{Checked}
 use Rattle.rules.specs.declared.Checked.TheVariants.{Frames, Refused}
 use Rattle.rules.specs.Records.{Table}
@@ -72,7 +72,7 @@ clocked kind flag shift =
 abbrev pub late : List ℤ
 late = stamps (pos 1200000) (pos 800000) (pos 0)
 
-abbrev pub checks : List (Example Checked)
+abbrev pub checks : List (Worked Checked)
 checks =
     is (check_of T) (Frames 50)
     ∷ is (made 0) (Frames 50)
@@ -109,4 +109,4 @@ checks =
     ∷ []
 
 abbrev pub WorkedExamples : Type 0
-WorkedExamples = Hold checks
+WorkedExamples = AllRight checks

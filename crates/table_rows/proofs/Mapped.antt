@@ -16,7 +16,7 @@ use Rattle.rows.proofs.Flat.{rows-flat}
 use Rattle.rules.specs.Records.{Segment, Table, no_segment, segment, out_end, frame_total}
 use Rattle.rules.proofs.Accepted.{Accepted, accepted}
 use Rattle.table_rows.specs.Rows.{row_of, rows_of}
-use Rattle.table_rows.specs.Steps.{RowsAreMap}
+use Rattle.table_rows.specs.Mapped.{RowsAreMap}
 
 shift-ok : (e : Segment) → e.words.flag ≤ 1 → ok_shift (row_of e) ≡ true
 unfolding row_of when

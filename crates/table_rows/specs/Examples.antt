@@ -1,6 +1,6 @@
 -- The rows of T of document 01. They are the contract of `worked_examples_hold`.
 use Rattle.std.specs.Prelude.{ℕ, List, [], ◌∷◌, pos}
-use Rattle.choice.specs.Examples.{Example, is, Hold}
+use Rattle.choice.specs.Worked.{Worked, is, AllRight}
 use Rattle.rows.specs.declared.Row.{Row}
 use Rattle.table.specs.Examples.{T}
 use Rattle.table_rows.specs.Rows.{rows_of}
@@ -8,8 +8,8 @@ use Rattle.table_rows.specs.Rows.{rows_of}
 abbrev row : ℕ → ℕ → ℕ → ℕ → Row
 row s f n o = record { source = s; first = f; count = n; out = o; flag = 0; shift = pos 0 }
 
-abbrev pub maps : List (Example (List Row))
+abbrev pub maps : List (Worked (List Row))
 maps = is (rows_of T) (row 0 10 30 0 ∷ row 1 5 20 30 ∷ []) ∷ []
 
 abbrev pub WorkedExamples : Type 0
-WorkedExamples = Hold maps
+WorkedExamples = AllRight maps

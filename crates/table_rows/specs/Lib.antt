@@ -1,3 +1,3 @@
 pub mod Rows
-pub mod Steps
+pub mod Mapped
 pub mod Examples

@@ -7,7 +7,7 @@ ghost use Rattle.rules.specs.Records.{Table};
 ghost use Rattle.rows.specs.Lent.{shifts_of};
 ghost use Rattle.table.specs.Layout.{segment_words, segment_stamps, segment_at, segments_of, table_of};
 ghost use Rattle.table_rows.specs.Rows.{row_of, Rowed};
-ghost use Rattle.table_rows.specs.Steps.{RowsAreMap};
+ghost use Rattle.table_rows.specs.Mapped.{RowsAreMap};
 ghost use Rattle.table_rows.specs.Examples.{WorkedExamples};
 
 use rules::Checked;

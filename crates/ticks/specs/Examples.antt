@@ -1,13 +1,13 @@
 -- The numbers of document 01 on ticks and near ends, those that it marks and some at the limits. They are the contract of `worked_examples_hold`.
 use Rattle.std.specs.Prelude.{Bool, true, false, List, [], ◌∷◌, ◌*◌, pos, neg_ℤ}
-use Rattle.choice.specs.Examples.{Example, is, Hold}
+use Rattle.choice.specs.Worked.{Worked, is, AllRight}
 use Rattle.ticks.specs.declared.Us.{Us}
 use Rattle.ticks.specs.declared.Us.TheVariants.{At, Refused}
 use Rattle.ticks.specs.declared.MediaTicks.{MediaTicks}
 use Rattle.ticks.specs.declared.MediaTicks.TheVariants.{Are, Beyond}
 use Rattle.ticks.specs.Ticks.{ticks_to_us, ends_near, media_ticks}
 
-abbrev pub times : List (Example Us)
+abbrev pub times : List (Worked Us)
 times =
     is (ticks_to_us (pos 1001) 30000) (At (pos 33367))
     ∷ is (ticks_to_us (pos 1) 2000000) (At (pos 1))
@@ -24,7 +24,7 @@ times =
     ∷ []
 
 -- 30 frames at 30000/1001; the same below 0; on both sides of 0; a nominal below 0
-abbrev pub ends : List (Example Bool)
+abbrev pub ends : List (Worked Bool)
 ends =
     is (ends_near (pos 967633) (pos (30 * 1001)) (pos 1001) 30000) true
     ∷ is (ends_near (pos 1034367) (pos (30 * 1001)) (pos 1001) 30000) true
@@ -39,7 +39,7 @@ ends =
     ∷ is (ends_near (pos 0) (pos 0) (neg_ℤ (pos 1)) 1999999) false
     ∷ []
 
-abbrev pub edits : List (Example MediaTicks)
+abbrev pub edits : List (Worked MediaTicks)
 edits =
     is (media_ticks 1000 30000 600) (Are 50000)
     ∷ is (media_ticks 1 1 2) (Are 1)
@@ -49,4 +49,4 @@ edits =
     ∷ []
 
 abbrev pub WorkedExamples : Type 0
-WorkedExamples = Hold times × Hold ends × Hold edits
+WorkedExamples = AllRight times × AllRight ends × AllRight edits

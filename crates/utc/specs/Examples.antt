@@ -1,9 +1,9 @@
 -- Document 01's numbers on the UTC rule, and some beside them. They are the contract of `worked_examples_hold`.
 use Rattle.std.specs.Prelude.{Bool, true, false, List, [], ◌∷◌}
-use Rattle.choice.specs.Examples.{Example, is, Hold}
+use Rattle.choice.specs.Worked.{Worked, is, AllRight}
 use Rattle.utc.specs.Utc.{utc_second}
 
-abbrev pub seconds : List (Example Bool)
+abbrev pub seconds : List (Worked Bool)
 seconds =
     -- 0000-02-29T00:00:00Z
     is (utc_second (48 ∷ 48 ∷ 48 ∷ 48 ∷ 45 ∷ 48 ∷ 50 ∷ 45 ∷ 50 ∷ 57 ∷ 84 ∷ 48 ∷ 48 ∷ 58 ∷ 48 ∷ 48 ∷ 58 ∷ 48 ∷ 48 ∷ 90 ∷ [])) true
@@ -28,4 +28,4 @@ seconds =
     ∷ []
 
 abbrev pub WorkedExamples : Type 0
-WorkedExamples = Hold seconds
+WorkedExamples = AllRight seconds

@@ -1,5 +1,5 @@
 -- Products of words, by digits of base 2^32. Assumes nothing.
-use Rattle.std.proofs.Common.{◌≡◌, ℕ, ◌+◌, ◌*◌, ◌/◌, ◌%◌, ◌^◌, ◌<◌, ◌≤◌, ◌∙◌, mul-le-mul, lt_of_mul-lt-mul_right, div-add-mod', arith}
+use Rattle.std.proofs.Common.{◌≡◌, ℕ, ◌+◌, ◌*◌, ◌/◌, ◌%◌, ◌^◌, ◌≤◌, ◌∙◌, div-add-mod', arith}
 
 -- two digits each, column by column
 columns : (a₀ a₁ b₀ b₁ q₀ r₀ q r q₁ r₁ : ℕ) → a₀ * b₀ ≡ q₀ * 4294967296 + r₀ → a₁ * b₀ + q₀ ≡ q * 4294967296 + r → r + a₀ * b₁ ≡ q₁ * 4294967296 + r₁ → (a₁ * b₁ + q + q₁) * 2 ^ 64 + (r₁ * 4294967296 + r₀) ≡ (a₁ * 4294967296 + a₀) * (b₁ * 4294967296 + b₀)

@@ -1,5 +1,5 @@
 -- Sums and orders of two-word numbers, in any base P: omega reads no number as large as 2^128. Assumes nothing.
-use Rattle.std.proofs.Common.{◌≡◌, ℕ, suc, ◌+◌, ◌*◌, ◌%◌, ◌^◌, ◌<◌, ◌≤◌, ap, mul-le-mul_right, lt_of_mul-lt-mul_right, arith}
+use Rattle.std.proofs.Common.{◌≡◌, ℕ, ◌+◌, ◌*◌, ◌%◌, ◌^◌, ◌<◌, ◌≤◌, ap, mul-le-mul_right, arith}
 
 -- the carry, found from the result
 pub carried : (al bl lo : ℕ) → al < 2 ^ 64 → bl < 2 ^ 64 → lo ≡ (al + bl) % 2 ^ 64 → lo < al → al + bl ≡ lo + 2 ^ 64

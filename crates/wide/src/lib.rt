@@ -2,8 +2,8 @@
 #![tactic(auto)]
 
 ghost use Rattle.std.specs.Prelude.{◌≡◌, ◌+◌, ◌*◌, ◌/◌, ◌^◌, ◌<◌, nat_le};
-ghost use Rattle.wide.specs.Value.{value};
-ghost use Rattle.wide.specs.Divided.{Divided};
+ghost use Rattle.wide.specs.Value.{value, OneForm};
+ghost use Rattle.wide.specs.Divided.{Divided, OneWord};
 
 // hi * 2^64 + lo
 #[derive(Clone, Copy)]
@@ -136,3 +136,13 @@ pub fn quotient(w: Wide, d: u64) -> Wide
         lo: lower.quotient,
     }
 }
+
+// In a step of the long division one word holds the remainder with the next digit.
+pub fn a_step_fits_one_word()
+    ensures { OneWord }
+{}
+
+// Two words are the same number only where they are the same words.
+pub fn each_value_has_one_form()
+    ensures { OneForm }
+{}

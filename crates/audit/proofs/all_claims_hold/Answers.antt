@@ -1,0 +1,17 @@
+use Rattle.audit.proofs.Audited.{audited}
+use Rattle.audit.proofs.all_claims_hold.Goals as goal
+
+pub returns : goal.returns
+returns c = audited (record {
+  demands = c.maps_meet_the_demands.ensures;
+  laws = c.calls_keep_origins.ensures;
+  cuts = c.each_cut_is_one_cut.ensures;
+  refusals = c.refusals_are_right.ensures;
+  by-video = c.refusals_by_video_are_right.ensures;
+  by-recording = c.refusals_by_recording_are_right.ensures;
+  mapped = c.accepted_rows_are_a_map.ensures;
+  one-video = c.tables_of_one_video.ensures;
+  stopping = c.stops_at_a_bad_header.ensures;
+  dividing = c.only_divides.ensures;
+  modes = c.both_readings_agree.ensures;
+})

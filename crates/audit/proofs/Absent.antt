@@ -1,4 +1,4 @@
--- Words of absent things are ignored: of every call, by the theorems of rules, table and judge on stripped tables. Assumes nothing.
+-- Words of absent things are ignored: of every call, by the laws of rules, table_rows, lookups and judge on stripped tables. Assumes nothing.
 use mathlib.Core.Path.{◌≡◌, ◌∙◌}
 use lib.ListN.{length}
 use Rattle.rules.specs.Rules.{check_of}

@@ -16,7 +16,7 @@ use Rattle.audit.proofs.Rounded.{rounding, ordering}
 use Rattle.audit.proofs.Absent.{absent}
 use Rattle.audit.proofs.Worked.{all_hold}
 
--- of tables as they are lent, of which the calls answer what the judge's definitions do of the tables
+-- of tables as they are lent: of one the calls answer what the judge's definitions answer of the table that it is
 differing : Theorems → Differing table Validate CheckMcraw
 differing by = record {
   constant = λ l m frames num den M N s s' x y. by.one-video.constant (table l) (table m) frames num den M N s s' x y;

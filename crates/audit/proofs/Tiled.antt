@@ -1,4 +1,4 @@
--- An accepted table's rows tile its frames, and each frame has one origin: by table's theorem, rows' and maps' laws. Assumes nothing.
+-- An accepted table's rows tile its frames, and each frame has one origin: by the theorems of table_rows, rows and maps. Assumes nothing.
 use Prim.Native.Nat.{ℕ, ◌+◌, ◌-◌, ◌*◌, ◌≤◌, ◌<◌}
 use native.Mathlib.Nat.{zero-add}
 use native.Mathlib.Omega.{arith}

@@ -1,7 +1,7 @@
 -- WHAT IS CLAIMED OF THE PUBLIC CALLS. `Claims` is the contract of `all_claims_hold`, in src/lib.rt, so the check proves every line. A call's name with a capital
 -- (`Check`, `Cut`, `Origin`) is its promise, quoted from the source by Calls.antt, in plain lists: the call with these arguments may answer so and leave the lent
--- slices so. What holds of all such answers holds of every run, since the check proves that a run keeps its promise: Promised.antt says in which form. Nothing of
--- proofs/ need be read.
+-- slices so. What holds of all such answers holds of every run, since the check proves that a run keeps its promise: Promised.antt says in which form. No
+-- proof need be read; which calls have that theorem, Quoted.antt and FaceQuoted.antt in proofs/ say.
 use Rattle.std.specs.Prelude.{ℕ, ◌+◌, ◌-◌, ◌*◌, ◌≤◌, ◌<◌, Bool, true, false, List, [], ◌↔◌, ◌≡◌, ℤ, neg_ℤ, length, get_or, take, drop}
 use Rattle.std.specs.Borrow.{Bor}
 use Rattle.slices.specs.Slices.{All}
@@ -99,7 +99,7 @@ pub record Answers : Type 0 where
   pub table-text : OneAnswer calls.table-text
 
 -- THE C FACE: of each exported call too exactly one answer meets the promise: the number that it returns, and what each word and each slice that is lent holds
--- afterwards. (Demand 1.)
+-- afterwards. (Demand 1.) That they ask nothing: Promised.antt.
 pub record Face : Type 0 where
   pub st-check : OneAnswer face.st-check
   pub st-segment-of-frame : OneAnswer face.st-segment-of-frame

@@ -7,7 +7,8 @@ ghost use Rattle.judge.specs.Judge.{validate_of, Settled};
 ghost use Rattle.differ.specs.Differ.{Differing};
 
 // Of two tables that are accepted for one video and agree in their frame fields, all starts and all durations but the last are
-// the same, and the last ones differ by two nominal durations at most, but for the rounding: of the answers that `judge::validate` and `judge::check_mcraw` promise.
+// the same, and the last ones differ by two nominal durations at most, but for the rounding: of the answers that `judge::validate` and
+// `judge::check_mcraw` promise.
 pub fn tables_of_one_video()
     ensures { Differing (λ t. t) (λ t video starts r. r ≡ validate_of t (shown_by video starts)) Settled }
 {

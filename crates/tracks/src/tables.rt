@@ -102,8 +102,7 @@ pub fn offset(wrap: u64, x: u32) -> i64
     (x as i64) - (wrap as i64)
 }
 
-// An offset whose top bit is set, less what is taken off it, is what the definition reads: 2^32 less where offsets are signed, and itself
-// where they aren't.
+// An offset, less what is taken off it where its top bit is set, is what the definition reads, unsigned or signed.
 #[tactic(auto, using(crate::proofs::OffsetLaws::offset_wrapped))]
 pub fn wrapped_offsets_are_right()
     ensures { (unsigned : Bool) (x : ℕ) → wrapped (offset_wrap unsigned) x ≡ offset_of unsigned x }

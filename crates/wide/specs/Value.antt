@@ -12,6 +12,6 @@ value w = w.hi * 2 ^ 64 + w.lo
 abbrev pub number : Big → ℤ
 number b = with_sign b.neg (value b.mag)
 
--- numbers whose words fit are the same where their values are
+-- numbers whose lower words fit are the same where their values are
 abbrev pub OneForm : Type 0
 OneForm = (a b : Wide) → a.lo < 2 ^ 64 → b.lo < 2 ^ 64 → value a ≡ value b → a ≡ b

@@ -142,7 +142,7 @@ pub fn a_step_fits_one_word()
     ensures { OneWord }
 {}
 
-// Two words are the same number only where they are the same words.
+// Two-word numbers are equal only where their words are the same.
 pub fn each_value_has_one_form()
     ensures { OneForm }
 {}

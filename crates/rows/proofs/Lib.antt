@@ -5,4 +5,3 @@ pub mod Joining
 pub mod Well
 pub mod Demanded
 pub mod Flat
-pub mod Begun

@@ -1,4 +1,5 @@
 pub mod Rows
 pub mod Demands
 pub mod Lent
+pub mod Halving
 pub mod Steps

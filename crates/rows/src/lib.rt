@@ -1,6 +1,8 @@
 // Frame maps as definitions, with the theorems that make up demand 3, and the search for a row. What the calls over lent rows do is in the crate `maps`.
 #![tactic(auto)]
 
+pub mod halving;
+
 ghost use Rattle.std.specs.Prelude.{◌≤◌};
 ghost use Rattle.rows.specs.Steps.{out_at, OutsRise, LastBegun};
 ghost use Rattle.rows.specs.Demands.{Demands};
@@ -16,23 +18,12 @@ pub struct Row {
     pub shift: i64,
 }
 
-// The last of n rows in lent words that begins at or before a frame, by halving: it is one of `left` rows, and word `at` is the out first of the first of
-// them. The number of turns doesn't depend on what is read, and no product stands before the read, so that a turn waits for little else.
+// The last of n rows in lent words that begins at or before a frame.
 pub fn last_begun(u: &[u64], n: usize, frame: u64) -> usize
     requires { OutsRise u.now n × (out_at u.now 0 ≤ frame) }
     ensures { LastBegun u.now n frame result }
 {
-    let mut at: usize = 3;
-    let mut left = n;
-    while 1 < left {
-        let half = left / 2;
-        let mid = at + 5 * half;
-        left -= half;
-        if u[mid] <= frame {
-            at = mid;
-        }
-    }
-    at / 5
+    halving::last_that(n, |k| u[5 * k + 3] <= frame)
 }
 
 // The rows of a well-formed map tile its frames, so that each has one origin; a cut, a join and a merge keep origins; two maps merge alike

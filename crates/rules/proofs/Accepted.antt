@@ -19,7 +19,8 @@ use Rattle.utc.specs.Utc.{utc_second}
 use Rattle.rules.specs.declared.Source.{Source}
 use Rattle.rules.specs.declared.Checked.TheVariants.{Frames}
 use Rattle.rules.specs.Limits.{max_sources, max_segments, max_i64}
-use Rattle.rules.specs.Records.{Segment, Table, no_segment, source, segment, source_of, out_end, out_end_us, capture_end_us, frame_total}
+use Rattle.rules.specs.declared.Segment.{Segment}
+use Rattle.rules.specs.Records.{Table, no_segment, source, segment, source_of, out_end, out_end_us, capture_end_us, frame_total}
 use Rattle.rules.specs.Rules.{check_of}
 use Rattle.rules.specs.Paper.{Test, of_source, of_segment, each, None}
 use Rattle.rules.proofs.Says.{Says, equal, below, atmost}

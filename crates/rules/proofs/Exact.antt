@@ -16,7 +16,8 @@ use Rattle.choice.proofs.Tests.{tf, or-false}
 use Rattle.utc.specs.Utc.{utc_second}
 use Rattle.rules.specs.declared.Ends.{Ends}
 use Rattle.rules.specs.Limits.{max_sources, max_segments}
-use Rattle.rules.specs.Records.{Segment, Table, no_source, no_segment, source, segment, source_of, frame_total}
+use Rattle.rules.specs.declared.Segment.{Segment}
+use Rattle.rules.specs.Records.{Table, no_source, no_segment, source, segment, source_of, frame_total}
 use Rattle.rules.specs.Rules.{negative, apart, bad_source, bad_segment, malformed, source_refusal, stamp_times, judged, segment_refusal, start, ends_of, ends, segments_from, front_refusal, refusal, check_of}
 use Rattle.rules.specs.Paper.{Test, given, Malformed, OverLimit, of_source, of_segment, each, tests, Rightly, FrameGap, TimeGap, Negative}
 use Rattle.rules.proofs.Turns.{judged-fit}

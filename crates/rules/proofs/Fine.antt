@@ -19,7 +19,7 @@ use Rattle.rules.specs.declared.Source.{Source}
 use Rattle.rules.specs.declared.Words.{Words}
 use Rattle.rules.specs.declared.Ends.{Ends}
 use Rattle.rules.specs.Limits.{max_i64}
-use Rattle.rules.specs.Records.{Stamps}
+use Rattle.rules.specs.declared.Stamps.{Stamps}
 use Rattle.rules.specs.Rules.{bad_source, source_refusal, over_limit, front_refusal, negative, stamp_times, start, ends_of}
 use Rattle.rules.specs.Steps.{FineFrames, FineShift, out_of_time, Passes, Passing, FineSource}
 use Rattle.rules.proofs.Turns.{judged-fine, Tested, judged-tested}
@@ -51,11 +51,6 @@ module _ {frames first count out before : ℕ} (f : FineFrames frames first coun
 pub short : (x : ℤ) → SFits w64 x → negative x ≡ false → nat_abs x ≤ max_i64
 short (pos n) f t = let h : n < 2 ^ 63 = f.sfits in omega arith
 short (negsuc n) f t = let z : ◌≡◌ {A = ℕ} 0 1 = cc in absurd (omega arith)
-
--- no clock, a clock without modulus, a modulus
-module _ (kind modulus flag : ℕ) (shift : ℤ) where
-  pub shift_none : kind ≡ 0 → eqb flag 0 ≡ true → FineShift kind modulus flag shift
-  shift_none e z = let f : flag ≡ 0 = eqb-true flag 0 z in record { flagged = rw f; within = rw (e, f) }
 
 -- and what each of their tests would find
 module _ (kind modulus flag : ℕ) (shift : ℤ) (f : FineShift kind modulus flag shift) where
@@ -108,10 +103,6 @@ passes s prev w e to h k n ea eb ec ed ef eg l r = record {
 pub stops : (s : Source) (prev : Ends) (w : Words) (e : Stamps) {to : Ends} → to ≡ start
     → (ltb 1 w.flag ≡ false → Tested s prev w (stamp_times e) → ⊥) → Passing s prev w e to
 stops s prev w e n h = (not-passed n, λ _. record { refused = λ f z. h f (judged-tested s prev w (stamp_times e) z); end = n })
-
--- what is equal passes alike
-pub passing-as : {s s' : Source} {prev : Ends} {w w' : Words} {e e' : Stamps} {to : Ends} → s ≡ s' → w ≡ w' → e ≡ e' → Passing s prev w e to → Passing s' prev w' e' to
-passing-as a b c p = rw (a, b, c) at p
 
 -- a source without creation time and clock
 pub plain-source : (log : Bool) (text : List ℕ) (s : Source) → not (eqb s.dated 0) || not (eqb s.kind 0) ≡ false → log ≡ false

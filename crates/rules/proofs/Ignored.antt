@@ -13,7 +13,8 @@ use Rattle.choice.specs.Records.{any, first_refused, or_refused}
 use Rattle.choice.proofs.Tests.{decide}
 use Rattle.rules.specs.declared.Source.{Source}
 use Rattle.rules.specs.declared.Ends.{Ends}
-use Rattle.rules.specs.Records.{Segment, Table, no_source, no_segment, segment, source_of, frame_total}
+use Rattle.rules.specs.declared.Segment.{Segment}
+use Rattle.rules.specs.Records.{Table, no_source, no_segment, segment, source_of, frame_total}
 use Rattle.rules.specs.Rules.{negative, bad_words, bad_source, bad_segment, malformed, bad_date, bad_clock, bad_shift, source_refusal, stamp_times, judged, segment_refusal, start, ends_of, ends, segments_from, front_refusal, refusal, checked_of, check_of}
 use Rattle.rules.specs.Lookups.{count_such, ended, over_by, over_by_us, looked_up, segment_of_frame, segment_of_time, same_shift, segment_runs_on, continued, continues_at}
 use Rattle.rules.specs.Absent.{stripped_source, stripped_segment, stripped}

@@ -68,13 +68,6 @@ bracket-end e n v lo hi b h =
     (λ k l. rw zero-add (le-leb (e k) v (b.below k l)))
     (λ k l q. rw zero-add (lt-leb (e k) v (b.above k (omega arith) q))))
 
--- ends that are the same are ordered alike
-pub ordered_same : {e : ℕ → ℕ} (g : ℕ → ℕ) {n m : ℕ} → ((k : ℕ) → k < n → e k ≡ g k) → Ordered e n m → Ordered g n m
-ordered_same {e} g {n} {m} h o = record {
-  fits = λ k l. omega (arith, h k l, o.fits k l);
-  rising = λ i j q l. let a : i < n = omega arith in omega (arith, h i a, h j l, o.rising i j q l);
-}
-
 -- each end is at most the next
 steps : (e : ℕ → ℕ) (n : ℕ) → ((k : ℕ) → suc k < n → e k ≤ e (suc k)) → (i j : ℕ) → i ≤ j → j < n → e i ≤ e j
 steps e n h i j q l = subst (λ (x : ℕ). e i ≤ e x) (omega arith) (go (j - i) (omega arith))

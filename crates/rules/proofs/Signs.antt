@@ -2,7 +2,7 @@
 use mathlib.Core.Path.{◌≡◌}
 use mathlib.Core.Bool.{false}
 use Rattle.choice.proofs.Tests.{or-false}
-use Rattle.rules.specs.Records.{Stamps}
+use Rattle.rules.specs.declared.Stamps.{Stamps}
 use Rattle.rules.specs.Rules.{negative, stamp_times}
 
 pub record Plain (e : Stamps) : Type 0 where

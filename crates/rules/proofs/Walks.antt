@@ -4,7 +4,6 @@ use native.Mathlib.Nat.{sub-zero, zero-add}
 use native.Mathlib.Numerals.{add-one}
 use native.Mathlib.Omega.{arith}
 use mathlib.Core.Path.{◌≡◌, refl, sym, ap, ◌∙◌}
-use mathlib.Core.Bool.{false}
 use mathlib.Core.List.{List}
 use lib.ListN.{length}
 use lib.Dec.{eqb}
@@ -12,16 +11,17 @@ use borrow.Author.Tests.{eq-eqb, ne_eqb, le-leb, lt-leb, leb-false}
 use Rattle.choice.specs.declared.Refusal.TheVariants.{Never, At}
 use Rattle.choice.specs.Choice.{when}
 use Rattle.choice.specs.Records.{run, or_refused}
-use Rattle.choice.proofs.Tests.{decide}
+use Rattle.choice.proofs.Tests.{tf}
 use Rattle.choice.proofs.Chains.{when-zero}
-use Rattle.choice.proofs.Runs.{run-cons, run-nil, length_run, get_d-run}
+use Rattle.choice.proofs.Runs.{run-cons, run-nil}
 use Rattle.rules.specs.declared.Source.{Source}
 use Rattle.rules.specs.declared.Ends.{Ends}
 use Rattle.rules.specs.declared.Turn.TheVariants.{Stop, Go}
 use Rattle.rules.specs.declared.Checked.TheVariants.{Frames, Refused}
-use Rattle.rules.specs.Records.{Segment, Table, no_source, source_of, frame_total}
+use Rattle.rules.specs.declared.Segment.{Segment}
+use Rattle.rules.specs.Records.{Table, source_of, frame_total}
 use Rattle.rules.specs.Rules.{bad_segment, stamp_times, judged, segment_refusal, start, ends_of, ends, segments_from, malformed, front_refusal, refusal, checked_of, check_of}
-use Rattle.rules.specs.Steps.{stop_or, turned, turn_of, walked, Passes, Passing, PassesOf, passed_of}
+use Rattle.rules.specs.Steps.{stop_or, turned, turn_of, walked, Passes, Passing, PassesOf, PassingOf, Walk, EndFits}
 use Rattle.rules.proofs.Turns.{judged-fit}
 
 -- a turn's answer says whether a refusal was found, and where the walk goes on
@@ -34,12 +34,6 @@ turn-stop : (m n : ℕ) (x : Ends) → stop_or m x ≡ Stop n → (m ≡ n) × (
 unfolding stop_or
 turn-stop zero n x e = absurd (let z : ◌≡◌ {A = ℕ} 0 1 = cc in omega arith)
 turn-stop (suc m) n x e = (cc, λ z. omega arith)
-
--- where a turn stops it has no end
-no_end : (n : ℕ) (x : Ends) → (n ≡ 0 → ⊥) → start ≡ passed_of (stop_or n x)
-unfolding passed_of stop_or
-no_end zero x h = absurd (h refl)
-no_end (suc n) x h = refl
 
 -- no refusal of 9 to 17: the source is there, and 10 to 17 don't refuse
 pub not-refused : (srcs : List Source) (prev : Ends) (e : Segment) → segment_refusal srcs prev e ≡ 0
@@ -54,16 +48,16 @@ pub turn_on : (srcs : List Source) (prev : Ends) (e : Segment) {next : Ends} →
 unfolding turn_of stop_or
 turn_on srcs prev e p = rw (p.none, p.end)
 
+-- its end fits
+pub end-fits : (srcs : List Source) (prev : Ends) (e : Segment) → segment_refusal srcs prev e ≡ 0 → EndFits e
+end-fits srcs prev e q =
+    let f = judged-fit _ _ _ _ (not-refused srcs prev e q).1 in
+    record { frame = f.frame; time = omega (arith, f.time); capture = omega (arith, f.capture) }
+
 -- the segment begins where the one before ends
 next-frame : (srcs : List Source) (prev : Ends) (e : Segment) → segment_refusal srcs prev e ≡ 0 → (ends e).frame ≡ prev.frame + e.words.count
 unfolding ends ends_of
 next-frame srcs prev e q = ap (λ (n : ℕ). n + e.words.count) (judged-fit _ _ _ _ (not-refused srcs prev e q).1).chained
-
--- after k of m segments: what is left to walk gives the whole answer, and has the frames that are missing
-pub record Walk (srcs : List Source) (f : ℕ → Segment) (m k : ℕ) (prev : Ends) : Type 0 where
-  pub inside : k ≤ m
-  pub same : segments_from srcs k prev (run f k (m - k)) ≡ segments_from srcs 0 start (run f 0 m)
-  pub frames : prev.frame + frame_total (run f k (m - k)) ≡ frame_total (run f 0 m)
 
 module _ (srcs : List Source) (f : ℕ → Segment) (m : ℕ) where
   pub walk_start : Walk srcs f m 0 start
@@ -107,32 +101,30 @@ module _ (srcs : List Source) (f : ℕ → Segment) (m : ℕ) where
         let c : frame_total (run f k (m - k)) ≡ 0 = ap frame_total (run-nil f k m h) in
         rw q (ap Frames (omega (arith, w.frames)))
 
--- the source that a segment names, of n sources g 0, g 1, ..
-module _ (g : ℕ → Source) (n : ℕ) (prev : Ends) (e : Segment) where
+-- the source that a segment names
+module _ (srcs : List Source) (prev : Ends) (e : Segment) where
   -- what nothing refuses of a source that is there, nothing refuses
-  pub passes_of : {to : Ends} → e.words.source < n → Passes (g e.words.source) prev e.words e.stamps to → PassesOf (run g 0 n) prev e to
+  pub passes_of : {to : Ends} → e.words.source < length srcs → Passes (source_of srcs e) prev e.words e.stamps to → PassesOf srcs prev e to
   unfolding bad_segment segment_refusal ends when
-  passes_of h p = record {
-    flagged = p.flagged;
-    none = rw (length_run g 0 n, lt-leb n e.words.source h, get_d-run g 0 n e.words.source no_source h, zero-add) p.none;
-    end = p.end;
-  }
+  passes_of h p = record { flagged = p.flagged; none = rw (lt-leb (length srcs) e.words.source h) p.none; end = p.end }
 
-  pub turn-none : n ≤ e.words.source → Stop 9 ≡ turn_of (run g 0 n) prev e
+  pub turn-none : length srcs ≤ e.words.source → Stop 9 ≡ turn_of srcs prev e
   unfolding turn_of stop_or segment_refusal when
-  turn-none h = rw (length_run g 0 n, le-leb n e.words.source h)
+  turn-none h = rw (le-leb (length srcs) e.words.source h)
 
-  pub turn-some : e.words.source < n → turned (g e.words.source) prev e.words (stamp_times e.stamps) ≡ turn_of (run g 0 n) prev e
+  pub turn-some : e.words.source < length srcs → turned (source_of srcs e) prev e.words (stamp_times e.stamps) ≡ turn_of srcs prev e
   unfolding turn_of turned segment_refusal ends when
-  turn-some h = rw (length_run g 0 n, lt-leb n e.words.source h, get_d-run g 0 n e.words.source no_source h, zero-add)
+  turn-some h = rw (lt-leb (length srcs) e.words.source h)
 
-  -- what the walk that only asks whether nothing refuses finds of a segment whose flag 1 doesn't refuse
-  pub passed : {to : Ends} → e.words.source < n → bad_segment e ≡ false → Passing (g e.words.source) prev e.words e.stamps to → to ≡ passed_of (turn_of (run g 0 n) prev e)
-  unfolding passed_of bad_segment turned
-  passed {to} h f p =
-      decide to.some
-      (λ z. sym (ap passed_of (turn_on (run g 0 n) prev e (passes_of h (p.0 z)))))
-      (λ z. let q = p.1 z in q.end ∙ no_end (judged (g e.words.source) prev e.words (stamp_times e.stamps)) _ (q.refused f) ∙ ap passed_of (turn-some h))
+  -- what the walk that only asks whether nothing refuses finds of a segment
+  pub passing_of : {to : Ends} → e.words.source < length srcs → Passing (source_of srcs e) prev e.words e.stamps to → PassingOf srcs prev e to
+  unfolding bad_segment
+  passing_of h p = (λ z. passes_of h (p.0 z), λ z f q. (p.1 z).refused f (not-refused srcs prev e q).1)
+
+  pub passing-none : {to : Ends} → length srcs ≤ e.words.source → to ≡ start → PassingOf srcs prev e to
+  unfolding segment_refusal when start
+  passing-none h s =
+      (λ z. tf (sym z ∙ ap (λ (x : Ends). x.some) s), λ z f q. let y : ◌≡◌ {A = ℕ} 9 0 = rw (le-leb (length srcs) e.words.source h) at q in absurd (omega arith))
 
 -- 1 to 8 decide whether the segments are walked
 module _ (t : Table) where

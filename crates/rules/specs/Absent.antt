@@ -2,7 +2,8 @@
 use Rattle.std.specs.Prelude.{◌||◌, map, eqb, pos}
 use Rattle.choice.specs.Choice.{when}
 use Rattle.rules.specs.declared.Source.{Source}
-use Rattle.rules.specs.Records.{Segment, Table}
+use Rattle.rules.specs.declared.Segment.{Segment}
+use Rattle.rules.specs.Records.{Table}
 
 -- offset and length of an absent creation time; clock numbers of kind 0; modulus of kinds 0 and 1
 unfoldable pub stripped_source : Source → Source

@@ -9,7 +9,8 @@ use Rattle.rules.specs.declared.Lookup.{Lookup}
 use Rattle.rules.specs.declared.Lookup.TheVariants.{Index, NoIndex}
 use Rattle.rules.specs.declared.Continued.{Continued}
 use Rattle.rules.specs.declared.Continued.TheVariants.{Answer, NoAnswer}
-use Rattle.rules.specs.Records.{Segment, Table, segment, out_end, out_end_us}
+use Rattle.rules.specs.declared.Segment.{Segment}
+use Rattle.rules.specs.Records.{Table, segment, out_end, out_end_us}
 use Rattle.rules.specs.Rules.{check_of}
 
 -- how many records pass

@@ -7,7 +7,8 @@ use Rattle.rules.specs.declared.Source.{Source}
 use Rattle.rules.specs.declared.Checked.{Checked}
 use Rattle.rules.specs.declared.Checked.TheVariants.{Frames, Refused}
 use Rattle.rules.specs.Limits.{max_sources, max_segments, max_i64}
-use Rattle.rules.specs.Records.{Segment, Table, no_source, no_segment, source, segment, source_of, out_end, out_end_us, capture_end_us}
+use Rattle.rules.specs.declared.Segment.{Segment}
+use Rattle.rules.specs.Records.{Table, no_source, no_segment, source, segment, source_of, out_end, out_end_us, capture_end_us}
 
 -- some record of a list has it
 abbrev pub Some : {A : Type 0} → A → (A → Type 0) → List A → Type 0

@@ -1,27 +1,11 @@
--- A table as records, whatever the layout in which it is lent. Source and Words are the structs of src/lib.rt, with a comment a field there.
+-- A table as records, whatever the layout in which it is lent. Source, Words, Stamps and Segment are the structs of src/lib.rt, with a comment a field there.
 use Rattle.std.specs.Prelude.{ℕ, ◌+◌, Bool, List, [], ◌∷◌, get_or, ℤ, pos, ◌+ℤ◌}
 use Rattle.rules.specs.declared.Source.{Source}
-use Rattle.rules.specs.declared.Words.{Words}
-
--- a segment's signed words: six times in µs, and the shift. In the Rust they are src_start_us, out_start_us, duration_us,
--- src_capture_start_us, out_capture_start_us, capture_duration_us and clock_shift
-pub record Stamps : Type 0 where
-  pub srcstart : ℤ
-  pub outstart : ℤ
-  pub duration : ℤ
-  pub srccap : ℤ
-  pub outcap : ℤ
-  pub capdur : ℤ
-  pub shift : ℤ
-
--- a segment; the Rust's TrimSegment
-pub record Segment : Type 0 where
-  pub words : Words
-  pub stamps : Stamps
+use Rattle.rules.specs.declared.Segment.{Segment}
 
 -- a table; the Rust's SegmentTable
 pub record Table : Type 0 where
-  -- the slices' lengths are no whole number of records, or disagree: when that is, the layout says
+  -- the slices' lengths are no whole number of records, or disagree; table/specs/Layout.antt and each layout say when
   pub uneven : Bool
   -- the table names a telemetry log
   pub log : Bool
@@ -39,6 +23,10 @@ no_segment = record {
   words = record { source = 0; first = 0; count = 0; out = 0; flag = 0 };
   stamps = record { srcstart = pos 0; outstart = pos 0; duration = pos 0; srccap = pos 0; outcap = pos 0; capdur = pos 0; shift = pos 0 };
 }
+
+-- element k of a list of segments
+abbrev pub nth : List Segment → ℕ → Segment
+nth l k = get_or l k no_segment
 
 -- source number k, and segment number k
 abbrev pub source : Table → ℕ → Source

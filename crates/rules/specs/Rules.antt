@@ -14,7 +14,9 @@ use Rattle.rules.specs.declared.Ends.{Ends}
 use Rattle.rules.specs.declared.Checked.{Checked}
 use Rattle.rules.specs.declared.Checked.TheVariants.{Frames, Refused}
 use Rattle.rules.specs.Limits.{max_sources, max_segments, max_i64}
-use Rattle.rules.specs.Records.{Stamps, Segment, Table, source_of, frame_total}
+use Rattle.rules.specs.declared.Stamps.{Stamps}
+use Rattle.rules.specs.declared.Segment.{Segment}
+use Rattle.rules.specs.Records.{Table, source_of, frame_total}
 
 -- 1: a flag or kind outside its set, or a present creation time whose range leaves the text of n bytes
 abbrev pub bad_words : ℕ → ℕ → ℕ → ℕ → ℕ → Bool

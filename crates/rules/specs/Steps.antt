@@ -1,5 +1,5 @@
--- Words of the contracts inside this crate and of a layout's loop: parts of the chain of Rules, and a segment's turn.
-use Rattle.std.specs.Prelude.{ℕ, zero, suc, ◌≤◌, ◌<◌, ◌≡◌, Bool, true, false, not, ◌||◌, List, ltb, leb, eqb, ℤ, nat_abs, length}
+-- Words of inner contracts, here and of the crates above: parts of the chain of Rules, and a segment's turn.
+use Rattle.std.specs.Prelude.{ℕ, zero, suc, ◌+◌, ◌-◌, ◌≤◌, ◌<◌, ◌≡◌, Bool, true, false, not, ◌||◌, List, ltb, leb, eqb, ℤ, nat_abs, length}
 use Rattle.choice.specs.Choice.{when, past, max_u64}
 use Rattle.choice.specs.Records.{run}
 use Rattle.rules.specs.declared.Source.{Source}
@@ -9,7 +9,9 @@ use Rattle.rules.specs.declared.Ends.{Ends}
 use Rattle.rules.specs.declared.Turn.{Turn}
 use Rattle.rules.specs.declared.Checked.{Checked}
 use Rattle.rules.specs.declared.Turn.TheVariants.{Stop, Go}
-use Rattle.rules.specs.Records.{Stamps, Segment, frame_total}
+use Rattle.rules.specs.declared.Stamps.{Stamps}
+use Rattle.rules.specs.declared.Segment.{Segment}
+use Rattle.rules.specs.Records.{nth, frame_total}
 use Rattle.rules.specs.Lookups.{count_such}
 use Rattle.rules.specs.Rules.{bad_source, bad_segment, source_refusal, negative, stamp_times, too_late, apart, bad_shift, judged, ends_of, segment_refusal, ends, segments_from, start, checked_of}
 
@@ -67,11 +69,6 @@ pub record FineShift (kind modulus flag : ℕ) (shift : ℤ) : Type 0 where
   pub flagged : ltb 1 flag ≡ false
   pub within : bad_shift kind modulus flag (negative shift) (nat_abs shift) ≡ false
 
--- a segment's signed words
-abbrev pub seven_stamps : ℤ → ℤ → ℤ → ℤ → ℤ → ℤ → ℤ → Stamps
-seven_stamps srcstart outstart duration srccap outcap capdur shift =
-    record { srcstart = srcstart; outstart = outstart; duration = duration; srccap = srccap; outcap = outcap; capdur = capdur; shift = shift }
-
 -- a segment of the source s, after one that ends at prev: neither 1 nor any of 10 to 17 holds, and it ends at `to`
 pub record Passes (s : Source) (prev : Ends) (w : Words) (e : Stamps) (to : Ends) : Type 0 where
   pub flagged : ltb 1 w.flag ≡ false
@@ -87,16 +84,32 @@ pub record Stops (s : Source) (prev : Ends) (w : Words) (e : Stamps) (to : Ends)
 abbrev pub Passing : Source → Ends → Words → Stamps → Ends → Type 0
 Passing s prev w e to = (to.some ≡ true → Passes s prev w e to) × (to.some ≡ false → Stops s prev w e to)
 
--- where a segment ends that isn't refused, or no end
-unfoldable pub passed_of : Turn → Ends
-passed_of (Stop n) = start
-passed_of (Go to) = to
-
 -- neither 1 nor any of 9 to 17 holds of a segment of one of the sources
 pub record PassesOf (srcs : List Source) (prev : Ends) (e : Segment) (to : Ends) : Type 0 where
   pub flagged : bad_segment e ≡ false
   pub none : segment_refusal srcs prev e ≡ 0
   pub end : to ≡ ends e
+
+-- where it has an end; where it has none, 1 or one of 9 to 17 holds
+abbrev pub PassingOf : List Source → Ends → Segment → Ends → Type 0
+PassingOf srcs prev e to = (to.some ≡ true → PassesOf srcs prev e to) × (to.some ≡ false → bad_segment e ≡ false → segment_refusal srcs prev e ≡ 0 → ⊥)
+
+-- after k of m segments: what is left to walk gives the whole answer, and has the frames that are missing
+pub record Walk (srcs : List Source) (f : ℕ → Segment) (m k : ℕ) (prev : Ends) : Type 0 where
+  pub inside : k ≤ m
+  pub same : segments_from srcs k prev (run f k (m - k)) ≡ segments_from srcs 0 start (run f 0 m)
+  pub frames : prev.frame + frame_total (run f k (m - k)) ≡ frame_total (run f 0 m)
+
+-- where a segment ends, an u64 holds
+pub record EndFits (e : Segment) : Type 0 where
+  pub frame : e.words.out + e.words.count ≤ max_u64
+  pub time : (stamp_times e.stamps).outstart + (stamp_times e.stamps).duration ≤ max_u64
+  pub capture : (stamp_times e.stamps).outcap + (stamp_times e.stamps).capdur ≤ max_u64
+
+-- where the segment before number k ends
+unfoldable pub end_before : List Segment → ℕ → Ends
+end_before l zero = start
+end_before l (suc k) = ends (nth l k)
 
 -- neither 1 nor any of 4 to 7 holds of a source
 pub record FineSource (log : Bool) (text : List ℕ) (s : Source) : Type 0 where

@@ -4,9 +4,9 @@
 ghost use Rattle.std.specs.Prelude.{◌≡◌, true, false, not, ◌||◌, ◌↔◌, ◌≤◌, nat_abs};
 ghost use Rattle.rules.specs.Limits.{max_i64};
 ghost use Rattle.rules.specs.Records.{Table, frame_total};
-ghost use Rattle.rules.specs.Rules.{bad_words, no_rate, bad_date, bad_clock, source_refusal, negative, too_late, apart, bad_shift, over_limit, judged, start, check_of};
+ghost use Rattle.rules.specs.Rules.{bad_words, no_rate, bad_date, bad_clock, source_refusal, negative, stamp_times, too_late, apart, bad_shift, over_limit, judged, start, ends, check_of};
 ghost use Rattle.rules.specs.Paper.{tests, Rightly};
-ghost use Rattle.rules.specs.Steps.{frames_or, times_or, turned, FineFrames, FineShift, out_of_time, seven_stamps, Passing};
+ghost use Rattle.rules.specs.Steps.{frames_or, times_or, turned, FineFrames, FineShift, out_of_time, Passing, EndFits};
 
 use choice::MAX_U64;
 
@@ -51,6 +51,32 @@ pub struct Words {
     pub out: u64,
     // Whether it has a shift (0, 1): clock_shift.
     pub flag: u64,
+}
+
+// A segment's signed words: six times in microseconds, and the shift.
+#[derive(Clone, Copy)]
+pub struct Stamps {
+    // src_start_us.
+    pub srcstart: i64,
+    // out_start_us.
+    pub outstart: i64,
+    // duration_us.
+    pub duration: i64,
+    // src_capture_start_us.
+    pub srccap: i64,
+    // out_capture_start_us.
+    pub outcap: i64,
+    // capture_duration_us.
+    pub capdur: i64,
+    // clock_shift.
+    pub shift: i64,
+}
+
+// A segment; the Rust's TrimSegment.
+#[derive(Clone, Copy)]
+pub struct Segment {
+    pub words: Words,
+    pub stamps: Stamps,
 }
 
 // What a segment's signed words say: whether one of the six times is negative, and each one's magnitude.
@@ -296,7 +322,7 @@ pub fn no_end() -> Ends
 }
 
 // A number that isn't negative.
-pub fn plain(x: i64) -> u64
+fn plain(x: i64) -> u64
     requires { negative x ≡ false }
     ensures { (result ≡ nat_abs x) × (result ≤ max_i64) }
 {
@@ -379,43 +405,80 @@ fn fine_times(
     !(gap | (a | b))
 }
 
+// What a segment's signed words say.
+#[tactic(auto, unfolding(crate::specs::Rules::stamp_times))]
+pub fn times_of(t: Stamps) -> SixTimes
+    ensures { result ≡ stamp_times t }
+{
+    SixTimes {
+        negative: any_negative(
+            t.srcstart, t.outstart, t.duration, t.srccap, t.outcap, t.capdur,
+        ),
+        srcstart: signed::magnitude(t.srcstart),
+        outstart: signed::magnitude(t.outstart),
+        duration: signed::magnitude(t.duration),
+        srccap: signed::magnitude(t.srccap),
+        outcap: signed::magnitude(t.outcap),
+        capdur: signed::magnitude(t.capdur),
+        back: signed::negative(t.shift),
+        shift: signed::magnitude(t.shift),
+    }
+}
+
+// Where a segment ends that was passed.
+#[tactic(auto, unfolding(crate::specs::Rules::ends, crate::specs::Rules::ends_of, crate::specs::Rules::stamp_times))]
+pub fn end_of(e: Segment) -> Ends
+    requires { EndFits e }
+    ensures { result ≡ ends e }
+{
+    let w = e.words;
+    let m = times_of(e.stamps);
+    Ends {
+        some: true,
+        frame: w.out + w.count,
+        time: m.outstart + m.duration,
+        capture: m.outcap + m.capdur,
+    }
+}
+
 // Passes a segment of the source s, after one that ends at prev: where it ends, or no end where 1 or one of 10 to 17 refuses it. Which one does isn't asked,
 // so that few tests are needed: most segments pass.
-pub fn pass(
-    s: Source,
-    prev: Ends,
-    w: Words,
-    srcstart: i64,
-    outstart: i64,
-    duration: i64,
-    srccap: i64,
-    outcap: i64,
-    capdur: i64,
-    shift: i64,
-) -> Ends
-    ensures { Passing s prev w (seven_stamps srcstart outstart duration srccap outcap capdur shift) result }
+pub fn pass(s: Source, prev: Ends, e: Segment) -> Ends
+    ensures { Passing s prev e.words e.stamps result }
 {
+    let w = e.words;
+    let t = e.stamps;
     if !fine_frames(s.frames, w.first, w.count, w.out, prev.frame) {
         return no_end();
     }
-    if !fine_shift(s.kind, s.modulus, w.flag, shift) {
+    if any_negative(
+        t.srcstart, t.outstart, t.duration, t.srccap, t.outcap, t.capdur,
+    ) {
         return no_end();
     }
-    if any_negative(srcstart, outstart, duration, srccap, outcap, capdur) {
+    let from = plain(t.outstart);
+    let lasts = plain(t.duration);
+    let cap = plain(t.outcap);
+    let capdur = plain(t.capdur);
+    if !fine_times(
+        prev,
+        plain(t.srcstart),
+        from,
+        lasts,
+        plain(t.srccap),
+        cap,
+        capdur,
+    ) {
         return no_end();
     }
-    let b = plain(outstart);
-    let c = plain(duration);
-    let e = plain(outcap);
-    let f = plain(capdur);
-    if !fine_times(prev, plain(srcstart), b, c, plain(srccap), e, f) {
+    if !fine_shift(s.kind, s.modulus, w.flag, t.shift) {
         return no_end();
     }
     Ends {
         some: true,
         frame: w.out + w.count,
-        time: b + c,
-        capture: e + f,
+        time: from + lasts,
+        capture: cap + capdur,
     }
 }
 

@@ -1,31 +1,24 @@
 -- Lengths of lent words that condition 1 refuses, in the paper's words. Assumes nothing.
 use Prim.Native.Nat.{ℕ, ◌/◌, ◌%◌}
 use mathlib.Core.Path.{◌≡◌}
-use mathlib.Core.Bool.{Bool, true}
+use mathlib.Core.Bool.{Bool, true, ◌||◌}
 use mathlib.Core.List.{List}
-use mathlib.Core.Logic.{◌⊎◌, ◌↔◌, inl, inr, ⊎_elim}
+use mathlib.Core.Logic.{◌↔◌}
 use lib.ListN.{length}
 use lib.IntN.{ℤ}
 use Rattle.choice.proofs.Tests.{decide}
 use Rattle.rules.proofs.Says.{Says, equal, either, unless}
-use Rattle.table.specs.Layout.{source_words, segment_words, segment_stamps, bad_lengths, Uneven, table_of}
+use Rattle.table.specs.Layout.{source_words, segment_words, segment_stamps, uneven_sources, uneven_rows, Uneven, table_of}
 
 -- a test that says the same as a condition holds exactly when it does
 exactly : {b : Bool} {C : Type 0} → Says b C → (b ≡ true) ↔ C
 exactly {b} s = (s.holds, λ x. decide b (λ e. e) (λ e. absurd (s.fails e x)))
 
-four : {A B C D : Type 0} → ((A ⊎ B) ⊎ (C ⊎ D)) ↔ (A ⊎ B ⊎ C ⊎ D)
-four = (
-  ⊎_elim (⊎_elim inl (λ b. inr (inl b))) (λ x. inr (inr x)),
-  ⊎_elim (λ a. inl (inl a)) (⊎_elim (λ b. inl (inr b)) inr),
-)
-
-lengths : (s u t : ℕ) → (bad_lengths s u t ≡ true) ↔ Uneven s u t
+lengths : (s u t : ℕ) → ((uneven_sources s || uneven_rows u t) ≡ true) ↔ Uneven s u t
 lengths s u t =
-    let e = exactly (either
-    (either (unless (equal (s % source_words) 0)) (unless (equal (u % segment_words) 0)))
-    (either (unless (equal (t % segment_stamps) 0)) (unless (equal (u / segment_words) (t / segment_stamps))))) in
-    (λ h. four.0 (e.0 h), λ x. e.1 (four.1 x))
+    exactly (either (unless (equal (s % source_words) 0))
+    (either (unless (equal (u % segment_words) 0))
+    (either (unless (equal (t % segment_stamps) 0)) (unless (equal (u / segment_words) (t / segment_stamps))))))
 
 -- of every table that is lent
 pub uneven : (s u : List ℕ) (t : List ℤ) (log : Bool) (text : List ℕ) → ((table_of s u t log text).uneven ≡ true) ↔ Uneven (length s) (length u) (length t)

@@ -1,3 +1,3 @@
 pub mod Lent
-pub mod Asked
+pub mod Checks
 pub mod Lengths

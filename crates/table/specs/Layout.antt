@@ -3,7 +3,9 @@ use Rattle.std.specs.Prelude.{ℕ, ◌+◌, ◌*◌, ◌/◌, ◌%◌, Bool, not
 use Rattle.choice.specs.Records.{run}
 use Rattle.rules.specs.declared.Source.{Source}
 use Rattle.rules.specs.declared.Words.{Words}
-use Rattle.rules.specs.Records.{Stamps, Segment, Table}
+use Rattle.rules.specs.declared.Stamps.{Stamps}
+use Rattle.rules.specs.declared.Segment.{Segment}
+use Rattle.rules.specs.Records.{Table}
 
 -- words of a source, unsigned words of a segment, signed words of a segment
 abbrev pub source_words : ℕ
@@ -61,23 +63,29 @@ sources_of s = run (source_at s) 0 (length s / source_words)
 unfoldable pub segments_of : List ℕ → List ℤ → List Segment
 segments_of u t = run (segment_at u t) 0 (length u / segment_words)
 
--- a slice length isn't a multiple of its record, or the two segment slices disagree
-abbrev pub bad_lengths : ℕ → ℕ → ℕ → Bool
-bad_lengths s u t =
-    (not (eqb (s % source_words) 0) || not (eqb (u % segment_words) 0))
-    || (not (eqb (t % segment_stamps) 0) || not (eqb (u / segment_words) (t / segment_stamps)))
+-- the sources' words are no whole number of sources
+abbrev pub uneven_sources : ℕ → Bool
+uneven_sources s = not (eqb (s % source_words) 0)
 
--- the same as a condition, in the paper's words; the audit claims that it is
+-- the lengths of the segments' two slices aren't multiples of their records, or disagree
+abbrev pub uneven_rows : ℕ → ℕ → Bool
+uneven_rows u t = not (eqb (u % segment_words) 0) || (not (eqb (t % segment_stamps) 0) || not (eqb (u / segment_words) (t / segment_stamps)))
+
+-- `uneven_sources` or `uneven_rows`, as one condition in the paper's words; the audit claims that a table of words is uneven exactly then
 abbrev pub Uneven : ℕ → ℕ → ℕ → Type 0
 Uneven s u t =
     (s % source_words ≡ 0 → ⊥) ⊎ (u % segment_words ≡ 0 → ⊥) ⊎ (t % segment_stamps ≡ 0 → ⊥) ⊎ (u / segment_words ≡ t / segment_stamps → ⊥)
 
--- the table that is lent
-unfoldable pub table_of : List ℕ → List ℕ → List ℤ → Bool → List ℕ → Table
-table_of s u t log text = record {
-  uneven = bad_lengths (length s) (length u) (length t);
+-- the table that is lent with these segments, whose layout says whether it is uneven
+abbrev pub table_with : List ℕ → Bool → List Segment → Bool → List ℕ → Table
+table_with s uneven segs log text = record {
+  uneven = uneven_sources (length s) || uneven;
   log = log;
   text = text;
   sources = sources_of s;
-  segments = segments_of u t;
+  segments = segs;
 }
+
+-- and with them as rows of words
+unfoldable pub table_of : List ℕ → List ℕ → List ℤ → Bool → List ℕ → Table
+table_of s u t log text = table_with s (uneven_rows (length u) (length t)) (segments_of u t) log text

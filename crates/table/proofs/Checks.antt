@@ -1,0 +1,123 @@
+-- How a check is put together: what the steps of front.rt and walk.rt find, and what refuses or accepts the table. Assumes nothing.
+use Prim.Native.Nat.{ℕ, zero, suc, ◌+◌, ◌-◌, ◌≤◌, ◌<◌, zero-le, suc-le-suc}
+use native.Mathlib.Numerals.{add-one}
+use native.Mathlib.Nat.{sub-zero, le_of_suc-le-suc}
+use native.Mathlib.Omega.{arith}
+use mathlib.Core.Path.{◌≡◌, refl, sym, ap, ◌∙◌}
+use mathlib.Core.Bool.{Bool, true, false, ◌||◌}
+use mathlib.Core.List.{List, [], ◌∷◌}
+use lib.ListN.{length, get_or}
+use lib.Dec.{eqb}
+use borrow.Author.Tests.{eqb-true, eqb-false}
+use Rattle.choice.specs.declared.Refusal.TheVariants.{Never, At}
+use Rattle.choice.specs.Choice.{when}
+use Rattle.choice.specs.Records.{run, any}
+use Rattle.choice.proofs.Tests.{or-false, decide}
+use Rattle.rules.specs.declared.Source.{Source}
+use Rattle.rules.specs.declared.Checked.{Checked}
+use Rattle.rules.specs.declared.Checked.TheVariants.{Frames, Refused}
+use Rattle.rules.specs.declared.Segment.{Segment}
+use Rattle.rules.specs.Records.{Table, no_source, no_segment, nth}
+use Rattle.rules.specs.Rules.{bad_source, bad_segment, segment_refusal, start, ends, malformed, front_refusal, check_of}
+use Rattle.rules.specs.declared.Ends.{Ends}
+use Rattle.rules.specs.declared.Turn.TheVariants.{Go}
+use Rattle.rules.specs.Steps.{turn_of, Walk, end_before}
+use Rattle.rules.proofs.Exact.{as-run}
+use Rattle.rules.proofs.Walks.{turn-go, turn_on, walk_start, walk-go, check-stops, check-goes}
+use Rattle.table.specs.Steps.{FineAt, FineFront, FineSegments, front_of, segments_of_check}
+
+-- source k of a list, as `nth` has a segment
+abbrev pub nth_source : List Source → ℕ → Source
+nth_source l k = get_or l k no_source
+
+-- where a walk over all of them begins
+pub sources-whole : (l : List Source) {m : ℕ} → m ≡ length l → run (nth_source l) 0 (m - 0) ≡ l
+sources-whole l e = rw (sub-zero, e) (as-run no_source l)
+
+pub segments-whole : (l : List Segment) {m : ℕ} → m ≡ length l → run (nth l) 0 (m - 0) ≡ l
+segments-whole l e = rw (sub-zero, e) (as-run no_segment l)
+
+pub segments-run : (l : List Segment) {m : ℕ} → m ≡ length l → run (nth l) 0 m ≡ l
+segments-run l e = rw e (as-run no_segment l)
+
+-- a walk over segments that doesn't stop at one: nothing refuses it
+pub never-goes : (srcs : List Source) (prev : Ends) (e : Segment) {next : Ends} → turn_of srcs prev e ≡ Go next → segment_refusal srcs prev e ≡ 0
+unfolding turn_of
+never-goes srcs prev e h = (turn-go _ _ _ h).0
+
+pub flag-at : (l : List Segment) (k : ℕ) → k < length l → any bad_segment l ≡ false → bad_segment (nth l k) ≡ false
+unfolding any
+flag-at [] k h e = absurd (omega arith)
+flag-at (x ∷ l) zero h e = (or-false (bad_segment x) (any bad_segment l) e).0
+flag-at (x ∷ l) (suc k) h e = flag-at l k (le_of_suc-le-suc h) (or-false (bad_segment x) (any bad_segment l) e).1
+
+-- one more of which neither holds
+pub fine-more : (srcs : List Source) (l : List Segment) (k : ℕ) → ((j : ℕ) → j < k → FineAt srcs l j) → FineAt srcs l k → (j : ℕ) → j < k + 1 → FineAt srcs l j
+fine-more srcs l k h f j b = decide (eqb j k) (λ e. rw (eqb-true j k e) f) (λ e. h j (let n = eqb-false j k e in omega arith))
+
+-- 1 holds of none
+pub flags-fine : (l : List Segment) → ((k : ℕ) → k < length l → bad_segment (nth l k) ≡ false) → any bad_segment l ≡ false
+unfolding any
+flags-fine [] h = refl
+flags-fine (x ∷ l) h = rw (h 0 (suc-le-suc zero-le)) (flags-fine l (λ k b. h (suc k) (suc-le-suc b)))
+
+-- the walk comes to a segment before which none is refused
+module _ (srcs : List Source) (l : List Segment) where
+  pub walk-to : (k : ℕ) → k ≤ length l → ((j : ℕ) → j < k → FineAt srcs l j) → Walk srcs (nth l) (length l) k (end_before l k)
+  unfolding end_before
+  walk-to zero b h = walk_start srcs (nth l) (length l)
+  walk-to (suc k) b h =
+      let f = h k (omega arith) in
+      rw add-one at (walk-go srcs (nth l) (length l) (walk-to k (omega arith) (λ j c. h j (omega arith))) (omega arith)
+      (turn_on srcs (end_before l k) (nth l k) (record { flagged = f.0; none = f.1; end = refl })))
+
+pub before-zero : (l : List Segment) (k : ℕ) → k ≡ 0 → start ≡ end_before l k
+unfolding end_before
+before-zero l k e = rw e
+
+pub before-more : (l : List Segment) (k : ℕ) → (k ≡ 0 → ⊥) → ends (nth l (k - 1)) ≡ end_before l k
+unfolding end_before
+before-more l k h = let e : suc (k - 1) ≡ k = omega arith in ap (end_before l) e
+
+-- 1 to 8 refused nothing: 1 doesn't hold
+front-free : (log : Bool) (text : List ℕ) (srcs : List Source) (bad : Bool) (n : ℕ) → front_refusal log text srcs bad n ≡ Never → bad ≡ false
+unfolding front_refusal when
+front-free log text srcs true n e = absurd (let z : ◌≡◌ {A = ℕ} 0 1 = cc in omega arith)
+front-free log text srcs false n e = refl
+
+module _ (t : Table) where
+  -- 1 to 8 refuse nothing
+  pub fine-front : front_of t ≡ Never → FineFront t
+  unfolding malformed
+  fine-front h =
+      let b = front-free t.log t.text t.sources (malformed t) (length t.segments) h in
+      let q = or-false (t.uneven || any (bad_source (length t.text)) t.sources) (any bad_segment t.segments) b in
+      record {
+        words = (or-false t.uneven (any (bad_source (length t.text)) t.sources) q.0).1;
+        none = sym (ap (λ (x : Bool). front_refusal t.log t.text t.sources x (length t.segments)) b) ∙ h;
+      }
+
+  -- 1 refuses lengths
+  pub check-uneven : t.uneven ≡ true → Refused 1 0 ≡ check_of t
+  unfolding malformed front_refusal when
+  check-uneven e = check-stops t (rw e)
+
+  -- 1 to 8 decide
+  pub check-refused : {n i : ℕ} → front_of t ≡ At n i → Refused n i ≡ check_of t
+  check-refused h = check-stops t h
+
+  -- they refuse nothing, but 1 of segments may
+  module _ (e : t.uneven ≡ false) (f : FineFront t) where
+    fine : front_of t ≡ front_refusal t.log t.text t.sources (any bad_segment t.segments) (length t.segments)
+    unfolding malformed
+    fine = rw (e, f.words)
+
+    pub check-accepted : {n : ℕ} → FineSegments t.sources t.segments n → Frames n ≡ check_of t
+    check-accepted g = g.frames ∙ check-goes t (fine ∙ rw g.flags f.none)
+
+    pub check-stopped : {x : Checked} → x ≡ segments_of_check t.sources t.segments → x ≡ check_of t
+    unfolding segments_of_check when front_refusal
+    check-stopped h =
+        decide (any bad_segment t.segments)
+        (λ b. h ∙ rw b (check-refused (fine ∙ rw b)))
+        (λ b. h ∙ rw b (check-goes t (fine ∙ rw b f.none)))

@@ -1,0 +1,14 @@
+use Rattle.std.proofs.Common.{◌≡◌, ◌-◌, ◌≤◌}
+use Rattle.choice.specs.Records.{run, first_refused}
+use Rattle.rules.specs.Rules.{source_refusal}
+use Rattle.table.proofs.Checks.{nth_source}
+use Rattle.table.proofs.SegmentTable.first_refused_source.Given as goal
+
+abbrev pub invariant-loop-k : goal.invariant-loop-k
+invariant-loop-k g l =
+    let t = l.self in
+    (l.k ≤ l.m)
+    × (first_refused (source_refusal t.log t.text) l.k (run (nth_source t.sources) l.k (l.m - l.k)) ≡ first_refused (source_refusal t.log t.text) 0 t.sources)
+
+abbrev pub decreases-loop-k : goal.decreases-loop-k
+decreases-loop-k g l = l.m - l.k

@@ -1,0 +1,14 @@
+use Rattle.std.proofs.Common.{sym}
+use Rattle.choice.proofs.Tests.{called}
+use Rattle.rules.proofs.Fine.{front-none}
+use Rattle.table.proofs.SegmentTable.has_fine_front.Goals as goal
+
+pub returns : goal.returns
+returns g c = λ e.
+    let f = c.has_fine_sources.ensures e in
+    record {
+      words = f.words;
+      none =
+          front-none _ _ _ _ (rw (c.source_count-m.ensures, c.segment_count-n.ensures) at (called c.over_limit.ensures c.if-over_limit.false))
+          (rw (c.source_count-m.ensures, c.segment_count-n.ensures) at c.if-m-n.false) (sym f.none);
+    }

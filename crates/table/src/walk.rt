@@ -1,0 +1,122 @@
+// 9 to 17: a table's segments, one after another.
+ghost use Rattle.std.specs.Prelude.{◌≡◌, false, ℕ, ◌<◌, length};
+ghost use Rattle.rules.specs.Records.{segment};
+ghost use Rattle.rules.specs.Steps.{turn_of, PassingOf, EndFits, end_before};
+ghost use Rattle.rules.specs.Rules.{check_of};
+ghost use Rattle.table.specs.Steps.{FineFront, Passed, StoppedAt, FirstWalk};
+
+use crate::SegmentTable;
+use crate::layout::Segments;
+use rules::{Checked, Ends, Segment, Turn};
+
+// What a walk finds that asks only whether nothing refuses: the table's frames; the first segment that is refused; or that something before the segments may be,
+// so that 1 to 8 are tested in their order.
+pub(crate) enum Walked {
+    Frames(u64),
+    Stopped(usize),
+    InOrder,
+}
+
+impl<'a, S: Segments> SegmentTable<'a, S> {
+    // 9 to 17 of a segment, after one that ends at prev.
+    fn turn_of(&self, prev: Ends, e: Segment) -> Turn
+        ensures { result ≡ turn_of self.now.sources prev e }
+    {
+        let from = e.words.source as usize;
+        if from >= self.source_count() {
+            return Turn::Stop(9);
+        }
+        rules::turn_of(self.source(from), prev, e.words, rules::times_of(e.stamps))
+    }
+
+    // Passes a segment, after one that ends at prev: where it ends, or no end where 1 or one of 9 to 17 refuses it.
+    fn pass(&self, prev: Ends, e: Segment) -> Ends
+        ensures { PassingOf self.now.sources prev e result }
+    {
+        let from = e.words.source as usize;
+        if from >= self.source_count() {
+            return rules::no_end();
+        }
+        rules::pass(self.source(from), prev, e)
+    }
+
+    // The frames of segments that all pass, or the first that 1 or one of 9 to 17 refuses. Which one does isn't asked, so that few tests are needed: most
+    // tables are accepted.
+    #[inline(always)]
+    fn walk(&self) -> Result<u64, usize>
+        requires { self.now.uneven ≡ false }
+        ensures { Passed self.now.sources self.now.segments result }
+    {
+        let m = self.segment_count();
+        let mut prev = rules::no_end();
+        let mut k = 0;
+        while k < m {
+            let next = self.pass(prev, self.segment(k));
+            if !next.some {
+                return Err(k);
+            }
+            prev = next;
+            k += 1;
+        }
+        Ok(prev.frame)
+    }
+
+    // Asks whether nothing refuses the table. A function of its own, so that the walk has the registers to itself.
+    #[inline(never)]
+    pub(crate) fn first_walk(&self) -> Walked
+        ensures { FirstWalk self.now result }
+    {
+        if self.is_uneven() {
+            return Walked::InOrder;
+        }
+        if !self.has_fine_front() {
+            return Walked::InOrder;
+        }
+        match self.walk() {
+            Ok(frames) => Walked::Frames(frames),
+            Err(k) => Walked::Stopped(k),
+        }
+    }
+
+    // Checks the segments of a table that none of 1 to 8 refuses, but for 1 of segments.
+    pub(crate) fn check_segments(&self) -> Checked
+        requires even { self.now.uneven ≡ false }
+        requires fine { FineFront self.now }
+        ensures { result ≡ check_of self.now }
+    {
+        match self.walk() {
+            Ok(frames) => Checked::Frames(frames),
+            Err(k) => self.refused_at(k),
+        }
+    }
+
+    // Where the segment before number k ends.
+    fn end_before(&self, k: usize) -> Ends
+        requires even { self.now.uneven ≡ false }
+        requires inside { k < length self.now.segments }
+        requires fits { (j : ℕ) → j < k → EndFits (segment self.now j) }
+        ensures { result ≡ end_before self.now.segments k }
+    {
+        if k == 0 {
+            return rules::no_end();
+        }
+        rules::end_of(self.segment(k - 1))
+    }
+
+    // Refuses a table whose walk stopped at segment k: by 1, of any segment, or by what refuses that one, since nothing refuses those before it.
+    #[cold]
+    #[inline(never)]
+    pub(crate) fn refused_at(&self, k: usize) -> Checked
+        requires { StoppedAt self.now k }
+        ensures { result ≡ check_of self.now }
+    {
+        if self.has_bad_flag() {
+            return Checked::Refused(1, 0);
+        }
+        match self.turn_of(self.end_before(k), self.segment(k)) {
+            Turn::Stop(n) => Checked::Refused(n, k),
+            // it doesn't: the walk stopped there
+            Turn::Go(next) => Checked::Frames(next.frame),
+        }
+    }
+}

@@ -21,7 +21,8 @@ use Rattle.signed.specs.Signed.{within, eq_z, is_outside}
 use Rattle.signed.proofs.Order.{eq_z-true, eq_z-yes}
 use Rattle.ticks.specs.Ticks.{largest_scale, micros_of, ends_near}
 use Rattle.rules.specs.Limits.{max_i64}
-use Rattle.rules.specs.Records.{Segment, Table, no_segment, segment, out_end, out_end_us, frame_total}
+use Rattle.rules.specs.declared.Segment.{Segment}
+use Rattle.rules.specs.Records.{Table, no_segment, segment, out_end, out_end_us, frame_total}
 use Rattle.rules.specs.Paper.{Test, given, each, Rightly}
 use Rattle.rules.proofs.Says.{Says, equal, less, either, unless, below, atmost}
 use Rattle.rules.proofs.Conditions.{Number, Agrees, link, front, append, first-agrees, right}

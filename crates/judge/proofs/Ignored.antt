@@ -6,7 +6,8 @@ use lib.IntN.{ℤ}
 use lib.ListN.{length, get_or, length-map}
 use Rattle.choice.specs.Records.{or_refused}
 use Rattle.rules.specs.declared.Source.{Source}
-use Rattle.rules.specs.Records.{Segment, Table, no_segment, source_of}
+use Rattle.rules.specs.declared.Segment.{Segment}
+use Rattle.rules.specs.Records.{Table, no_segment, source_of}
 use Rattle.rules.specs.Rules.{checked_of}
 use Rattle.rules.specs.Absent.{stripped_source, stripped_segment, stripped}
 use Rattle.rules.proofs.Ignored.{first-map, source-at, segment-at, total-stripped, refusal-stripped}

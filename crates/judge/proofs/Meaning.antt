@@ -136,7 +136,7 @@ module _ (t : Table) (v : Shown) (N : ℕ) where
   unfolding validate_of
   validated = (
     (λ e. let a = accepts t N (video_refusal t.segments v) e in fits-video a.0 a.1),
-    (λ h. sym (rest-accepts t (sym h.checked) refl {rest = video_refusal t.segments v} refl (video-fits h))),
+    (λ h. sym (rest-accepts t h.checked (video-fits h))),
   )
 
 -- a recording's times that leave nothing refused
@@ -175,5 +175,5 @@ module _ (t : Table) (ts : List ℤ) (a b N : ℕ) where
   unfolding check_mcraw
   recorded = (
     (λ e. let c = accepts t N (recording_refusal t.sources t.segments ts a b) e in fits-recording c.0 c.1),
-    (λ h. let c = recording-fits h in sym (rest-accepts t (sym c.0) refl {rest = recording_refusal t.sources t.segments ts a b} refl c.1)),
+    (λ h. let c = recording-fits h in sym (rest-accepts t c.0 c.1)),
   )

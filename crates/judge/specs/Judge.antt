@@ -12,7 +12,8 @@ use Rattle.slices.specs.Slices.{zeros}
 use Rattle.ticks.specs.Ticks.{scale_over, no_time, micros_of, ends_near}
 use Rattle.rules.specs.declared.Checked.{Checked}
 use Rattle.rules.specs.declared.Source.{Source}
-use Rattle.rules.specs.Records.{Segment, Table, no_segment, source_of, out_end, out_end_us, frame_total}
+use Rattle.rules.specs.declared.Segment.{Segment}
+use Rattle.rules.specs.Records.{Table, no_segment, source_of, out_end, out_end_us, frame_total}
 use Rattle.rules.specs.Rules.{refusal, checked_of}
 use Rattle.mcraw.specs.declared.RecordingTimes.{RecordingTimes}
 use Rattle.mcraw.specs.declared.RecordingTimes.TheVariants.{Timed, Refused}

@@ -1,14 +1,14 @@
-// A table against its video, and against a MotionCam recording. The Rust's validate and check_mcraw.
+// A table against its video, and against a MotionCam recording: as methods of a table in any layout, and as calls on words.
 #![tactic(auto)]
 
-ghost use Rattle.std.specs.Prelude.{◌≡◌, false, List, ◌+◌, ◌*◌, ◌/◌, ◌≤◌, ◌<◌, ◌^◌, length, get_or, ℤ, pos, ◌+ℤ◌, ◌↔◌, ℕ};
-ghost use Rattle.choice.specs.Records.{run, first_refused};
+ghost use Rattle.std.specs.Prelude.{◌≡◌, false, List, ◌*◌, ◌<◌, ◌^◌, length, get_or, ℤ, pos, ◌+ℤ◌, ◌↔◌, ℕ};
+ghost use Rattle.choice.specs.Records.{first_refused};
 ghost use Rattle.signed.specs.Steps.{I64};
 ghost use Rattle.ticks.specs.Ticks.{micros_of, ends_near};
 ghost use Rattle.rules.specs.declared.Checked.TheVariants.{Frames};
-ghost use Rattle.rules.specs.Records.{Table, frame_total};
+ghost use Rattle.rules.specs.Records.{Table, segment, frame_total};
 ghost use Rattle.rules.specs.Paper.{Rightly};
-ghost use Rattle.table.specs.Layout.{source_words, segment_words, segment_stamps, stamps_at, segment_at, sources_of, segments_of, table_of};
+ghost use Rattle.table.specs.Layout.{table_of};
 ghost use Rattle.judge.specs.declared.Video.{Video};
 ghost use Rattle.judge.specs.Video.{Shown, shown_by};
 ghost use Rattle.judge.specs.Judge.{starts_at, start_refusal, video_refusal, validate_of, single, recoded, recording_refusal, check_mcraw, Settled};
@@ -19,9 +19,10 @@ ghost use Rattle.judge.specs.Examples.{WorkedExamples};
 
 use choice::Refusal;
 use mcraw::RecordingTimes;
-use rules::Checked;
+use rules::{Checked, Stamps};
 use signed::Held;
-use table::{SOURCE, STAMPS, WORDS};
+use table::layout::Segments;
+use table::{SegmentTable, Tabled};
 use wide::Big;
 
 // The most starts.
@@ -129,6 +130,7 @@ fn start_us(starts: &[i64], k: u64, scale: u64, end: i64) -> Held
 }
 
 // The time of frame k in microseconds. The Rust's time_us.
+#[tactic(auto, using(signed::proofs::Bits::back, crate::proofs::Lent::lent), unfolding(crate::specs::Video::shown_by))]
 fn frame_us(video: Video, starts: &[i64], k: u64) -> Held
     requires { (shown_by video starts.now).over ≡ false }
     ensures { result ≡ micros_of ((shown_by video starts.now).time k) (shown_by video starts.now).scale }
@@ -149,6 +151,7 @@ fn frame_us(video: Video, starts: &[i64], k: u64) -> Held
 }
 
 // Whether a time is near the video's end. The Rust's ends_near.
+#[tactic(auto, using(signed::proofs::Bits::back, crate::proofs::Lent::lent), unfolding(crate::specs::Video::shown_by))]
 fn is_near(video: Video, starts: &[i64], us: i64) -> bool
     requires { (shown_by video starts.now).over ≡ false }
     ensures { result ≡ ends_near us (shown_by video starts.now).end (shown_by video starts.now).nominal (shown_by video starts.now).scale }
@@ -168,6 +171,7 @@ fn is_near(video: Video, starts: &[i64], us: i64) -> bool
 }
 
 // 23 and 24 of a segment that starts at out, of its first frame's time: a number, or 0.
+#[tactic(auto, using(signed::proofs::Bits::back), unfolding(crate::specs::Judge::starts_at))]
 fn starts_at(us: Held, out: i64) -> u64
     ensures { result ≡ starts_at us out }
 {
@@ -178,22 +182,32 @@ fn starts_at(us: Held, out: i64) -> u64
 }
 
 // 23 and 24 of segment k.
-fn start_refusal_at(u: &[u64], t: &[i64], k: usize, video: Video, starts: &[i64]) -> u64
-    requires { (k * segment_words + segment_words ≤ length u.now) × (k * segment_stamps + segment_stamps ≤ length t.now) × ((shown_by video starts.now).over ≡ false) }
-    ensures { result ≡ start_refusal (shown_by video starts.now) (segment_at u.now t.now k) }
+#[tactic(auto, using(signed::proofs::Bits::back), unfolding(crate::specs::Judge::start_refusal))]
+fn start_refusal_at<S: Segments>(
+    table: &SegmentTable<'_, S>,
+    k: usize,
+    video: Video,
+    starts: &[i64],
+) -> u64
+    requires even { table.now.uneven ≡ false }
+    requires inside { k < length table.now.segments }
+    requires within { (shown_by video starts.now).over ≡ false }
+    ensures { result ≡ start_refusal (shown_by video starts.now) (segment table.now k) }
 {
-    let us = frame_us(video, starts, u[k * WORDS + 3]);
-    starts_at(us, t[k * STAMPS + 1])
+    let e = table.segment(k);
+    starts_at(frame_us(video, starts, e.words.out), e.stamps.outstart)
 }
 
-// 23 and 24 of m segments, one by one.
-fn first_start(u: &[u64], t: &[i64], m: usize, video: Video, starts: &[i64]) -> Refusal
-    requires { (m * segment_words ≤ length u.now) × (m * segment_stamps ≤ length t.now) × ((shown_by video starts.now).over ≡ false) }
-    ensures { result ≡ first_refused (start_refusal (shown_by video starts.now)) 0 (run (segment_at u.now t.now) 0 m) }
+// 23 and 24, segment by segment.
+fn first_start<S: Segments>(table: &SegmentTable<'_, S>, video: Video, starts: &[i64]) -> Refusal
+    requires even { table.now.uneven ≡ false }
+    requires within { (shown_by video starts.now).over ≡ false }
+    ensures { result ≡ first_refused (start_refusal (shown_by video starts.now)) 0 table.now.segments }
 {
+    let m = table.segment_count();
     let mut k = 0;
     while k < m {
-        let n = start_refusal_at(u, t, k, video, starts);
+        let n = start_refusal_at(table, k, video, starts);
         if n != 0 {
             return Refusal::At(n, k);
         }
@@ -202,22 +216,26 @@ fn first_start(u: &[u64], t: &[i64], m: usize, video: Video, starts: &[i64]) -> 
     Refusal::Never
 }
 
-// Where segment k ends in the output.
-fn end_us_at(t: &[i64], k: usize) -> i64
-    requires { (k * segment_stamps + segment_stamps ≤ length t.now) × I64 ((stamps_at t.now k).outstart +ℤ (stamps_at t.now k).duration) }
-    ensures { result ≡ (stamps_at t.now k).outstart +ℤ (stamps_at t.now k).duration }
+// Where a segment ends in the output.
+fn end_us(stamps: Stamps) -> i64
+    requires { I64 (stamps.outstart +ℤ stamps.duration) }
+    ensures { result ≡ stamps.outstart +ℤ stamps.duration }
 {
-    let d = k * STAMPS;
-    t[d + 1] + t[d + 2]
+    stamps.outstart + stamps.duration
 }
 
 // 20 to 25 of an accepted table of n frames.
-fn video_refusal(u: &[u64], t: &[i64], n: u64, video: Video, starts: &[i64]) -> Refusal
-    requires { Ready u.now t.now n }
-    ensures { result ≡ video_refusal (segments_of u.now t.now) (shown_by video starts.now) }
+#[tactic(auto, using(choice::proofs::Tests::tests), unfolding(crate::specs::Judge::video_refusal, choice::specs::Choice::when, choice::specs::Records::or_refused))]
+fn video_refusal<S: Segments>(
+    table: &SegmentTable<'_, S>,
+    n: u64,
+    video: Video,
+    starts: &[i64],
+) -> Refusal
+    requires { Ready table.now n }
+    ensures { result ≡ video_refusal table.now.segments (shown_by video starts.now) }
 {
-    let m = u.len() / WORDS;
-    let last = m - 1;
+    let last = table.segment_count() - 1;
     if !is_given(video) {
         return Refusal::At(NO_VIDEO, 0);
     }
@@ -227,46 +245,30 @@ fn video_refusal(u: &[u64], t: &[i64], n: u64, video: Video, starts: &[i64]) -> 
     if n != frame_count(video, starts) {
         return Refusal::At(OTHER_COUNT, 0);
     }
-    if let Refusal::At(number, index) = first_start(u, t, m, video, starts) {
-        return Refusal::At(number, index);
+    match first_start(table, video, starts) {
+        Refusal::At(number, index) => return Refusal::At(number, index),
+        Refusal::Never => {}
     }
-    if !is_near(video, starts, end_us_at(t, last)) {
+    if !is_near(video, starts, end_us(table.segment(last).stamps)) {
         return Refusal::At(NOT_NEAR, 0);
     }
     Refusal::Never
 }
 
-// Judges a table by the video of its file: its frame total, or a refusal's number and index. The Rust's validate.
-pub fn validate(
-    sources: &[u64],
-    u: &[u64],
-    t: &[i64],
-    log: bool,
-    text: &[u8],
-    video: Video,
-    starts: &[i64],
-) -> Checked
-    ensures { result ≡ validate_of (table_of sources.now u.now t.now log text.now) (shown_by video starts.now) }
-{
-    match table::check(sources, u, t, log, text) {
-        Checked::Refused(number, index) => Checked::Refused(number, index),
-        Checked::Frames(n) => match video_refusal(u, t, n, video, starts) {
-            Refusal::At(number, index) => Checked::Refused(number, index),
-            Refusal::Never => Checked::Frames(n),
-        },
-    }
-}
-
 // A recording of one frame, at the rate of segment 0's source.
-fn single_frame(s: &[u64], u: &[u64]) -> Video
-    requires { (0 < length u.now / segment_words) × (get_or u.now 0 0 < length s.now / source_words) }
-    ensures { (t l : List ℤ) → shown_by result l ≡ single (sources_of s.now) (segments_of u.now t) }
+#[tactic(auto, unfolding(crate::specs::Video::shown_by, crate::specs::Judge::single))]
+fn single_frame<S: Segments>(table: &SegmentTable<'_, S>) -> Video
+    requires even { table.now.uneven ≡ false }
+    requires some { 0 < length table.now.segments }
+    requires named { (segment table.now 0).words.source < length table.now.sources }
+    ensures { (l : List ℤ) → shown_by result l ≡ single table.now.sources table.now.segments }
 {
-    let b = u[0] as usize * SOURCE;
+    let k = table.segment(0).words.source as usize;
+    let s = table.source(k);
     Video::Constant {
         frames: 1,
-        num: s[b + 1],
-        den: s[b + 2],
+        num: s.num,
+        den: s.den,
     }
 }
 
@@ -279,20 +281,19 @@ fn recode(n: u64) -> u64
 }
 
 // 20 to 35 of an accepted table of n frames and a recording; the working slices are left as they happen to be.
-fn recording_refusal(
-    s: &[u64],
-    u: &[u64],
-    t: &[i64],
+#[tactic(auto, using(choice::proofs::Tests::tests), unfolding(crate::specs::Judge::recording_refusal, crate::specs::Judge::times_refusal, choice::specs::Choice::when))]
+fn recording_refusal<S: Segments>(
+    table: &SegmentTable<'_, S>,
     n: u64,
     timestamps: &[i64],
     a: &mut [i64],
     b: &mut [i64],
 ) -> Refusal
-    requires { Ready u.now t.now n × (get_or u.now 0 0 < length s.now / source_words) }
-    ensures { result ≡ recording_refusal (sources_of s.now) (segments_of u.now t.now) timestamps.now (length a.old) (length b.old) }
+    requires { Ready table.now n }
+    ensures { result ≡ recording_refusal table.now.sources table.now.segments timestamps.now (length a.old) (length b.old) }
 {
     if timestamps.len() == 1 {
-        return video_refusal(u, t, n, single_frame(s, u), timestamps);
+        return video_refusal(table, n, single_frame(table), timestamps);
     }
     match mcraw::mcraw_times(timestamps, a, b) {
         RecordingTimes::Refused(number, index) => Refusal::At(recode(number), index),
@@ -307,35 +308,76 @@ fn recording_refusal(
                 end,
                 nominal,
             };
-            video_refusal(u, t, n, video, &a[..frames])
+            video_refusal(table, n, video, &a[..frames])
         }
     }
 }
 
 // Judges a table by a recording, and leaves the working slices as they happen to be.
-fn judge_recording(
-    sources: &[u64],
-    u: &[u64],
-    t: &[i64],
-    log: bool,
-    text: &[u8],
+#[tactic(auto, using(crate::proofs::Ready::ready, crate::proofs::Chains::judged), unfolding(crate::specs::Judge::check_mcraw))]
+fn judge_recording<S: Segments>(
+    table: &SegmentTable<'_, S>,
     timestamps: &[i64],
     a: &mut [i64],
     b: &mut [i64],
 ) -> Checked
-    ensures { result ≡ check_mcraw (table_of sources.now u.now t.now log text.now) timestamps.now (length a.old) (length b.old) }
+    ensures { result ≡ check_mcraw table.now timestamps.now (length a.old) (length b.old) }
 {
-    match table::check(sources, u, t, log, text) {
+    match table.check() {
         Checked::Refused(number, index) => Checked::Refused(number, index),
-        Checked::Frames(n) => match recording_refusal(sources, u, t, n, timestamps, a, b) {
+        Checked::Frames(n) => match recording_refusal(table, n, timestamps, a, b) {
             Refusal::At(number, index) => Checked::Refused(number, index),
             Refusal::Never => Checked::Frames(n),
         },
     }
 }
 
-// Judges a table by the timestamps of a MotionCam recording's frames, in nanoseconds. The Rust's check_mcraw. Both working
-// slices are all zero afterwards.
+// What judges a table: its frame total, or a refusal's number and index. The Rust's validate and check_mcraw.
+pub trait Judging: Tabled {
+    // By the video of its file.
+    fn validate(&self, video: Video, starts: &[i64]) -> Checked
+        ensures { result ≡ validate_of (Self.table self.now) (shown_by video starts.now) };
+
+    // By the timestamps of a MotionCam recording's frames, in nanoseconds. Both working slices are all zero afterwards.
+    fn check_mcraw(&self, timestamps: &[i64], work_a: &mut [i64], work_b: &mut [i64]) -> Checked
+        ensures { Settled (Self.table self.now) timestamps.now work_a.old work_b.old result work_a.new work_b.new };
+}
+
+#[tactic(auto, using(crate::proofs::Ready::ready, crate::proofs::Chains::judged), unfolding(crate::specs::Judge::validate_of))]
+impl<S: Segments> Judging for SegmentTable<'_, S> {
+    fn validate(&self, video: Video, starts: &[i64]) -> Checked {
+        match self.check() {
+            Checked::Refused(number, index) => Checked::Refused(number, index),
+            Checked::Frames(n) => match video_refusal(self, n, video, starts) {
+                Refusal::At(number, index) => Checked::Refused(number, index),
+                Refusal::Never => Checked::Frames(n),
+            },
+        }
+    }
+
+    fn check_mcraw(&self, timestamps: &[i64], work_a: &mut [i64], work_b: &mut [i64]) -> Checked {
+        let r = judge_recording(self, timestamps, work_a, work_b);
+        slices::clear(work_a);
+        slices::clear(work_b);
+        r
+    }
+}
+
+// The same of a table that is lent as words.
+pub fn validate(
+    sources: &[u64],
+    u: &[u64],
+    t: &[i64],
+    log: bool,
+    text: &[u8],
+    video: Video,
+    starts: &[i64],
+) -> Checked
+    ensures { result ≡ validate_of (table_of sources.now u.now t.now log text.now) (shown_by video starts.now) }
+{
+    SegmentTable::of_words(sources, u, t, log, text).validate(video, starts)
+}
+
 pub fn check_mcraw(
     sources: &[u64],
     u: &[u64],
@@ -348,10 +390,7 @@ pub fn check_mcraw(
 ) -> Checked
     ensures { Settled (table_of sources.now u.now t.now log text.now) timestamps.now work_a.old work_b.old result work_a.new work_b.new }
 {
-    let r = judge_recording(sources, u, t, log, text, timestamps, work_a, work_b);
-    slices::clear(work_a);
-    slices::clear(work_b);
-    r
+    SegmentTable::of_words(sources, u, t, log, text).check_mcraw(timestamps, work_a, work_b)
 }
 
 // A table that is judged by its video is refused with the first condition that holds, and accepted where none does.

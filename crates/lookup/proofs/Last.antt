@@ -1,65 +1,99 @@
--- Of segments each of which begins where the one before it ends, the last that begins at or before a value, or the first, is the one that is looked up: as
--- many have ended as come before it, or it is the last. So for frames and for times. Assumes nothing.
-use Prim.Native.Nat.{ℕ, suc, ◌+◌, ◌-◌, ◌*◌, ◌/◌, ◌≤◌, ◌<◌, min}
+-- Of segments each of which begins where the one before it ends, the last that has begun, or the first, is the one that is looked up: as many have ended as
+-- come before it, or it is the last. So for frames and for times. Assumes nothing.
+use Prim.Native.Nat.{ℕ, zero, suc, ◌+◌, ◌-◌, ◌≤◌, ◌<◌, zero-le, suc-le-suc}
+use native.Mathlib.Nat.{le_of_suc-le-suc, not-suc-le-zero}
 use native.Mathlib.Omega.{arith}
-use mathlib.Core.Path.{◌≡◌, ap, subst}
-use mathlib.Core.List.{List}
-use mathlib.Core.Logic.{◌⊎◌, inl, inr, ⊎_elim}
-use lib.ListN.{length, get_or}
-use Rattle.choice.proofs.Tests.{le-or-lt}
-use Rattle.rows.specs.Steps.{out_at, OutsRise, LastBegun}
-use Rattle.rules.specs.Steps.{ended_by, Ordered}
-use Rattle.rules.proofs.Search.{bracket-end}
-use Rattle.table.specs.Layout.{words_at}
-use Rattle.lookup.specs.Steps.{end_at, Searchable, index_in}
+use mathlib.Core.Path.{◌≡◌, sym, ap, ◌∙◌}
+use mathlib.Core.Bool.{Bool, true, false}
+use mathlib.Core.List.{List, [], ◌∷◌}
+use mathlib.Core.Logic.{⊎_elim}
+use lib.Dec.{leb}
+use lib.IntN.{ℤ, pos}
+use lib.ListN.{length}
+use lib.Signed.{le_z, ◌≤ℤ◌}
+use Rattle.std.proofs.lemmas.Int.{ints}
+use Rattle.choice.specs.Choice.{when}
+use Rattle.choice.proofs.Tests.{decide, tf, le-or-lt}
+use Rattle.rows.specs.Halving.{LastThat}
+use Rattle.rules.specs.declared.Segment.{Segment}
+use Rattle.rules.specs.Records.{Table, nth, segment, out_end}
+use Rattle.rules.specs.Lookups.{count_such, ended, over_by, over_by_us}
+use Rattle.rules.specs.Steps.{Ordered}
+use Rattle.lookup.specs.Steps.{Chained, Timed, start_us, end_us}
 
-lt-or-le : (i j : ℕ) → (i < j) ⊎ (j ≤ i)
-lt-or-le i j = ⊎_elim (λ (l : suc i ≤ j). inl l) (λ (l : j < suc i). inr (omega arith)) (le-or-lt (suc i) j)
+-- n pass, and then none
+count-split : (p : Segment → Bool) (l : List Segment) (n : ℕ) → n ≤ length l → ((k : ℕ) → k < n → p (nth l k) ≡ true) → ((k : ℕ) → n ≤ k → k < length l → p (nth l k) ≡ false)
+    → count_such p l ≡ n
+unfolding when count_such
+count-split p [] n h y z = omega arith
+count-split p (a ∷ l) zero h y z =
+    rw (z 0 zero-le (suc-le-suc zero-le)) (count-split p l zero zero-le (λ k b. absurd (not-suc-le-zero b)) (λ k b c. z (suc k) zero-le (suc-le-suc c)))
+count-split p (a ∷ l) (suc n) h y z =
+    rw (y 0 (suc-le-suc zero-le))
+    (ap suc (count-split p l n (le_of_suc-le-suc h) (λ k b. y (suc k) (suc-le-suc b)) (λ k b c. z (suc k) (suc-le-suc b) (suc-le-suc c))))
+
+-- which have begun, and which have ended: one that isn't the first begins as the one before it ends, and those that have ended come first
+pub record InTurn (has : ℕ → Bool) (over : Segment → Bool) (l : List Segment) : Type 0 where
+  pub next : (k : ℕ) → k + 1 < length l → has (k + 1) ≡ over (nth l k)
+  pub ended-first : (i j : ℕ) → i ≤ j → j < length l → over (nth l j) ≡ true → over (nth l i) ≡ true
+
+module _ {has : ℕ → Bool} {over : Segment → Bool} {l : List Segment} (o : InTurn has over l) where
+  -- those before one that has begun have ended
+  before : (r : ℕ) → r < length l → (0 < r → has r ≡ true) → (k : ℕ) → k < r → over (nth l k) ≡ true
+  before r b e k h =
+      let z : r - 1 + 1 ≡ r = omega arith in
+      o.ended-first k (r - 1) (omega arith) (omega arith) (sym (o.next (r - 1) (omega arith)) ∙ rw z (e (omega arith)))
+
+  -- those from one that has not ended on have not
+  after : (r : ℕ) → over (nth l r) ≡ false → (k : ℕ) → r ≤ k → k < length l → over (nth l k) ≡ false
+  after r e k h b = decide (over (nth l k)) (λ t. tf (sym (o.ended-first r k h b t) ∙ e)) (λ f. f)
+
+  -- the last that has begun is the one that is looked up
+  pub last-ended : {gives : ℕ → Bool → Type 0} {r : ℕ} → LastThat gives (length l) r → ((k : ℕ) (b : Bool) → k < length l → gives k b → b ≡ has k) → r ≡ ended over l
+  unfolding ended
+  last-ended {gives} {r} h says =
+      decide (over (nth l r))
+      (λ t.
+      let w : length l ≡ r + 1 =
+      ⊎_elim (λ (y : length l ≤ r + 1). omega (arith, h.within))
+      (λ (y : r + 1 < length l). tf (sym t ∙ sym (o.next r y) ∙ sym (says (r + 1) false y (h.high y))))
+      (le-or-lt (length l) (r + 1)) in
+      let c = count-split over l (length l) (omega arith) (λ k b. o.ended-first k r (omega arith) h.within t) (λ k b d. absurd (omega arith)) in
+      omega arith)
+      (λ f.
+      let c = count-split over l r (omega (arith, h.within)) (before r h.within (λ z. sym (says r true h.within (h.low z)))) (after r f) in
+      omega (arith, h.within))
+
+module _ {t : Table} where
+  pub frames-in-turn : Chained t → (frame : ℕ) → InTurn (λ k. leb (segment t k).words.out frame) (over_by frame) t.segments
+  frames-in-turn o frame = record {
+    next = λ k b. ap (λ (x : ℕ). leb x frame) (o.chained k b);
+    ended-first = λ i j h b e. let r = o.ends.rising i j h b in grind arith;
+  }
+
+  pub times-in-turn : Timed t → (time : ℤ) → InTurn (λ k. le_z (segment t k).stamps.outstart time) (over_by_us time) t.segments
+  times-in-turn o time = record {
+    next = λ k b. ap (λ (x : ℤ). le_z x time) (o.plain (k + 1) b ∙ ap pos (o.chained k b) ∙ sym (o.sum k (omega arith)));
+    ended-first = λ i j h b e. let x = o.sum i (omega arith) in let y = o.sum j b in let r = o.ends.rising i j h b in grind (arith, ints);
+  }
 
 -- b is where they begin, e where they end
-module _ (b e : ℕ → ℕ) {n top : ℕ} (o : Ordered e n top) (chained : (k : ℕ) → k + 1 < n → b (k + 1) ≡ e k) where
-  -- one that isn't the first begins where the one before it ends
-  after : (j : ℕ) → 0 < j → j < n → b j ≡ e (j - 1)
-  after j p l = let z : (j - 1) + 1 ≡ j = omega arith in subst (λ (k : ℕ). b k ≡ e (j - 1)) z (chained (j - 1) (omega arith))
+rise : (b e : ℕ → ℕ) {n top : ℕ} → Ordered e n top → ((k : ℕ) → k + 1 < n → b (k + 1) ≡ e k) → ((k : ℕ) → b k ≤ e k) → (i j : ℕ) → i ≤ j → j < n → b i ≤ b j
+rise b e o c f i j h l =
+    ⊎_elim
+    (λ (z : suc i ≤ j).
+    let y : j - 1 + 1 ≡ j = omega arith in
+    omega (arith, ap b y, c (j - 1) (omega arith), f i, o.rising i (j - 1) (omega arith) (omega arith)))
+    (λ (z : j < suc i). let y : j ≡ i = omega arith in omega (arith, ap b y))
+    (le-or-lt (suc i) j)
 
-  -- where each begins no later than it ends
-  pub begin-in-order : ((k : ℕ) → b k ≤ e k) → (i j : ℕ) → i ≤ j → j < n → b i ≤ b j
-  begin-in-order begins i j h l =
-      ⊎_elim (λ (z : i < j). omega (arith, after j (omega arith) l, begins i, o.rising i (j - 1) (omega arith) (omega arith)))
-      (λ (z : j ≤ i). let y : j ≡ i = omega arith in omega (arith, ap b y))
-      (lt-or-le i j)
+module _ (t : Table) where
+  pub outs_rise : Chained t → (i j : ℕ) → i ≤ j → j < length t.segments → (segment t i).words.out ≤ (segment t j).words.out
+  outs_rise o = rise (λ k. (segment t k).words.out) (λ k. out_end (segment t k)) o.ends o.chained (λ k. omega arith)
 
-  module _ {v r : ℕ} (within : r < n) (low : 0 < r → b r ≤ v) (high : r + 1 < n → v < b (r + 1)) where
-    -- those before it have ended
-    before : (k : ℕ) → k < r → e k ≤ v
-    before k h = omega (arith, after r (omega arith) within, low (omega arith), o.rising k (r - 1) (omega arith) (omega arith))
-
-    met : (m : ℕ) → m ≤ n → ((k : ℕ) → k < m → e k ≤ v) → ((k : ℕ) → m ≤ k → k < n → v < e k) → m ≡ ended_by e n v
-    met m l p q = bracket-end e n v m m (record { lo-le = omega arith; hi-le = l; below = p; above = q }) (omega arith)
-
-    whole : e r ≤ v → n ≡ suc r
-    whole z = ⊎_elim (λ (y : n ≤ suc r). omega arith) (λ (y : suc r < n). absurd (omega (arith, chained r (omega arith), high (omega arith)))) (le-or-lt n (suc r))
-
-    -- it has not ended, where another follows
-    pub looked-up : r ≡ min (ended_by e n v) (n - 1)
-    looked-up =
-        ⊎_elim
-        (λ (z : e r ≤ v).
-        let w : n ≡ suc r = whole z in
-        let d = met n (omega arith) (λ k h. ⊎_elim (λ (y : k < r). before k y) (λ (y : r ≤ k). let x : k ≡ r = omega arith in omega (arith, ap e x)) (lt-or-le k r)) (λ k h l. absurd (omega arith)) in
-        omega arith)
-        (λ (z : v < e r).
-        let d = met r (omega arith) before (λ k h l. omega (arith, o.rising r k h l)) in
-        omega arith)
-        (le-or-lt (e r) v)
-
-module _ {u : List ℕ} (o : Searchable u) where
-  begins : (k : ℕ) → out_at u k ≤ end_at u k
-  begins k = let e : 5 * k + 3 ≡ k * 5 + 3 = omega arith in let z : out_at u k ≡ (words_at u k).out = ap (λ (j : ℕ). get_or u j 0) e in omega arith
-
-  pub outs-rise : OutsRise u (length u / 5)
-  outs-rise = record { some = o.some; sizes = omega arith; rising = begin-in-order (out_at u) (end_at u) o.ends o.chained begins }
-
-  pub last-index : {frame r : ℕ} → LastBegun u (length u / 5) frame r → r ≡ index_in u frame
-  unfolding index_in
-  last-index b = looked-up (out_at u) (end_at u) o.ends o.chained b.within (λ z. b.low) b.high
+  pub starts_rise : Timed t → (i j : ℕ) → i ≤ j → j < length t.segments → (segment t i).stamps.outstart ≤ℤ (segment t j).stamps.outstart
+  starts_rise o i j h b =
+      let x = o.plain i (omega arith) in
+      let y = o.plain j b in
+      let z = rise (λ k. start_us (segment t k)) (λ k. end_us (segment t k)) o.ends o.chained (λ k. omega arith) i j h b in
+      omega (arith, ints)

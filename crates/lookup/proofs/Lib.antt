@@ -1,3 +1,2 @@
 pub mod Last
-pub mod Started
 pub mod Found

@@ -1,39 +1,31 @@
--- Words of inner contracts: where the k-th segment ends and when it starts, in lent words, and which segment a frame or a time lies in.
-use Rattle.std.specs.Prelude.{ℕ, ◌+◌, ◌-◌, ◌*◌, ◌/◌, ◌≤◌, ◌<◌, min, false, List, ◌≡◌, ℤ, pos, nat_abs, length, get_or}
+-- Words of inner contracts: a table in which a frame can be searched for, and one in which a time can. Both are what a check that accepts says of it.
+use Rattle.std.specs.Prelude.{ℕ, ◌+◌, ◌<◌, ◌≡◌, false, pos, nat_abs, length}
 use Rattle.choice.specs.Choice.{max_u64}
-use Rattle.rows.specs.Steps.{out_at}
-use Rattle.rules.specs.Rules.{negative}
-use Rattle.rules.specs.Steps.{ended_by, Ordered}
-use Rattle.table.specs.Layout.{segment_words, segment_stamps, words_at}
+use Rattle.rules.specs.declared.Segment.{Segment}
+use Rattle.rules.specs.Limits.{max_i64}
+use Rattle.rules.specs.Records.{Table, segment, out_end, out_end_us}
+use Rattle.rules.specs.Steps.{Ordered}
 
--- the frame after its last
-abbrev pub end_at : List ℕ → ℕ → ℕ
-end_at u k = (words_at u k).out + (words_at u k).count
+-- some segments, whose ends never fall, each of which begins where the one before it ends
+pub record Chained (t : Table) : Type 0 where
+  pub even : t.uneven ≡ false
+  pub some : 0 < length t.segments
+  pub ends : Ordered (λ k. out_end (segment t k)) (length t.segments) max_u64
+  pub first : (segment t 0).words.out ≡ 0
+  pub chained : (k : ℕ) → k + 1 < length t.segments → (segment t (k + 1)).words.out ≡ out_end (segment t k)
 
--- some segments, whose ends never fall, each of which begins where the one before it ends: words in which a frame can be searched for
-pub record Searchable (u : List ℕ) : Type 0 where
-  pub some : 0 < length u / segment_words
-  pub ends : Ordered (end_at u) (length u / segment_words) max_u64
-  pub first : out_at u 0 ≡ 0
-  pub chained : (k : ℕ) → k + 1 < length u / segment_words → out_at u (k + 1) ≡ end_at u k
+-- when a segment starts and when it ends in the output, where no time is negative
+abbrev pub start_us : Segment → ℕ
+start_us e = nat_abs e.stamps.outstart
 
--- the segment of a frame, in such words
-unfoldable pub index_in : List ℕ → ℕ → ℕ
-index_in u frame = min (ended_by (end_at u) (length u / segment_words) frame) (length u / segment_words - 1)
+abbrev pub end_us : Segment → ℕ
+end_us e = nat_abs e.stamps.outstart + nat_abs e.stamps.duration
 
--- when segment k starts in the output, of a table that is accepted: no time is negative
-abbrev pub start_us_at : List ℤ → ℕ → ℕ
-start_us_at t k = nat_abs (get_or t (segment_stamps * k + 1) (pos 0))
-
--- n segments, some of them, whose starts aren't negative and never fall: words in which a time can be searched for
-pub record StartsRise (t : List ℤ) (n : ℕ) : Type 0 where
-  pub some : 0 < n
-  pub sizes : segment_stamps * n ≤ length t
-  pub plain : (k : ℕ) → k < n → negative (get_or t (segment_stamps * k + 1) (pos 0)) ≡ false
-  pub rising : (i j : ℕ) → i ≤ j → j < n → start_us_at t i ≤ start_us_at t j
-
--- segment r is the last of n that starts at or before a time, or the first
-pub record LastStarted (t : List ℤ) (n time r : ℕ) : Type 0 where
-  pub within : r < n
-  pub low : 0 < r → start_us_at t r ≤ time
-  pub high : r + 1 < n → time < start_us_at t (r + 1)
+-- the same of their times, none of which is negative
+pub record Timed (t : Table) : Type 0 where
+  pub even : t.uneven ≡ false
+  pub some : 0 < length t.segments
+  pub ends : Ordered (λ k. end_us (segment t k)) (length t.segments) max_i64
+  pub plain : (k : ℕ) → k < length t.segments → (segment t k).stamps.outstart ≡ pos (start_us (segment t k))
+  pub sum : (k : ℕ) → k < length t.segments → out_end_us (segment t k) ≡ pos (end_us (segment t k))
+  pub chained : (k : ℕ) → k + 1 < length t.segments → start_us (segment t (k + 1)) ≡ end_us (segment t k)

@@ -1,64 +1,103 @@
-// Which segment of a lent table has a frame, which presents a time, and whether one continues the one before it. The table is checked first.
+// Which segment of a lent table has a frame, which presents a time, and whether one continues the one before it: as
+// methods of a table in any layout, and as calls on words. The table is checked first.
 #![tactic(auto)]
 
-ghost use Rattle.std.specs.Prelude.{◌≡◌, false, ◌+◌, ◌-◌, ◌*◌, ◌≤◌, ◌<◌, pos, nat_abs, length, get_or};
+ghost use Rattle.std.specs.Prelude.{◌≡◌, ◌+◌, ◌≤◌};
 ghost use Rattle.choice.specs.Choice.{max_u64};
-ghost use Rattle.rules.specs.Rules.{negative};
-ghost use Rattle.rules.specs.Lookups.{segment_of_frame, segment_of_time, same_shift, segment_runs_on, continues_at};
-ghost use Rattle.table.specs.Layout.{segment_words, segment_stamps, words_at, segment_at, table_of};
-ghost use Rattle.lookup.specs.Steps.{end_at, Searchable, index_in, StartsRise, LastStarted};
+ghost use Rattle.rules.specs.Lookups.{ended, over_by, over_by_us, segment_of_frame, segment_of_time, same_shift, segment_runs_on, continues_at};
+ghost use Rattle.table.specs.Layout.{table_of};
+ghost use Rattle.lookup.specs.Steps.{Chained, Timed};
 ghost use Rattle.lookup.specs.Examples.{WorkedExamples};
 
-use rules::{Checked, Continued, Lookup};
-use table::{STAMPS, WORDS};
+use rows::halving;
+use rules::{Checked, Continued, Lookup, Segment};
+use table::layout::Segments;
+use table::{SegmentTable, Tabled};
 
-// The frame after the last of segment k.
-pub fn end_at(u: &[u64], k: usize) -> u64
-    requires { (k * segment_words + segment_words ≤ length u.now) × (end_at u.now k ≤ max_u64) }
-    ensures { result ≡ end_at u.now k }
+// The segment that has a frame, of a table that was checked; past the last frame, the last segment. Each begins where the one before it ends, so one word
+// says which have ended.
+pub fn index_of_frame<S: Segments>(table: &SegmentTable<'_, S>, frame: u64) -> usize
+    requires { Chained table.now }
+    ensures { result ≡ ended (over_by frame) table.now.segments }
 {
-    let b = k * WORDS;
-    u[b + 3] + u[b + 2]
+    halving::last_that(
+        table.segment_count(),
+        |k| table.segment(k).words.out <= frame,
+    )
 }
 
-// The segment that has a frame, in words that were checked; past the last frame, the last segment.
-pub fn index_of_frame(u: &[u64], frame: u64) -> usize
-    requires { Searchable u.now }
-    ensures { result ≡ index_in u.now frame }
+// The segment that presents a time, in the same way.
+fn index_of_time<S: Segments>(table: &SegmentTable<'_, S>, time: i64) -> usize
+    requires { Timed table.now }
+    ensures { result ≡ ended (over_by_us time) table.now.segments }
 {
-    // a segment's unsigned words are its row's
-    rows::last_begun(u, u.len() / WORDS, frame)
+    halving::last_that(table.segment_count(), |k| {
+        signed::at_most(table.segment(k).stamps.outstart, time)
+    })
 }
 
-// A time of a table that is accepted: it isn't negative.
-fn plain_at(t: &[i64], i: usize) -> u64
-    requires { (i < length t.now) × (negative (get_or t.now i (pos 0)) ≡ false) }
-    ensures { result ≡ nat_abs (get_or t.now i (pos 0)) }
+// Whether two shifts are equal; both absent counts as equal.
+fn same_shift(flag: u64, shift: i64, other: u64, second: i64) -> bool
+    ensures { result ≡ same_shift flag shift other second }
 {
-    rules::plain(t[i])
+    (flag == other) & ((flag == 0) | signed::same(shift, second))
 }
 
-// The last of n segments that starts at or before a time, or the first; by halving, as `rows::last_begun`. Each starts where the one before it ends, so one
-// word a turn says which have ended.
-fn last_started(t: &[i64], n: usize, time: u64) -> usize
-    requires { StartsRise t.now n }
-    ensures { LastStarted t.now n time result }
+// Whether segment e continues segment p.
+fn runs_on(p: Segment, e: Segment) -> bool
+    requires { p.words.first + p.words.count ≤ max_u64 }
+    ensures { result ≡ segment_runs_on p e }
 {
-    // word 1 of a segment's signed words is where it starts
-    let mut at: usize = 1;
-    let mut left = n;
-    while 1 < left {
-        let half = left / 2;
-        let mid = at + STAMPS * half;
-        left -= half;
-        if plain_at(t, mid) <= time {
-            at = mid;
+    let shifts = same_shift(p.words.flag, p.stamps.shift, e.words.flag, e.stamps.shift);
+    ((p.words.source == e.words.source) & (p.words.first + p.words.count == e.words.first)) & shifts
+}
+
+// What is looked up in a table. The Rust's segment_of_frame, segment_of_time_us and continues.
+pub trait Lookups: Tabled {
+    // The segment that has a frame; past the last frame, the last segment.
+    fn segment_of_frame(&self, frame: u64) -> Lookup
+        ensures { result ≡ segment_of_frame (Self.table self.now) frame };
+
+    // The segment that presents a time: before the first one, the first; past the last, the last.
+    fn segment_of_time_us(&self, time: i64) -> Lookup
+        ensures { result ≡ segment_of_time (Self.table self.now) time };
+
+    // Whether segment r continues the one before it in their source, as one run of it.
+    fn continues(&self, r: usize) -> Continued
+        ensures { result ≡ continues_at (Self.table self.now) r };
+}
+
+impl<S: Segments> Lookups for SegmentTable<'_, S> {
+    fn segment_of_frame(&self, frame: u64) -> Lookup {
+        match self.check() {
+            Checked::Refused(n, i) => Lookup::NoIndex(n, i),
+            Checked::Frames(_) => Lookup::Index(index_of_frame(self, frame)),
         }
     }
-    at / STAMPS
+
+    fn segment_of_time_us(&self, time: i64) -> Lookup {
+        match self.check() {
+            Checked::Refused(n, i) => Lookup::NoIndex(n, i),
+            Checked::Frames(_) => Lookup::Index(index_of_time(self, time)),
+        }
+    }
+
+    fn continues(&self, r: usize) -> Continued {
+        match self.check() {
+            Checked::Refused(n, i) => return Continued::NoAnswer(n, i),
+            Checked::Frames(_) => {}
+        }
+        if r < 1 {
+            return Continued::Answer(false);
+        }
+        if r >= self.segment_count() {
+            return Continued::Answer(false);
+        }
+        Continued::Answer(runs_on(self.segment(r - 1), self.segment(r)))
+    }
 }
 
-// The segment that has a frame; past the last frame, the last segment. The Rust's segment_of_frame.
+// The same of a table that is lent as words.
 pub fn segment_of_frame(
     sources: &[u64],
     u: &[u64],
@@ -69,13 +108,9 @@ pub fn segment_of_frame(
 ) -> Lookup
     ensures { result ≡ segment_of_frame (table_of sources.now u.now t.now log text.now) frame }
 {
-    match table::check(sources, u, t, log, text) {
-        Checked::Refused(n, i) => Lookup::NoIndex(n, i),
-        Checked::Frames(_) => Lookup::Index(index_of_frame(u, frame)),
-    }
+    SegmentTable::of_words(sources, u, t, log, text).segment_of_frame(frame)
 }
 
-// The segment that presents a time: before the first one, the first; past the last, the last. The Rust's segment_of_time_us.
 pub fn segment_of_time_us(
     sources: &[u64],
     u: &[u64],
@@ -86,35 +121,9 @@ pub fn segment_of_time_us(
 ) -> Lookup
     ensures { result ≡ segment_of_time (table_of sources.now u.now t.now log text.now) time }
 {
-    match table::check(sources, u, t, log, text) {
-        Checked::Refused(n, i) => return Lookup::NoIndex(n, i),
-        Checked::Frames(_) => {}
-    }
-    if signed::negative(time) {
-        return Lookup::Index(0);
-    }
-    Lookup::Index(last_started(t, u.len() / WORDS, signed::magnitude(time)))
+    SegmentTable::of_words(sources, u, t, log, text).segment_of_time_us(time)
 }
 
-// Whether two shifts are equal; both absent counts as equal.
-fn same_shift(flag: u64, shift: i64, other: u64, second: i64) -> bool
-    ensures { result ≡ same_shift flag shift other second }
-{
-    (flag == other) & ((flag == 0) | signed::same(shift, second))
-}
-
-// Whether segment r continues the one before it.
-fn runs_on(u: &[u64], t: &[i64], r: usize) -> bool
-    requires { (0 < r) × (r * segment_words + segment_words ≤ length u.now) × (r * segment_stamps + segment_stamps ≤ length t.now) × ((words_at u.now (r - 1)).first + (words_at u.now (r - 1)).count ≤ max_u64) }
-    ensures { result ≡ segment_runs_on (segment_at u.now t.now (r - 1)) (segment_at u.now t.now r) }
-{
-    let p = table::words_at(u, r - 1);
-    let e = table::words_at(u, r);
-    let shifts = same_shift(p.flag, t[(r - 1) * STAMPS + 6], e.flag, t[r * STAMPS + 6]);
-    ((p.source == e.source) & (p.first + p.count == e.first)) & shifts
-}
-
-// Whether segment r continues the one before it in their source, as one run of it. The Rust's continues.
 pub fn continues(
     sources: &[u64],
     u: &[u64],
@@ -125,17 +134,7 @@ pub fn continues(
 ) -> Continued
     ensures { result ≡ continues_at (table_of sources.now u.now t.now log text.now) r }
 {
-    match table::check(sources, u, t, log, text) {
-        Checked::Refused(n, i) => return Continued::NoAnswer(n, i),
-        Checked::Frames(_) => {}
-    }
-    if r < 1 {
-        return Continued::Answer(false);
-    }
-    if r >= u.len() / WORDS {
-        return Continued::Answer(false);
-    }
-    Continued::Answer(runs_on(u, t, r))
+    SegmentTable::of_words(sources, u, t, log, text).continues(r)
 }
 
 // The definitions give the numbers of specs/Examples.antt.

@@ -7,7 +7,6 @@ use mathlib.Core.List.{List, map}
 use lib.ListN.{length, get_or, drop, length-map, length-append, length-drop, get_or-append}
 use lib.Seq.{drop_at}
 use lib.Dec.{ltb}
-use lib.IntN.{ℤ}
 use borrow.Author.Tests.{lt-ltb, le-ltb, ltb-false}
 use Rattle.choice.specs.declared.Refusal.{Refusal}
 use Rattle.choice.specs.declared.Refusal.TheVariants.{Never, At}
@@ -16,16 +15,14 @@ use Rattle.choice.specs.Numbers.{no_room}
 use Rattle.choice.proofs.Chains.{or-never}
 use Rattle.choice.proofs.Tests.{decide}
 use Rattle.slices.specs.Slices.{laid, after}
-use Rattle.slices.proofs.Lists.{map_at, map_same}
+use Rattle.slices.proofs.Lists.{map_at}
 use Rattle.rules.specs.declared.Checked.TheVariants.{Frames, Refused}
 use Rattle.rules.specs.declared.Lookup.TheVariants.{Index}
 use Rattle.rules.specs.Records.{Table}
 use Rattle.rules.specs.Rules.{refusal, checked_of, check_of}
 use Rattle.rules.specs.Lookups.{looked_up, segment_of_frame}
 use Rattle.rules.proofs.Answers.{check-first, then-rest}
-use Rattle.table.specs.Layout.{table_of}
-use Rattle.lookup.specs.Steps.{index_in}
-use Rattle.lookup.proofs.Found.{index-lent}
+use Rattle.lookups.specs.Steps.{index_in}
 use Rattle.lookups.specs.declared.Indexed.{Indexed}
 use Rattle.lookups.specs.declared.Indexed.TheVariants.{Indices, NoIndices}
 use Rattle.lookups.specs.Indices.{indices_of, indices_refusal, indexed, Indexing}
@@ -40,23 +37,20 @@ module _ (t : Table) (frames out : List ℕ) where
   unfolding indices_refusal
   then-room e h = then-rest _ _ e ∙ rw h
 
--- ---- the call, of a table that is lent
-module _ (s u : List ℕ) (t : List ℤ) (log : Bool) (text frames out : List ℕ) where
-  pub list-refused : {n i : ℕ} → check_of (table_of s u t log text) ≡ Refused n i → Indexing (table_of s u t log text) frames out (NoIndices n i) out
+-- ---- the call
+module _ (t : Table) (frames out : List ℕ) where
+  pub list-refused : {n i : ℕ} → check_of t ≡ Refused n i → Indexing t frames out (NoIndices n i) out
   unfolding indexed
-  list-refused e = let q = refused-first (table_of s u t log text) frames out e in record { answer = rw q; indices = rw q }
+  list-refused e = let q = refused-first t frames out e in record { answer = rw q; indices = rw q }
 
-  module _ {N : ℕ} (e : check_of (table_of s u t log text) ≡ Frames N) where
-    pub list-short : length out < length frames → Indexing (table_of s u t log text) frames out (NoIndices no_room 0) out
+  module _ {N : ℕ} (e : check_of t ≡ Frames N) where
+    pub list-short : length out < length frames → Indexing t frames out (NoIndices no_room 0) out
     unfolding indexed when
-    list-short h = let q = then-room (table_of s u t log text) frames out e (lt-ltb _ _ h) in record { answer = rw q; indices = rw q }
+    list-short h = let q = then-room t frames out e (lt-ltb _ _ h) in record { answer = rw q; indices = rw q }
 
-    pub list_written : {out' : List ℕ} → length frames ≤ length out → out' ≡ laid (map (index_in u) frames) out
-        → Indexing (table_of s u t log text) frames out (Indices (length frames)) out'
+    pub list_written : {out' : List ℕ} → length frames ≤ length out → out' ≡ laid (map (index_in t) frames) out → Indexing t frames out (Indices (length frames)) out'
     unfolding indexed when indices_of
-    list_written {out'} h w =
-        let q = then-room (table_of s u t log text) frames out e (le-ltb _ _ h) in
-        record { answer = rw q; indices = rw q (w ∙ ap (λ (l : List ℕ). laid l out) (map_same _ _ (index-lent s u t log text) frames)) }
+    list_written {out'} h w = let q = then-room t frames out e (le-ltb _ _ h) in record { answer = rw q; indices = rw q w }
 
 -- ---- what the promise says, of any table
 module _ (t : Table) (frames out : List ℕ) where

@@ -1,22 +1,22 @@
 -- Words of the contracts inside this crate: the frames that lie in one segment.
-use Rattle.std.specs.Prelude.{ℕ, ◌+◌, ◌-◌, ◌/◌, ◌≤◌, ◌<◌, List, ◌≡◌, eqb, length}
+use Rattle.std.specs.Prelude.{ℕ, ◌+◌, ◌≤◌, ◌<◌, ◌≡◌, eqb, length}
 use Rattle.choice.specs.Choice.{when, max_u64}
-use Rattle.table.specs.Layout.{segment_words}
-use Rattle.lookup.specs.Steps.{end_at, index_in}
+use Rattle.rules.specs.Lookups.{ended, over_by}
+use Rattle.rules.specs.Records.{Table, segment}
 use Rattle.lookups.specs.declared.Piece.{Piece}
 
--- where the frames of segment k begin: where the one before it ends
-abbrev pub piece_from : List ℕ → ℕ → ℕ
-piece_from u k = when (eqb k 0) 0 (end_at u (k - 1))
+-- the segment that has a frame, as the single lookup answers it
+abbrev pub index_in : Table → ℕ → ℕ
+index_in t frame = ended (over_by frame) t.segments
 
--- where they end: the last segment has all frames past it too, of which the largest number alone is left to the search
-abbrev pub piece_end : List ℕ → ℕ → ℕ
-piece_end u k = when (eqb (k + 1) (length u / segment_words)) max_u64 (end_at u k)
+-- where the frames of segment k end: the last segment has all frames past it too, of which the largest number alone is left to the search
+abbrev pub piece_end : Table → ℕ → ℕ
+piece_end t k = when (eqb (k + 1) (length t.segments)) max_u64 (segment t (k + 1)).words.out
 
-abbrev pub piece_at : List ℕ → ℕ → Piece
-piece_at u k = record { index = k; from = piece_from u k; end = piece_end u k }
+abbrev pub piece_at : Table → ℕ → Piece
+piece_at t k = record { index = k; from = (segment t k).words.out; end = piece_end t k }
 
 -- each frame of a piece has its index
-pub record Covers (u : List ℕ) (p : Piece) : Type 0 where
-  pub known : p.index < length u / segment_words
-  pub each : (frame : ℕ) → p.from ≤ frame → frame < p.end → index_in u frame ≡ p.index
+pub record Covers (t : Table) (p : Piece) : Type 0 where
+  pub known : p.index < length t.segments
+  pub each : (frame : ℕ) → p.from ≤ frame → frame < p.end → index_in t frame ≡ p.index

@@ -2,16 +2,17 @@
 // or in the next one, need not be searched for.
 #![tactic(auto)]
 
-ghost use Rattle.std.specs.Prelude.{◌≡◌, ◌&&◌, map, ◌/◌, ◌≤◌, ◌<◌, leb, ltb, length};
+ghost use Rattle.std.specs.Prelude.{◌≡◌, ◌&&◌, map, ◌≤◌, ◌<◌, leb, ltb, length};
 ghost use Rattle.slices.specs.Slices.{laid};
-ghost use Rattle.table.specs.Layout.{segment_words, table_of};
-ghost use Rattle.lookup.specs.Steps.{Searchable, index_in};
+ghost use Rattle.table.specs.Layout.{table_of};
+ghost use Rattle.lookup.specs.Steps.{Chained};
 ghost use Rattle.lookups.specs.Indices.{Indexing};
-ghost use Rattle.lookups.specs.Steps.{piece_from, piece_end, piece_at, Covers};
+ghost use Rattle.lookups.specs.Steps.{index_in, piece_end, piece_at, Covers};
 
 use choice::MAX_U64;
 use rules::Checked;
-use table::WORDS;
+use table::layout::Segments;
+use table::{SegmentTable, Tabled};
 
 // What `segments_of_frames` answers: how many indices it wrote, or a refusal's number and index.
 #[derive(Clone, Copy)]
@@ -28,37 +29,30 @@ pub struct Piece {
     pub end: u64,
 }
 
-// Where the frames of segment k begin.
-fn piece_from(u: &[u64], k: usize) -> u64
-    requires { Searchable u.now × (k < length u.now / segment_words) }
-    ensures { result ≡ piece_from u.now k }
+// Where the frames of segment k end. All frames past the table go to the last segment.
+#[tactic(auto, unfolding(choice::specs::Choice::when))]
+fn piece_end<S: Segments>(table: &SegmentTable<'_, S>, k: usize) -> u64
+    requires chained { Chained table.now }
+    requires inside { k < length table.now.segments }
+    ensures { result ≡ piece_end table.now k }
 {
-    if k == 0 {
-        return 0;
-    }
-    lookup::end_at(u, k - 1)
-}
-
-// Where they end. All frames past the table go to the last segment.
-fn piece_end(u: &[u64], k: usize) -> u64
-    requires { Searchable u.now × (k < length u.now / segment_words) }
-    ensures { result ≡ piece_end u.now k }
-{
-    if k + 1 == u.len() / WORDS {
+    let m = table.segment_count();
+    if k + 1 == m {
         return MAX_U64;
     }
-    lookup::end_at(u, k)
+    table.segment(k + 1).words.out
 }
 
 // The frames of segment k.
-fn piece_at(u: &[u64], k: usize) -> Piece
-    requires { Searchable u.now × (k < length u.now / segment_words) }
-    ensures { result ≡ piece_at u.now k }
+fn piece_at<S: Segments>(table: &SegmentTable<'_, S>, k: usize) -> Piece
+    requires chained { Chained table.now }
+    requires inside { k < length table.now.segments }
+    ensures { result ≡ piece_at table.now k }
 {
     Piece {
         index: k,
-        from: piece_from(u, k),
-        end: piece_end(u, k),
+        from: table.segment(k).words.out,
+        end: piece_end(table, k),
     }
 }
 
@@ -69,46 +63,71 @@ fn has(p: Piece, frame: u64) -> bool
     (p.from <= frame) & (frame < p.end)
 }
 
-// A frame's segment: the guessed one, which need not be right, or the one that a search finds.
-fn guessed(u: &[u64], frame: u64, guess: usize) -> Piece
-    requires { Searchable u.now }
-    ensures { Covers u.now result × (result.index ≡ index_in u.now frame) }
+// A frame's segment, where the frame before it in the list lay in segment k and this one doesn't: mostly the next one.
+fn piece_after<S: Segments>(table: &SegmentTable<'_, S>, frame: u64, k: usize) -> Piece
+    requires chained { Chained table.now }
+    requires inside { k < length table.now.segments }
+    ensures { Covers table.now result × (result.index ≡ index_in table.now frame) }
 {
-    if guess < u.len() / WORDS {
-        let next = piece_at(u, guess);
+    let m = table.segment_count();
+    if k + 1 < m {
+        let next = piece_at(table, k + 1);
         if has(next, frame) {
             return next;
         }
     }
-    piece_at(u, lookup::index_of_frame(u, frame))
+    piece_at(table, lookup::index_of_frame(table, frame))
 }
 
-// A frame's segment, where the frame before it in the list lay in p: mostly that one again, or the one after it.
-fn piece_of(u: &[u64], frame: u64, p: Piece) -> Piece
-    requires { Searchable u.now × Covers u.now p }
-    ensures { Covers u.now result × (result.index ≡ index_in u.now frame) }
+// A frame's segment, where the frame before it lay in p: mostly that one again.
+fn piece_of<S: Segments>(table: &SegmentTable<'_, S>, frame: u64, p: Piece) -> Piece
+    requires chained { Chained table.now }
+    requires covers { Covers table.now p }
+    ensures { Covers table.now result × (result.index ≡ index_in table.now frame) }
 {
     if has(p, frame) {
         return p;
     }
-    guessed(u, frame, p.index + 1)
+    piece_after(table, frame, p.index)
 }
 
 // The segment of each frame.
-fn write_indices(u: &[u64], frames: &[u64], out: &mut [u64])
-    requires { Searchable u.now × (length frames.now ≤ length out.old) }
-    ensures { out.new ≡ laid (map (index_in u.now) frames.now) out.old }
+fn write_indices<S: Segments>(table: &SegmentTable<'_, S>, frames: &[u64], out: &mut [u64])
+    requires chained { Chained table.now }
+    requires room { length frames.now ≤ length out.old }
+    ensures { out.new ≡ laid (map (index_in table.now) frames.now) out.old }
 {
-    let mut p = piece_at(u, 0);
+    let mut p = piece_at(table, 0);
     let mut k = 0;
     while k < frames.len() {
-        p = piece_of(u, frames[k], p);
+        p = piece_of(table, frames[k], p);
         out[k] = p.index as u64;
         k += 1;
     }
 }
 
-// The segment of each frame of a list, into lent room: each index is what `lookup::segment_of_frame` answers.
+// What is looked up in a table for a list of frames.
+pub trait ListLookup: Tabled {
+    // The segment of each frame, into lent room: each index is what `segment_of_frame` answers.
+    fn segments_of_frames(&self, frames: &[u64], out: &mut [u64]) -> Indexed
+        ensures { Indexing (Self.table self.now) frames.now out.old result out.new };
+}
+
+impl<S: Segments> ListLookup for SegmentTable<'_, S> {
+    fn segments_of_frames(&self, frames: &[u64], out: &mut [u64]) -> Indexed {
+        match self.check() {
+            Checked::Refused(n, i) => return Indexed::NoIndices(n, i),
+            Checked::Frames(_) => {}
+        }
+        if out.len() < frames.len() {
+            return Indexed::NoIndices(32, 0);
+        }
+        write_indices(self, frames, out);
+        Indexed::Indices(frames.len())
+    }
+}
+
+// The same of a table that is lent as words.
 pub fn segments_of_frames(
     sources: &[u64],
     u: &[u64],
@@ -120,13 +139,5 @@ pub fn segments_of_frames(
 ) -> Indexed
     ensures { Indexing (table_of sources.now u.now t.now log text.now) frames.now out.old result out.new }
 {
-    match table::check(sources, u, t, log, text) {
-        Checked::Refused(n, i) => return Indexed::NoIndices(n, i),
-        Checked::Frames(_) => {}
-    }
-    if out.len() < frames.len() {
-        return Indexed::NoIndices(32, 0);
-    }
-    write_indices(u, frames, out);
-    Indexed::Indices(frames.len())
+    SegmentTable::of_words(sources, u, t, log, text).segments_of_frames(frames, out)
 }

@@ -1,2 +1,1 @@
 pub mod Laid
-pub mod Known

@@ -10,7 +10,7 @@ use cases::read::Cursor;
 use cases::{read, say};
 use records::TrimSegment;
 use rules::Lookup;
-use table::{STAMPS, WORDS};
+use table::layout::{STAMPS, WORDS};
 
 // The most records of a case: 64 signed words, which is all that there is room for, are nine of seven.
 const MOST: usize = 9;

@@ -11,7 +11,8 @@ use Rattle.choice.specs.Records.{or_refused}
 use Rattle.choice.proofs.Tests.{decide}
 use Rattle.slices.specs.Slices.{after}
 use Rattle.rows.specs.Lent.{words_of, shifts_of}
-use Rattle.rules.specs.Records.{Segment, Table}
+use Rattle.rules.specs.declared.Segment.{Segment}
+use Rattle.rules.specs.Records.{Table}
 use Rattle.rules.specs.Absent.{stripped_segment, stripped}
 use Rattle.rules.proofs.Ignored.{refusal-stripped, alike}
 use Rattle.table_rows.specs.declared.Filled.{Filled}

@@ -13,7 +13,8 @@ use Rattle.choice.proofs.Tests.{decide}
 use Rattle.rows.specs.Rows.{ok_shift, ok_row, WellFrom}
 use Rattle.rows.specs.Rows as rows
 use Rattle.rows.proofs.Flat.{rows-flat}
-use Rattle.rules.specs.Records.{Segment, Table, no_segment, segment, out_end, frame_total}
+use Rattle.rules.specs.declared.Segment.{Segment}
+use Rattle.rules.specs.Records.{Table, no_segment, segment, out_end, frame_total}
 use Rattle.rules.proofs.Accepted.{Accepted, accepted}
 use Rattle.table_rows.specs.Rows.{row_of, rows_of}
 use Rattle.table_rows.specs.Mapped.{RowsAreMap}

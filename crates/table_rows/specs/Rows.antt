@@ -7,7 +7,8 @@ use Rattle.choice.specs.Records.{or_refused}
 use Rattle.slices.specs.Slices.{after}
 use Rattle.rows.specs.declared.Row.{Row}
 use Rattle.rows.specs.Lent.{words_of, shifts_of}
-use Rattle.rules.specs.Records.{Segment, Table}
+use Rattle.rules.specs.declared.Segment.{Segment}
+use Rattle.rules.specs.Records.{Table}
 use Rattle.rules.specs.Rules.{refusal}
 use Rattle.table_rows.specs.declared.Filled.{Filled}
 use Rattle.table_rows.specs.declared.Filled.TheVariants.{Rows, NoRows}

@@ -1,17 +1,21 @@
-// The rows of an accepted table: the map that document 01 adds to the Rust.
+// The rows of an accepted table, the map that document 01 adds to the Rust: as a method of a table in any layout, and as a call on words.
 #![tactic(auto)]
 
-ghost use Rattle.std.specs.Prelude.{◌≡◌, map, ◌+◌, ◌*◌, ◌/◌, ◌≤◌, length};
+ghost use Rattle.std.specs.Prelude.{◌≡◌, false, map, ◌+◌, ◌*◌, ◌≤◌, length, eqb, pos};
+ghost use Rattle.choice.specs.Choice.{when};
+ghost use Rattle.std.proofs.lemmas.List.Edits.{sets};
 ghost use Rattle.slices.specs.Slices.{laid};
 ghost use Rattle.rules.specs.Records.{Table};
-ghost use Rattle.rows.specs.Lent.{shifts_of};
-ghost use Rattle.table.specs.Layout.{segment_words, segment_stamps, segment_at, segments_of, table_of};
-ghost use Rattle.table_rows.specs.Rows.{row_of, Rowed};
+ghost use Rattle.rows.specs.Lent.{words, words_of, shifts_of};
+ghost use Rattle.table.specs.Layout.{table_of};
+ghost use Rattle.table_rows.specs.Rows.{row_of, row_words, Rowed};
 ghost use Rattle.table_rows.specs.Mapped.{RowsAreMap};
 ghost use Rattle.table_rows.specs.Examples.{WorkedExamples};
 
-use rules::Checked;
-use table::{STAMPS, WORDS};
+use rows::Row;
+use rules::{Checked, Segment};
+use table::layout::{Rows, Segments, WORDS};
+use table::{SegmentTable, Tabled};
 
 // What `rows_of_table` answers: how many rows it wrote, or a refusal's number and index.
 #[derive(Clone, Copy)]
@@ -20,32 +24,107 @@ pub enum Filled {
     NoRows(u64, usize),
 }
 
-// The shift of segment k, an absent one as 0.
-fn shift_at(u: &[u64], t: &[i64], k: usize) -> i64
-    requires { (k * segment_words + segment_words ≤ length u.now) × (k * segment_stamps + segment_stamps ≤ length t.now) }
-    ensures { result ≡ (row_of (segment_at u.now t.now k)).shift }
+// The shift of a row: an absent one is 0.
+#[tactic(auto, unfolding(choice::specs::Choice::when))]
+fn shift_of(flag: u64, shift: i64) -> i64
+    ensures { result ≡ when (eqb flag 0) (pos 0) shift }
 {
-    if u[k * WORDS + 4] == 0 {
+    if flag == 0 {
         return 0;
     }
-    t[k * STAMPS + 6]
+    shift
+}
+
+// The row of a segment.
+#[tactic(auto, unfolding(crate::specs::Rows::row_of))]
+fn row_of(e: Segment) -> Row
+    ensures { result ≡ row_of e }
+{
+    let w = e.words;
+    Row {
+        source: w.source,
+        first: w.first,
+        count: w.count,
+        out: w.out,
+        flag: w.flag,
+        shift: shift_of(w.flag, e.stamps.shift),
+    }
+}
+
+// The words of a row stored as those of row k.
+fn put_words(out: &mut [u64], k: usize, r: Row)
+    requires { k * row_words + row_words ≤ length out.old }
+    ensures { out.new ≡ sets out.old (k * row_words) (words r) }
+{
+    let j = k * WORDS;
+    out[j] = r.source;
+    out[j + 1] = r.first;
+    out[j + 2] = r.count;
+    out[j + 3] = r.out;
+    out[j + 4] = r.flag;
+}
+
+// How a layout writes the words of its segments' rows: row by row, unless it has them as they are.
+pub trait RowWords: Segments {
+    fn write_words(&self, out: &mut [u64])
+        requires even { Self.uneven self.now ≡ false }
+        requires room { length (Self.listed self.now) * row_words ≤ length out.old }
+        ensures { out.new ≡ laid (words_of (map row_of (Self.listed self.now))) out.old }
+    {
+        let n = self.count();
+        let mut k = 0;
+        while k < n {
+            put_words(out, k, row_of(self.segment(k)));
+            k += 1;
+        }
+    }
+}
+
+impl RowWords for Rows<'_> {
+    // a segment's unsigned words are its row's
+    fn write_words(&self, out: &mut [u64]) {
+        slices::copy(self.words, out);
+    }
 }
 
 // The shifts of the rows.
-fn write_shifts(u: &[u64], t: &[i64], os: &mut [i64])
-    requires { (length u.now / segment_words ≤ length t.now / segment_stamps) × (length u.now / segment_words ≤ length os.old) }
-    ensures { os.new ≡ laid (shifts_of (map row_of (segments_of u.now t.now))) os.old }
+fn write_shifts<S: Segments>(table: &SegmentTable<'_, S>, os: &mut [i64])
+    requires even { table.now.uneven ≡ false }
+    requires room { length table.now.segments ≤ length os.old }
+    ensures { os.new ≡ laid (shifts_of (map row_of table.now.segments)) os.old }
 {
-    let n = u.len() / WORDS;
+    let n = table.segment_count();
     let mut k = 0;
     while k < n {
-        let shift = shift_at(u, t, k);
-        os[k] = shift;
+        os[k] = row_of(table.segment(k)).shift;
         k += 1;
     }
 }
 
-// The rows of an accepted table, one a segment, into lent room: five words and a shift a row.
+// What is written of a table.
+pub trait TableRows: Tabled {
+    // The rows of an accepted table, one a segment, into lent room: five words and a shift a row.
+    fn rows_of_table(&self, ou: &mut [u64], os: &mut [i64]) -> Filled
+        ensures { Rowed (Self.table self.now) ou.old os.old result ou.new os.new };
+}
+
+impl<S: RowWords> TableRows for SegmentTable<'_, S> {
+    fn rows_of_table(&self, ou: &mut [u64], os: &mut [i64]) -> Filled {
+        match self.check() {
+            Checked::Refused(n, i) => return Filled::NoRows(n, i),
+            Checked::Frames(_) => {}
+        }
+        let n = self.segment_count();
+        if (ou.len() < n * WORDS) | (os.len() < n) {
+            return Filled::NoRows(32, 0);
+        }
+        write_shifts(self, os);
+        self.segments.write_words(ou);
+        Filled::Rows(n)
+    }
+}
+
+// The same of a table that is lent as words.
 pub fn rows_of_table(
     sources: &[u64],
     u: &[u64],
@@ -57,18 +136,7 @@ pub fn rows_of_table(
 ) -> Filled
     ensures { Rowed (table_of sources.now u.now t.now log text.now) ou.old os.old result ou.new os.new }
 {
-    match table::check(sources, u, t, log, text) {
-        Checked::Refused(n, i) => return Filled::NoRows(n, i),
-        Checked::Frames(_) => {}
-    }
-    let n = u.len() / WORDS;
-    if (ou.len() < n * WORDS) | (os.len() < n) {
-        return Filled::NoRows(32, 0);
-    }
-    // a segment's unsigned words are its row's
-    slices::copy(u, ou);
-    write_shifts(u, t, os);
-    Filled::Rows(n)
+    SegmentTable::of_words(sources, u, t, log, text).rows_of_table(ou, os)
 }
 
 // The rows of an accepted table are a map of its frames.

@@ -1,21 +1,19 @@
-use Rattle.std.proofs.Common.{sym, ◌∙◌, arith}
+use Rattle.std.proofs.Common.{ap}
+use Rattle.choice.specs.Records.{first_refused}
+use Rattle.choice.proofs.Tests.{called}
 use Rattle.choice.proofs.Runs.{first-turn, first-hit, first-end}
-use Rattle.table.specs.Layout.{segment_at}
-use Rattle.judge.specs.Video.{shown_by}
+use Rattle.table.proofs.Checks.{segments-whole}
 use Rattle.judge.specs.Judge.{start_refusal}
 use Rattle.judge.proofs.first_start.Goals as goal
 
+pub loop-k-init : goal.loop-k-init
+loop-k-init g c = ap (first_refused (start_refusal _) 0) (segments-whole _ c.segment_count-m.ensures)
+
 pub returns-then-n-ne0 : goal.returns-then-n-ne0
-returns-then-n-ne0 c =
-    let a = c.args in
-    first-hit (segment_at a.u.now a.t.now) (start_refusal (shown_by a.video a.starts.now)) c.loop-k.k a.m (omega arith) c.start_refusal_at-n.ensures c.if-n-ne0.true c.loop-k.invariant
+returns-then-n-ne0 g c = first-hit _ _ _ _ c.loop-k-test.true c.start_refusal_at-n.ensures c.if-n-ne0.true c.loop-k.invariant
 
 pub loop-k-preserved : goal.loop-k-preserved
-loop-k-preserved c =
-    let a = c.args in
-    first-turn (segment_at a.u.now a.t.now) (start_refusal (shown_by a.video a.starts.now)) c.loop-k.k a.m (omega arith) (sym c.start_refusal_at-n.ensures ∙ c.if-n-ne0.false) c.loop-k.invariant
+loop-k-preserved g c = first-turn _ _ _ _ c.loop-k-test.true (called c.start_refusal_at-n.ensures c.if-n-ne0.false) c.loop-k.invariant
 
 pub returns : goal.returns
-returns c =
-    let a = c.args in
-    first-end (segment_at a.u.now a.t.now) (start_refusal (shown_by a.video a.starts.now)) c.loop-k.k a.m (omega arith) c.loop-k.invariant
+returns g c = first-end _ _ _ _ c.loop-k-test.false c.loop-k.invariant

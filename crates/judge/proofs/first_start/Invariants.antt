@@ -1,14 +1,15 @@
 use Rattle.std.proofs.Common.{◌≡◌, ◌-◌}
 use Rattle.choice.specs.Records.{run, first_refused}
-use Rattle.table.specs.Layout.{segment_at}
+use Rattle.rules.specs.Records.{nth}
 use Rattle.judge.specs.Video.{shown_by}
 use Rattle.judge.specs.Judge.{start_refusal}
 use Rattle.judge.proofs.first_start.Given as goal
 
 abbrev pub invariant-loop-k : goal.invariant-loop-k
-invariant-loop-k l =
-    first_refused (start_refusal (shown_by l.video l.starts)) l.k (run (segment_at l.u l.t) l.k (l.m - l.k))
-    ≡ first_refused (start_refusal (shown_by l.video l.starts)) 0 (run (segment_at l.u l.t) 0 l.m)
+invariant-loop-k g l =
+    let v = shown_by l.video l.starts in
+    let segs = l.table.segments in
+    first_refused (start_refusal v) l.k (run (nth segs) l.k (l.m - l.k)) ≡ first_refused (start_refusal v) 0 segs
 
 abbrev pub decreases-loop-k : goal.decreases-loop-k
-decreases-loop-k l = l.m - l.k
+decreases-loop-k g l = l.m - l.k

@@ -1,3 +1,3 @@
 pub mod Tests
-pub mod Chains
+pub mod Sums
 pub mod Runs

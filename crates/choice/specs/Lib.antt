@@ -1,5 +1,3 @@
 pub mod Choice
 pub mod Records
-pub mod Numbers
-pub mod Steps
 pub mod Worked

@@ -1,4 +1,3 @@
-use Rattle.std.proofs.Common.{rules}
 use Rattle.choice.specs.Choice.{when}
 use Rattle.choice.proofs.first_of.Goals as goal
 

@@ -7,7 +7,7 @@ use native.Mathlib.Omega.{arith}
 use lib.IntN.{ℤ, pos, ◌-ℤ◌, ◌*ℤ◌}
 use lib.ListN.{length}
 use Rattle.signed.specs.Rounded.{rounded}
-use Rattle.rules.specs.declared.Checked.TheVariants.{Frames}
+use Rattle.std.specs.Prelude.{Ok}
 use Rattle.rules.specs.Records.{Table, segment, out_end, out_end_us}
 use Rattle.rules.proofs.Accepted.{Accepted, accepted}
 use Rattle.rules.proofs.Search.{frames-ordered}
@@ -98,8 +98,8 @@ one t u x a b c d M N =
     (λ f. absurd (f.0 refl))
 
 -- of the judge's calls, by what it means that they accept
-pub differing : ((t : Table) (v : Shown) (N : ℕ) → (validate_of t v ≡ Frames N) ↔ Fits t v N)
-    → ((t : Table) (ts : List ℤ) (a b N : ℕ) → (check_mcraw t ts a b ≡ Frames N) ↔ Recorded t ts a b N)
+pub differing : ((t : Table) (v : Shown) (N : ℕ) → (validate_of t v ≡ Ok N) ↔ Fits t v N)
+    → ((t : Table) (ts : List ℤ) (a b N : ℕ) → (check_mcraw t ts a b ≡ Ok N) ↔ Recorded t ts a b N)
     → Differing (λ (t : Table). t) (λ t video starts r. r ≡ validate_of t (shown_by video starts)) Settled
 unfolding shown_by
 differing fit recorded = record {
@@ -109,8 +109,8 @@ differing fit recorded = record {
   one-timestamp = λ t u z a b a' b' c d c' d' M N x y. one t u z _ _ _ _ M N (holds t x) (holds u y);
 }
   where
-    fits : (t : Table) (v : Shown) {N : ℕ} → Frames N ≡ validate_of t v → Fits t v N
+    fits : (t : Table) (v : Shown) {N : ℕ} → Ok N ≡ validate_of t v → Fits t v N
     fits t v x = (fit t v _).0 (sym x)
 
-    holds : (t : Table) {ts a b a' b' : List ℤ} {N : ℕ} → Settled t ts a b (Frames N) a' b' → Recorded t ts (length a) (length b) N
+    holds : (t : Table) {ts a b a' b' : List ℤ} {N : ℕ} → Settled t ts a b (Ok N) a' b' → Recorded t ts (length a) (length b) N
     holds t x = (recorded t _ _ _ _).0 (sym x.answer)

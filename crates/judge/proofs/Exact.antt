@@ -11,11 +11,14 @@ use lib.IntN.{ℤ, pos, negsuc}
 use lib.ListN.{length, get_or}
 use lib.Signed.{lt_z, mag, ◌<ℤ◌}
 use borrow.Author.Tests.{ltb-true, ltb-false, lt-ltb, le-ltb, leb-true, leb-false, lt-leb, le-leb, ne_eqb}
-use Rattle.choice.specs.declared.Refusal.{Refusal}
-use Rattle.choice.specs.declared.Refusal.TheVariants.{Never, At}
+use Rattle.std.specs.Prelude.{Result, Ok, Err}
+use Rattle.std.specs.Result.{result_and}
 use Rattle.choice.specs.Choice.{when}
-use Rattle.choice.specs.Records.{first_refused, or_refused}
 use Rattle.choice.proofs.Tests.{decide, tf}
+use Rattle.refusal.specs.declared.Reason.{Reason}
+use Rattle.refusal.specs.declared.Reason.TheVariants as reason
+use Rattle.refusal.specs.declared.Refusal.{Refusal}
+use Rattle.refusal.specs.Refusals.{refused, first_refused}
 use Rattle.signed.specs.declared.Held.TheVariants.{Outside}
 use Rattle.signed.specs.Signed.{within, eq_z, is_outside}
 use Rattle.signed.proofs.Order.{eq_z-true, eq_z-yes}
@@ -25,9 +28,9 @@ use Rattle.rules.specs.declared.Segment.{Segment}
 use Rattle.rules.specs.Records.{Table, no_segment, segment, out_end, out_end_us, frame_total}
 use Rattle.rules.specs.Paper.{Test, given, each, Rightly}
 use Rattle.rules.proofs.Says.{Says, equal, less, either, unless, below, atmost}
-use Rattle.rules.proofs.Conditions.{Number, Agrees, link, front, append, first-agrees, right}
+use Rattle.rules.proofs.Conditions.{Finds, Agrees, link, front, append, first-agrees, right}
 use Rattle.rules.proofs.Exact.{agrees}
-use Rattle.mcraw.specs.Mcraw.{most_timestamps, nanoseconds, gaps, falls, fall_of, span, nominal, end, starts_of, refusal_of, times_unless, mcraw_times}
+use Rattle.mcraw.specs.Mcraw.{most_timestamps, nanoseconds, gaps, falls, fall_of, span, nominal, end, starts_of, refusal_of, times_of, mcraw_times}
 use Rattle.mcraw.proofs.Gaps.{length-gaps, gap_at, less-below}
 use Rattle.judge.specs.declared.Video.{Video}
 use Rattle.judge.specs.declared.Video.TheVariants.{Nothing, Constant, Times}
@@ -64,7 +67,7 @@ too_large (Constant frames num den) starts = either (less largest_scale num) (le
 too_large (Times scale end nominal) starts = either (less largest_scale scale) (less most_starts (length starts))
 
 -- 23, and then 24, as a chain of tests
-chain : (us out : ℤ) (s : ℕ) → starts_at (when (eqb s 0) Outside (within us)) out ≡ when (eqb s 0 || is_outside us) 23 (when (not (eq_z us out)) 24 0)
+chain : (us out : ℤ) (s : ℕ) → starts_at (when (eqb s 0) Outside (within us)) out ≡ when (eqb s 0 || is_outside us) (Err reason.NoFrameTime) (when (not (eq_z us out)) (Err reason.OtherFrameTime) (Ok tt))
 unfolding starts_at when
 chain us out s =
     decide (eqb s 0) (λ e. rw e)
@@ -72,23 +75,23 @@ chain us out s =
     (λ q. rw (e, q, lt-leb (2 ^ 63) (mag us) (ltb-true (mag us) (2 ^ 63) q)) (turned (eq_z us out)))
     (λ q. rw (e, q, le-leb (2 ^ 63) (mag us) (ltb-false (mag us) (2 ^ 63) q))))
   where
-    turned : (b : Bool) → ◌≡◌ {A = ℕ} (when b 0 24) (when (not b) 24 0)
+    turned : (b : Bool) → ◌≡◌ {A = Result (Unit {0}) Reason} (when b (Ok tt) (Err reason.OtherFrameTime)) (when (not b) (Err reason.OtherFrameTime) (Ok tt))
     turned true = refl
     turned false = refl
 
 module _ (t : Table) (v : Shown) where
-  start-number : (k : ℕ) → Number k (start_refusal v (segment t k)) (of_start t v k)
-  unfolding start_refusal micros_of Number
-  start-number k =
-      subst (λ (n : ℕ). Number k n (of_start t v k)) (sym (chain (frame_us t v k) (segment t k).stamps.outstart v.scale))
-      (link 22 k _ _ (either (equal v.scale 0) (beyond (frame_us t v k)))
-      λ _. link 23 k _ _ (unless (same (frame_us t v k) (segment t k).stamps.outstart))
+  start-finds : (k : ℕ) → Finds k (start_refusal v (segment t k)) (of_start t v k)
+  unfolding start_refusal micros_of Finds
+  start-finds k =
+      subst (λ (r : Result (Unit {0}) Reason). Finds k r (of_start t v k)) (sym (chain (frame_us t v k) (segment t k).stamps.outstart v.scale))
+      (link reason.NoFrameTime k _ _ (either (equal v.scale 0) (beyond (frame_us t v k)))
+      λ _. link reason.OtherFrameTime k _ _ (unless (same (frame_us t v k) (segment t k).stamps.outstart))
       λ _. tt)
 
   starts-agree : Agrees (first_refused (start_refusal v) 0 t.segments) (each (of_start t v) 0 (length t.segments))
   starts-agree =
       first-agrees (start_refusal v) no_segment (of_start t v) 0 t.segments
-      (λ k b. subst (λ (j : ℕ). Number j (start_refusal v (segment t k)) (of_start t v j)) (sym (zero-add k)) (start-number k))
+      (λ k b. subst (λ (j : ℕ). Finds j (start_refusal v (segment t k)) (of_start t v j)) (sym (zero-add k)) (start-finds k))
 
   near : Says (ends_near (out_end_us (last_segment t.segments)) v.end v.nominal v.scale) (Near t v)
   unfolding ends_near
@@ -98,11 +101,11 @@ video-agrees : (t : Table) (video : Video) (starts : List ℤ) → Agrees (video
 unfolding video_refusal Agrees
 video-agrees t video starts =
     let v = shown_by video starts in
-    let none : Agrees Never [] = tt in
-    front 21 0 _ _ (not-given video starts)
-    (front 20 0 _ _ (too_large video starts)
-    (front 22 0 _ _ (unless (equal (out_end (last_segment t.segments)) v.frames))
-    (append _ _ _ _ (starts-agree t v) (front 25 0 _ _ (unless (near t v)) none))))
+    let none : Agrees (Ok tt) [] = tt in
+    front reason.NoVideo 0 _ _ (not-given video starts)
+    (front reason.TooLarge 0 _ _ (too_large video starts)
+    (front reason.OtherFrameCount 0 _ _ (unless (equal (out_end (last_segment t.segments)) v.frames))
+    (append _ _ _ _ (starts-agree t v) (front reason.EndNotNear 0 _ _ (unless (near t v)) none))))
 
 -- of every table and video
 pub validated_rightly : (t : Table) (video : Video) (starts : List ℤ) → Rightly (validate_of t (shown_by video starts)) (validate_tests t video starts) (frame_total t.segments)
@@ -111,34 +114,35 @@ validated_rightly t video starts = right _ _ (frame_total t.segments) (append _ 
 
 -- ---- a recording
 -- the refusal of its times, as the judge gives it
-recode : Refusal → Refusal
-recode Never = Never
-recode (At n i) = At (recoded n) i
+recode : Result (Unit {0}) Refusal → Result (Unit {0}) Refusal
+recode (Ok u) = Ok u
+recode (Err r) = refused (recoded r.reason) r.index
 
-front-recoded : {b : Bool} {C : Type 0} (n i : ℕ) (rest : Refusal) (l : List Test) → Says b C → Agrees (recode rest) l → Agrees (recode (when b (At n i) rest)) (given C (recoded n) i ∷ l)
+front-recoded : {b : Bool} {C : Type 0} (n : Reason) (i : ℕ) (rest : Result (Unit {0}) Refusal) (l : List Test) → Says b C → Agrees (recode rest) l
+    → Agrees (recode (when b (refused n i) rest)) (given C (recoded n) i ∷ l)
 unfolding when recode
-front-recoded {b} {C} n i rest l s k = subst (λ (r : Refusal). Agrees r (given C (recoded n) i ∷ l)) (sym (go b)) (front (recoded n) i (recode rest) l s k)
+front-recoded {b} {C} n i rest l s k = subst (λ (r : Result (Unit {0}) Refusal). Agrees r (given C (recoded n) i ∷ l)) (sym (go b)) (front (recoded n) i (recode rest) l s k)
   where
-    go : (b : Bool) → recode (when b (At n i) rest) ≡ when b (At (recoded n) i) (recode rest)
+    go : (b : Bool) → recode (when b (refused n i) rest) ≡ when b (refused (recoded n) i) (recode rest)
     go true = refl
     go false = refl
 
-append-recoded : (r s : Refusal) (l m : List Test) → Agrees (recode r) l → Agrees (recode s) m → Agrees (recode (or_refused r s)) (l ++ m)
-unfolding or_refused recode
-append-recoded r s l m x y = subst (λ (q : Refusal). Agrees q (l ++ m)) (sym (go r)) (append (recode r) (recode s) l m x y)
+append-recoded : (r s : Result (Unit {0}) Refusal) (l m : List Test) → Agrees (recode r) l → Agrees (recode s) m → Agrees (recode (result_and r s)) (l ++ m)
+unfolding recode
+append-recoded r s l m x y = subst (λ (q : Result (Unit {0}) Refusal). Agrees q (l ++ m)) (sym (go r)) (append (recode r) (recode s) l m x y)
   where
-    go : (r : Refusal) → recode (or_refused r s) ≡ or_refused (recode r) (recode s)
-    go Never = refl
-    go (At n i) = refl
+    go : (r : Result (Unit {0}) Refusal) → recode (result_and r s) ≡ result_and (recode r) (recode s)
+    go (Ok u) = refl
+    go (Err e) = refl
 
 -- the pairs of timestamps, by their intervals
-pair-number : (ts : List ℤ) (i : ℕ) → 0 < i → i < length ts → Number i (falls (get_or (gaps ts) (i - 1) (pos 0))) (of_pair ts i)
-unfolding Number
-pair-number ts i p h =
+pair-finds : (ts : List ℤ) (i : ℕ) → 0 < i → i < length ts → Finds i (falls (get_or (gaps ts) (i - 1) (pos 0))) (of_pair ts i)
+unfolding Finds
+pair-finds ts i p h =
     let y = get_or ts i (pos 0) in
     let x = get_or ts (i - 1) (pos 0) in
     let e : lt_z (get_or (gaps ts) (i - 1) (pos 0)) (pos 0) ≡ lt_z y x = ap (λ (g : ℤ). lt_z g (pos 0)) (gap_at ts i p h) ∙ less-below y x in
-    link 33 i _ _ (subst (λ (b : Bool). Says b (y <ℤ x)) (sym e) (below y x)) λ _. tt
+    link reason.Falling i _ _ (subst (λ (b : Bool). Says b (y <ℤ x)) (sym e) (below y x)) λ _. tt
 
 falls-agree : (ts : List ℤ) → Agrees (fall_of ts) (each (of_pair ts) 1 (length ts - 1))
 unfolding fall_of
@@ -147,7 +151,7 @@ falls-agree ts =
     (first-agrees falls (pos 0) (of_pair ts) 1 (gaps ts)
     (λ k b.
     let e : 1 + k - 1 ≡ k = omega arith in
-    subst (λ (j : ℕ). Number (1 + k) (falls (get_or (gaps ts) j (pos 0))) (of_pair ts (1 + k))) e (pair-number ts (1 + k) (omega arith) (omega (arith, length-gaps ts)))))
+    subst (λ (j : ℕ). Finds (1 + k) (falls (get_or (gaps ts) j (pos 0))) (of_pair ts (1 + k))) e (pair-finds ts (1 + k) (omega arith) (omega (arith, length-gaps ts)))))
 
 falls-stay : (i : ℕ) (l : List ℤ) → recode (first_refused falls i l) ≡ first_refused falls i l
 unfolding first_refused recode recoded when
@@ -157,26 +161,26 @@ falls-stay i (g ∷ l) = decide (lt_z g (pos 0)) (λ e. rw e) (λ e. rw e (falls
 times-agree : (ts : List ℤ) (a b : ℕ) → Agrees (recode (refusal_of ts a b)) (times_tests ts a b)
 unfolding refusal_of recode recoded when fall_of Agrees
 times-agree ts a b =
-    let none : Agrees (recode Never) [] = tt in
-    front-recoded 30 0 _ _ (less most_timestamps (length ts))
-    (front-recoded 31 0 _ _ (less (length ts) 2)
-    (append-recoded (fall_of ts) _ _ _ (subst (λ (r : Refusal). Agrees r (each (of_pair ts) 1 (length ts - 1))) (sym (falls-stay 1 (gaps ts))) (falls-agree ts))
-    (front-recoded 33 0 _ _ (beyond (span ts))
-    (front-recoded 32 0 _ _ (either (less a (length ts)) (less b (length ts)))
-    (front-recoded 31 0 _ _ (same (nominal ts) (pos 0))
-    (front-recoded 33 0 _ _ (beyond (end ts)) none))))))
+    let none : Agrees (recode (Ok tt)) [] = tt in
+    front-recoded reason.TooLong 0 _ _ (less most_timestamps (length ts))
+    (front-recoded reason.Missing 0 _ _ (less (length ts) 2)
+    (append-recoded (fall_of ts) _ _ _ (subst (λ (r : Result (Unit {0}) Refusal). Agrees r (each (of_pair ts) 1 (length ts - 1))) (sym (falls-stay 1 (gaps ts))) (falls-agree ts))
+    (front-recoded reason.Outside 0 _ _ (beyond (span ts))
+    (front-recoded reason.NoRoom 0 _ _ (either (less a (length ts)) (less b (length ts)))
+    (front-recoded reason.Missing 0 _ _ (same (nominal ts) (pos 0))
+    (front-recoded reason.Outside 0 _ _ (beyond (end ts)) none))))))
 
 -- the times, and then the video that they are
-joined : (segs : List Segment) (ts : List ℤ) (r : Refusal)
-    → times_refusal segs ts (times_unless r ts) ≡ or_refused (recode r) (video_refusal segs (timed (starts_of ts) nanoseconds (end ts) (nominal ts)))
-unfolding times_refusal times_unless or_refused recode
-joined segs ts Never = refl
-joined segs ts (At n i) = refl
+joined : (segs : List Segment) (ts : List ℤ) (r : Result (Unit {0}) Refusal)
+    → times_refusal segs ts (result_and r (Ok (times_of ts))) ≡ result_and (recode r) (video_refusal segs (timed (starts_of ts) nanoseconds (end ts) (nominal ts)))
+unfolding times_refusal times_of recode
+joined segs ts (Ok u) = refl
+joined segs ts (Err r) = refl
 
 timed-agrees : (t : Table) (ts : List ℤ) (a b : ℕ) → Agrees (times_refusal t.segments ts (mcraw_times ts a b)) (timed_tests t ts a b)
 unfolding mcraw_times shown_by
 timed-agrees t ts a b =
-    subst (λ (r : Refusal). Agrees r (timed_tests t ts a b)) (sym (joined t.segments ts (refusal_of ts a b)))
+    subst (λ (r : Result (Unit {0}) Refusal). Agrees r (timed_tests t ts a b)) (sym (joined t.segments ts (refusal_of ts a b)))
     (append _ _ _ _ (times-agree ts a b) (video-agrees t (Times nanoseconds (end ts) (nominal ts)) (starts_of ts)))
 
 recording-agrees : (t : Table) (ts : List ℤ) (a b : ℕ) → Agrees (recording_refusal t.sources t.segments ts a b) (recording_tests t ts a b)

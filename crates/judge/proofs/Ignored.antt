@@ -4,15 +4,15 @@ use mathlib.Core.Path.{◌≡◌, refl, sym, ap, ◌∙◌}
 use mathlib.Core.List.{List, map}
 use lib.IntN.{ℤ}
 use lib.ListN.{length, get_or, length-map}
-use Rattle.choice.specs.Records.{or_refused}
+use Rattle.std.specs.Prelude.{Result, Ok, Err}
+use Rattle.std.specs.Result.{result_and}
+use Rattle.refusal.specs.declared.Refusal.{Refusal}
 use Rattle.rules.specs.declared.Source.{Source}
 use Rattle.rules.specs.declared.Segment.{Segment}
 use Rattle.rules.specs.Records.{Table, no_segment, source_of}
-use Rattle.rules.specs.Rules.{checked_of}
 use Rattle.rules.specs.Absent.{stripped_source, stripped_segment, stripped}
 use Rattle.rules.proofs.Ignored.{first-map, source-at, segment-at, total-stripped, refusal-stripped}
-use Rattle.mcraw.specs.declared.RecordingTimes.{RecordingTimes}
-use Rattle.mcraw.specs.declared.RecordingTimes.TheVariants.{Timed, Refused}
+use Rattle.ticks.specs.declared.FrameTimes.{FrameTimes}
 use Rattle.mcraw.specs.Mcraw.{starts_of, mcraw_times}
 use Rattle.judge.specs.Video.{Shown, constant, timed}
 use Rattle.judge.specs.Judge.{start_refusal, last_segment, video_refusal, validate_of, single, times_refusal, recording_refusal, check_mcraw}
@@ -37,10 +37,10 @@ single-stripped : (srcs : List Source) (segs : List Segment) → single (map str
 unfolding single stripped_source
 single-stripped srcs segs = ap (λ (s : Source). constant 1 s.num s.den) (source-stripped srcs segs)
 
-times-stripped : (segs : List Segment) (ts : List ℤ) (r : RecordingTimes) → times_refusal (map stripped_segment segs) ts r ≡ times_refusal segs ts r
+times-stripped : (segs : List Segment) (ts : List ℤ) (r : Result FrameTimes Refusal) → times_refusal (map stripped_segment segs) ts r ≡ times_refusal segs ts r
 unfolding times_refusal
-times-stripped segs ts (Refused n i) = refl
-times-stripped segs ts (Timed frames scale nominal end) = video-stripped segs (timed (starts_of ts) scale end nominal)
+times-stripped segs ts (Err refusal) = refl
+times-stripped segs ts (Ok times) = video-stripped segs (timed (starts_of ts) times.scale times.end times.nominal)
 
 recording-stripped : (srcs : List Source) (segs : List Segment) (ts : List ℤ) (a b : ℕ)
     → recording_refusal (map stripped_source srcs) (map stripped_segment segs) ts a b ≡ recording_refusal srcs segs ts a b
@@ -50,8 +50,8 @@ recording-stripped srcs segs ts a b = rw (single-stripped srcs segs, video-strip
 -- of every table: its answer is that of the stripped one
 pub validate-stripped : (v : Shown) (t : Table) → validate_of t v ≡ validate_of (stripped t) v
 unfolding validate_of stripped
-validate-stripped v t = λ i. checked_of (or_refused (refusal-stripped t i) (sym (video-stripped t.segments v) i)) (sym (total-stripped t.segments) i)
+validate-stripped v t = λ i. result_and (result_and (refusal-stripped t i) (sym (video-stripped t.segments v) i)) (Ok (sym (total-stripped t.segments) i))
 
 pub mcraw-stripped : (ts : List ℤ) (a b : ℕ) (t : Table) → check_mcraw t ts a b ≡ check_mcraw (stripped t) ts a b
 unfolding check_mcraw stripped
-mcraw-stripped ts a b t = λ i. checked_of (or_refused (refusal-stripped t i) (sym (recording-stripped t.sources t.segments ts a b) i)) (sym (total-stripped t.segments) i)
+mcraw-stripped ts a b t = λ i. result_and (result_and (refusal-stripped t i) (sym (recording-stripped t.sources t.segments ts a b) i)) (Ok (sym (total-stripped t.segments) i))

@@ -1,5 +1,4 @@
 pub mod Lent
-pub mod Chains
 pub mod Ready
 pub mod Recordings
 pub mod Meaning

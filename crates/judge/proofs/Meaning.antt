@@ -5,16 +5,20 @@ use mathlib.Core.List.{List}
 use mathlib.Core.Logic.{inl, inr, ⊎_elim, ◌↔◌}
 use Prim.Native.Nat.{ℕ, ◌<◌}
 use native.Mathlib.Omega.{arith}
-use borrow.Author.Tests.{eqb-true, eqb-false, not-false}
+use borrow.Author.Tests.{eqb-true, eqb-false, eq-eqb, ne_eqb, not-false}
 use lib.Dec.{T, eqb}
 use lib.IntN.{ℤ, pos, nat_abs, ◌+ℤ◌, ◌-ℤ◌, ◌*ℤ◌}
 use lib.ListN.{length}
 use lib.Signed.{◌≤ℤ◌, le_z_yes}
-use Rattle.choice.specs.declared.Refusal.{Refusal}
-use Rattle.choice.specs.declared.Refusal.TheVariants.{Never}
+use Rattle.std.specs.Prelude.{Result, Ok, Err}
+use Rattle.std.specs.Result.{result_and}
 use Rattle.choice.specs.Choice.{when}
-use Rattle.choice.specs.Records.{or_refused}
 use Rattle.choice.proofs.Tests.{decide, tf}
+use Rattle.refusal.specs.declared.Reason.{Reason}
+use Rattle.refusal.specs.declared.Reason.TheVariants as reason
+use Rattle.refusal.specs.declared.Refusal.{Refusal}
+use Rattle.refusal.proofs.Chains.{when-ok, and-ok, ok-of}
+use Rattle.refusal.proofs.First.{none-refused, refuses-none}
 use Rattle.signed.specs.declared.Held.{Held}
 use Rattle.signed.specs.declared.Held.TheVariants.{Is, Outside}
 use Rattle.signed.specs.Signed.{within, eq_z}
@@ -24,30 +28,23 @@ use Rattle.signed.proofs.Order.{eq_z-refl, eq_z-true}
 use Rattle.signed.proofs.Ranges.{in-range}
 use Rattle.ticks.specs.Ticks.{micros_of, ends_near}
 use Rattle.ticks.proofs.Microseconds.{micros-none, micros-some}
-use Rattle.rules.specs.declared.Checked.TheVariants.{Frames}
 use Rattle.rules.specs.Records.{Table, no_segment, segment, out_end, out_end_us, frame_total}
-use Rattle.rules.specs.Rules.{refusal, checked_of, check_of}
-use Rattle.rules.proofs.Answers.{frames-never}
+use Rattle.rules.specs.Rules.{refusal, check_of}
 use Rattle.rules.proofs.Accepted.{Accepted, accepted}
-use Rattle.mcraw.specs.declared.RecordingTimes.{RecordingTimes}
-use Rattle.mcraw.specs.declared.RecordingTimes.TheVariants.{Timed, Refused}
-use Rattle.mcraw.specs.Mcraw.{nanoseconds, starts_of, nominal, end, refusal_of, times_unless, mcraw_times}
+use Rattle.ticks.specs.declared.FrameTimes.{FrameTimes}
+use Rattle.mcraw.specs.Mcraw.{nanoseconds, starts_of, nominal, end, refusal_of, times_of, mcraw_times}
 use Rattle.mcraw.proofs.Holds.{held}
-use Rattle.choice.proofs.Chains.{when-never, or-never}
-use Rattle.choice.proofs.Runs.{none-refused, refuses-none}
-use Rattle.mcraw.proofs.Answers as answers
 use Rattle.judge.specs.Video.{Shown, timed}
 use Rattle.judge.specs.Judge.{starts_at, start_refusal, last_segment, video_refusal, validate_of, single, times_refusal, recording_refusal, check_mcraw}
 use Rattle.judge.specs.Means.{Fits, Recorded}
-use Rattle.judge.proofs.Chains.{fits, rest-accepts, one-timestamp, by-times}
 
 -- a segment that starts at its first frame's time
-starts-right : (h : Held) (out : ℤ) → starts_at h out ≡ 0 → h ≡ Is out
+starts-right : (h : Held) (out : ℤ) → starts_at h out ≡ Ok tt → h ≡ Is out
 unfolding starts_at when
-starts-right Outside out e = absurd (omega arith)
-starts-right (Is us) out e = decide (eq_z us out) (λ t. ap Is (eq_z-true us out t)) (λ t. let z : ◌≡◌ {A = ℕ} 24 0 = sym (rw t) ∙ e in absurd (omega arith))
+starts-right Outside out e = absurd (grind arith)
+starts-right (Is us) out e = decide (eq_z us out) (λ t. ap Is (eq_z-true us out t)) (λ t. let z : ◌≡◌ {A = Result (Unit {0}) Reason} (Err reason.OtherFrameTime) (Ok tt) = sym (rw t) ∙ e in absurd (grind arith))
 
-right-starts : (out : ℤ) → starts_at (Is out) out ≡ 0
+right-starts : (out : ℤ) → starts_at (Is out) out ≡ Ok tt
 unfolding starts_at when
 right-starts out = rw (eq_z-refl out)
 
@@ -83,13 +80,13 @@ so-near us e m s h = so (ends_near us e m s) h.le
     so true h = refl
     so false h = absurd h
 
--- a check and then the rest
-accepts : (t : Table) (N : ℕ) (rest : Refusal) → checked_of (or_refused (refusal t) rest) (frame_total t.segments) ≡ Frames N → (check_of t ≡ Frames N) × (rest ≡ Never)
-unfolding check_of checked_of
-accepts t N rest e =
-    let f = frames-never (or_refused (refusal t) rest) (frame_total t.segments) N e in
-    let o = or-never (refusal t) rest f.0 in
-    (rw o.0 (ap Frames f.1), o.1)
+-- a check, and then the rest
+both : (t : Table) (N : ℕ) (rest : Result (Unit {0}) Refusal) → (result_and (result_and (refusal t) rest) (Ok (frame_total t.segments)) ≡ Ok N) ↔ ((check_of t ≡ Ok N) × (rest ≡ Ok tt))
+unfolding check_of
+both t N rest = (
+  λ e. let f = ok-of (result_and (refusal t) rest) _ N e in let o = and-ok (refusal t) rest tt f.0 in (rw o.0 (ap Ok f.1), o.1),
+  λ h. let f = ok-of (refusal t) _ N h.0 in rw (f.0, h.1) (ap Ok f.1),
+)
 
 module _ (t : Table) (v : Shown) (N : ℕ) where
   -- of an accepted table
@@ -98,15 +95,15 @@ module _ (t : Table) (v : Shown) (N : ℕ) where
       let e = (g.segments k h).out-time in
       subst I64 (sym e.start) (omega (arith, e.fits))
 
-  fits-video : check_of t ≡ Frames N → video_refusal t.segments v ≡ Never → Fits t v N
+  fits-video : check_of t ≡ Ok N → video_refusal t.segments v ≡ Ok tt → Fits t v N
   unfolding video_refusal start_refusal ends_near
   fits-video q h =
       let g = accepted t N q in
-      let a = when-never _ _ _ _ h in
-      let b = when-never _ _ _ _ a.1 in
-      let c = when-never _ _ _ _ b.1 in
-      let d = or-never _ _ c.1 in
-      let e = when-never _ _ _ _ d.1 in
+      let a = when-ok _ _ _ _ h in
+      let b = when-ok _ _ _ _ a.1 in
+      let c = when-ok _ _ _ _ b.1 in
+      let d = and-ok _ _ _ c.1 in
+      let e = when-ok _ _ _ _ d.1 in
       let last = eqb-true (out_end (last_segment t.segments)) v.frames (not-false _ c.0) in
       let had : (k : ℕ) → k < length t.segments → micros_of (v.time (segment t k).words.out) v.scale ≡ Is (segment t k).stamps.outstart
       = λ k i. starts-right _ _ (none-refused (start_refusal v) 0 t.segments no_segment d.0 k i) in
@@ -124,56 +121,48 @@ module _ (t : Table) (v : Shown) (N : ℕ) where
         near = near-so (out_end_us (last_segment t.segments)) v.end v.nominal v.scale (not-false _ e.0);
       }
 
-  video-fits : Fits t v N → video_refusal t.segments v ≡ Never
-  unfolding start_refusal
+  video-fits : Fits t v N → video_refusal t.segments v ≡ Ok tt
+  unfolding video_refusal start_refusal when
   video-fits h =
       let g = accepted t N h.checked in
-      let right : (k : ℕ) → k < length t.segments → start_refusal v (segment t k) ≡ 0
+      let right : (k : ℕ) → k < length t.segments → start_refusal v (segment t k) ≡ Ok tt
       = λ k i. ap (λ (x : Held). starts_at x (segment t k).stamps.outstart) (had-time _ _ _ h.scaled (start_fits g k i) (h.starts k i)) ∙ right-starts _ in
-      sym (fits t.segments v h.given h.within h.last (refuses-none (start_refusal v) 0 t.segments no_segment right) (so-near _ _ _ _ h.near))
+      simp (h.given, h.within, eq-eqb _ _ h.last, refuses-none (start_refusal v) 0 t.segments no_segment right, so-near (out_end_us (last_segment t.segments)) v.end v.nominal v.scale h.near)
 
-  pub validated : (validate_of t v ≡ Frames N) ↔ Fits t v N
+  pub validated : (validate_of t v ≡ Ok N) ↔ Fits t v N
   unfolding validate_of
   validated = (
-    (λ e. let a = accepts t N (video_refusal t.segments v) e in fits-video a.0 a.1),
-    (λ h. sym (rest-accepts t h.checked (video-fits h))),
+    (λ e. let a = (both t N (video_refusal t.segments v)).0 e in fits-video a.0 a.1),
+    (λ h. (both t N (video_refusal t.segments v)).1 (h.checked, video-fits h)),
   )
 
 -- a recording's times that leave nothing refused
 module _ (t : Table) (ts : List ℤ) (a b N : ℕ) where
-  times-fit : (r : RecordingTimes) → mcraw_times ts a b ≡ r → check_of t ≡ Frames N → times_refusal t.segments ts r ≡ Never
-      → (refusal_of ts a b ≡ Never) × Fits t (timed (starts_of ts) nanoseconds (end ts) (nominal ts)) N
-  unfolding times_refusal
-  times-fit (Refused n i) e q h = let z : ◌≡◌ {A = ℕ} 0 1 = cc in absurd (omega arith)
-  times-fit (Timed n scale m z) e q h =
-      let c = answers.accepted ts a b n scale m z e in
-      let v : timed (starts_of ts) scale z m ≡ timed (starts_of ts) nanoseconds (end ts) (nominal ts)
-      = λ i. timed (starts_of ts) (c.ticks i) (c.until i) (c.usual i) in
-      (c.unrefused, subst (λ (x : Shown). Fits t x N) v (fits-video t (timed (starts_of ts) scale z m) N q h))
+  times-fit : (r : Result FrameTimes Refusal) → mcraw_times ts a b ≡ r → check_of t ≡ Ok N → times_refusal t.segments ts r ≡ Ok tt
+      → (refusal_of ts a b ≡ Ok tt) × Fits t (timed (starts_of ts) nanoseconds (end ts) (nominal ts)) N
+  unfolding times_refusal mcraw_times times_of
+  times-fit (Err refusal) e q h = absurd (grind arith)
+  times-fit (Ok times) e q h =
+      let o = ok-of (refusal_of ts a b) (times_of ts) times e in
+      (o.0, subst (λ (x : FrameTimes). Fits t (timed (starts_of ts) x.scale x.end x.nominal) N) (sym o.1) (fits-video t (timed (starts_of ts) times.scale times.end times.nominal) N q h))
 
-  times-given : refusal_of ts a b ≡ Never → mcraw_times ts a b ≡ Timed (length ts) nanoseconds (nominal ts) (end ts)
-  unfolding mcraw_times times_unless
-  times-given e = rw e
-
-  fits-recording : check_of t ≡ Frames N → recording_refusal t.sources t.segments ts a b ≡ Never → Recorded t ts a b N
+  fits-recording : check_of t ≡ Ok N → recording_refusal t.sources t.segments ts a b ≡ Ok tt → Recorded t ts a b N
   unfolding recording_refusal when
   fits-recording q h =
       decide (eqb (length ts) 1)
       (λ y. inl (eqb-true (length ts) 1 y, fits-video t (single t.sources t.segments) N q (sym (rw y) ∙ h)))
       (λ y. inr (let f = times-fit (mcraw_times ts a b) refl q (sym (rw y) ∙ h) in (eqb-false (length ts) 1 y, f.0, f.1)))
 
-  recording-fits : Recorded t ts a b N → (check_of t ≡ Frames N) × (recording_refusal t.sources t.segments ts a b ≡ Never)
+  recording-fits : Recorded t ts a b N → (check_of t ≡ Ok N) × (recording_refusal t.sources t.segments ts a b ≡ Ok tt)
+  unfolding recording_refusal times_refusal mcraw_times times_of when
   recording-fits =
       ⊎_elim
-      (λ h. (h.1.checked, sym (one-timestamp t.sources t.segments ts a b h.0) ∙ video-fits t (single t.sources t.segments) N h.1))
-      (λ h. (
-        h.2.checked,
-        sym (by-times t.sources t.segments ts a b h.0 (times-given h.1)) ∙ video-fits t (timed (starts_of ts) nanoseconds (end ts) (nominal ts)) N h.2,
-      ))
+      (λ h. (h.1.checked, rw (eq-eqb (length ts) 1 h.0) (video-fits t (single t.sources t.segments) N h.1)))
+      (λ h. (h.2.checked, rw (ne_eqb (length ts) 1 h.0, h.1) (video-fits t (timed (starts_of ts) nanoseconds (end ts) (nominal ts)) N h.2)))
 
-  pub recorded : (check_mcraw t ts a b ≡ Frames N) ↔ Recorded t ts a b N
+  pub recorded : (check_mcraw t ts a b ≡ Ok N) ↔ Recorded t ts a b N
   unfolding check_mcraw
   recorded = (
-    (λ e. let c = accepts t N (recording_refusal t.sources t.segments ts a b) e in fits-recording c.0 c.1),
-    (λ h. let c = recording-fits h in sym (rest-accepts t c.0 c.1)),
+    (λ e. let c = (both t N (recording_refusal t.sources t.segments ts a b)).0 e in fits-recording c.0 c.1),
+    (λ h. (both t N (recording_refusal t.sources t.segments ts a b)).1 (recording-fits h)),
   )

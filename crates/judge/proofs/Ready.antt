@@ -3,8 +3,8 @@ use mathlib.Core.Path.{◌≡◌, sym, subst}
 use Prim.Native.Nat.{ℕ, ◌-◌}
 use native.Mathlib.Omega.{arith}
 use lib.ListN.{length}
+use Rattle.std.specs.Prelude.{Ok}
 use Rattle.signed.specs.Steps.{I64}
-use Rattle.rules.specs.declared.Checked.TheVariants.{Frames}
 use Rattle.rules.specs.Records.{Table, out_end_us}
 use Rattle.rules.specs.Rules.{check_of}
 use Rattle.rules.proofs.Accepted.{Accepted, accepted}
@@ -17,7 +17,7 @@ end_fits t N g =
     let e = (g.segments (length t.segments - 1) (omega (arith, g.some-segments))).out-time in
     subst I64 (sym e.sum) (omega (arith, e.fits))
 
-pub ready : (t : Table) {N : ℕ} → check_of t ≡ Frames N → Ready t N
+pub ready : (t : Table) {N : ℕ} → check_of t ≡ Ok N → Ready t N
 ready t {N} e =
     let g = accepted t N e in
     record {

@@ -1,9 +1,7 @@
 -- WHAT IT MEANS THAT A TABLE IS ACCEPTED FOR A VIDEO, in document 01's words. It is proved that `validate` accepts exactly the tables that
 -- fit their video, and `check_mcraw` exactly those that are recorded: the contracts of `accepted_tables_fit_their_video` and `accepted_tables_fit_their_recording`.
-use Rattle.std.specs.Prelude.{ℕ, suc, ◌<◌, ◌≡◌, true, false, List, ◌⊎◌, ℤ, pos, nat_abs, ◌+ℤ◌, ◌-ℤ◌, ◌*ℤ◌, length, ◌≤ℤ◌}
-use Rattle.choice.specs.declared.Refusal.TheVariants.{Never}
+use Rattle.std.specs.Prelude.{ℕ, suc, ◌<◌, ◌≡◌, true, false, List, ◌⊎◌, ℤ, pos, nat_abs, ◌+ℤ◌, ◌-ℤ◌, ◌*ℤ◌, length, ◌≤ℤ◌, Ok}
 use Rattle.signed.specs.Rounded.{rounded}
-use Rattle.rules.specs.declared.Checked.TheVariants.{Frames}
 use Rattle.rules.specs.Records.{Table, segment, out_end, out_end_us}
 use Rattle.rules.specs.Rules.{check_of}
 use Rattle.mcraw.specs.Mcraw.{nanoseconds, starts_of, nominal, end, refusal_of}
@@ -12,7 +10,7 @@ use Rattle.judge.specs.Judge.{last_segment, single}
 
 pub record Fits (t : Table) (v : Shown) (N : ℕ) : Type 0 where
   -- refusals 1 to 17 don't hold, and N is the frame total; there is a video, and none of its numbers is over its limit
-  pub checked : check_of t ≡ Frames N
+  pub checked : check_of t ≡ Ok N
   pub given : v.given ≡ true
   pub within : v.over ≡ false
   -- the rows cover the video's frames exactly: from frame 0, each row on from the one before it, to the frame count
@@ -32,4 +30,4 @@ pub record Fits (t : Table) (v : Shown) (N : ℕ) : Type 0 where
 abbrev pub Recorded : Table → List ℤ → ℕ → ℕ → ℕ → Type 0
 Recorded t ts a b N =
     ((length ts ≡ 1) × Fits t (single t.sources t.segments) N)
-    ⊎ ((length ts ≡ 1 → ⊥) × (refusal_of ts a b ≡ Never) × Fits t (timed (starts_of ts) nanoseconds (end ts) (nominal ts)) N)
+    ⊎ ((length ts ≡ 1 → ⊥) × (refusal_of ts a b ≡ Ok tt) × Fits t (timed (starts_of ts) nanoseconds (end ts) (nominal ts)) N)

@@ -1,6 +1,7 @@
 -- DOCUMENT 01'S REFUSALS OF A TABLE BY ITS VIDEO, 20 to 25, AND BY ITS RECORDING, 30 to 35, in its own words and testing order, after rules/specs/Paper.antt.
 -- What `validate` and `check_mcraw` answer is proved right by them: the contracts of `refusals_by_video_are_right` and `refusals_by_recording_are_right`. Products and times are integers here, without bounds.
 use Rattle.std.specs.Prelude.{ℕ, ◌-◌, ◌<◌, ◌^◌, ◌≡◌, List, [], ◌∷◌, ◌++◌, ◌⊎◌, ℤ, pos, nat_abs, neg_ℤ, ◌+ℤ◌, ◌-ℤ◌, ◌*ℤ◌, length, get_or, ◌<ℤ◌, ◌≤ℤ◌}
+use Rattle.refusal.specs.declared.Reason.TheVariants as reason
 use Rattle.signed.specs.Rounded.{rounded}
 use Rattle.ticks.specs.Ticks.{largest_scale}
 use Rattle.rules.specs.declared.Source.{Source}
@@ -54,33 +55,33 @@ Near t v =
 
 -- 23 and 24 of segment k
 abbrev pub of_start : Table → Shown → ℕ → List Test
-of_start t v k = given (NoTime t v k) 23 k ∷ given (OtherStart t v k) 24 k ∷ []
+of_start t v k = given (NoTime t v k) reason.NoFrameTime k ∷ given (OtherStart t v k) reason.OtherFrameTime k ∷ []
 
 -- the tests of a video that is lent so, in testing order; 25: the end isn't near
 abbrev pub video_tests : Table → Video → List ℤ → List Test
 video_tests t video starts =
-    given (NoVideo video) 21 0
-    ∷ given (TooLarge video starts) 20 0
-    ∷ given (OtherCount t (shown_by video starts)) 22 0
+    given (NoVideo video) reason.NoVideo 0
+    ∷ given (TooLarge video starts) reason.TooLarge 0
+    ∷ given (OtherCount t (shown_by video starts)) reason.OtherFrameCount 0
     ∷ (each (of_start t (shown_by video starts)) 0 (length t.segments)
-    ++ (given (Near t (shown_by video starts) → ⊥) 25 0
+    ++ (given (Near t (shown_by video starts) → ⊥) reason.EndNotNear 0
     ∷ []))
 
 -- ---- a recording
 -- 34: timestamps not ascending (equal neighbours are allowed); k is the later one of the pair
 abbrev pub of_pair : List ℤ → ℕ → List Test
-of_pair ts k = given (get_or ts k (pos 0) <ℤ get_or ts (k - 1) (pos 0)) 34 k ∷ []
+of_pair ts k = given (get_or ts k (pos 0) <ℤ get_or ts (k - 1) (pos 0)) reason.Falling k ∷ []
 
 -- its own tests, with room for a starts and b intervals: 30, 31 (few), 34, 33 (span), 32, 31 (nominal), 33 (end), and any 31 becomes 35
 abbrev pub times_tests : List ℤ → ℕ → ℕ → List Test
 times_tests ts a b =
-    given (most_timestamps < length ts) 30 0
-    ∷ given (length ts < 2) 35 0
+    given (most_timestamps < length ts) reason.TooLong 0
+    ∷ given (length ts < 2) reason.NoRecordingTimes 0
     ∷ (each (of_pair ts) 1 (length ts - 1)
-    ++ (given (Beyond (span ts)) 33 0
-    ∷ given ((a < length ts) ⊎ (b < length ts)) 32 0
-    ∷ given (nominal ts ≡ pos 0) 35 0
-    ∷ given (Beyond (end ts)) 33 0
+    ++ (given (Beyond (span ts)) reason.Outside 0
+    ∷ given ((a < length ts) ⊎ (b < length ts)) reason.NoRoom 0
+    ∷ given (nominal ts ≡ pos 0) reason.NoRecordingTimes 0
+    ∷ given (Beyond (end ts)) reason.Outside 0
     ∷ []))
 
 -- these, and then those of the video that its times are

@@ -1,11 +1,10 @@
 // A table against its video, and against a MotionCam recording: as methods of a table in any layout, and as calls on words.
 #![tactic(auto)]
 
-ghost use Rattle.std.specs.Prelude.{◌≡◌, false, List, ◌*◌, ◌<◌, ◌^◌, length, get_or, ℤ, pos, ◌+ℤ◌, ◌↔◌, ℕ};
-ghost use Rattle.choice.specs.Records.{first_refused};
+ghost use Rattle.std.specs.Prelude.{◌≡◌, false, List, ◌*◌, ◌<◌, ◌^◌, length, get_or, ℤ, pos, ◌+ℤ◌, ◌↔◌, ℕ, Ok};
+ghost use Rattle.refusal.specs.Refusals.{first_refused};
 ghost use Rattle.signed.specs.Steps.{I64};
 ghost use Rattle.ticks.specs.Ticks.{micros_of, ends_near};
-ghost use Rattle.rules.specs.declared.Checked.TheVariants.{Frames};
 ghost use Rattle.rules.specs.Records.{Table, segment, frame_total};
 ghost use Rattle.rules.specs.Paper.{Rightly};
 ghost use Rattle.table.specs.Layout.{table_of};
@@ -17,9 +16,8 @@ ghost use Rattle.judge.specs.Paper.{validate_tests, mcraw_tests};
 ghost use Rattle.judge.specs.Steps.{Ready};
 ghost use Rattle.judge.specs.Examples.{WorkedExamples};
 
-use choice::Refusal;
-use mcraw::RecordingTimes;
-use rules::{Checked, Stamps};
+use refusal::{Reason, Refusal};
+use rules::Stamps;
 use signed::Held;
 use table::layout::Segments;
 use table::{SegmentTable, Tabled};
@@ -27,17 +25,6 @@ use wide::Big;
 
 // The most starts.
 pub const MOST_STARTS: usize = 16_777_216;
-
-// The refusals: no video, a frame count that differs, a start that differs, an end that isn't near, a recording without frames.
-pub const NO_VIDEO: u64 = 21;
-
-pub const OTHER_COUNT: u64 = 22;
-
-pub const OTHER_START: u64 = 24;
-
-pub const NOT_NEAR: u64 = 25;
-
-pub const NO_FRAMES: u64 = 35;
 
 // The video that a table is judged by: none; frames at num / den a second; or times in ticks, their starts lent beside it.
 // The Rust's VideoFrames.
@@ -170,15 +157,18 @@ fn is_near(video: Video, starts: &[i64], us: i64) -> bool
     }
 }
 
-// 23 and 24 of a segment that starts at out, of its first frame's time: a number, or 0.
-#[tactic(auto, using(signed::proofs::Bits::back), unfolding(crate::specs::Judge::starts_at))]
-fn starts_at(us: Held, out: i64) -> u64
+// 23 and 24 of a segment that starts at out, of its first frame's time.
+#[tactic(auto, using(signed::proofs::Bits::back), unfolding(crate::specs::Judge::starts_at, choice::specs::Choice::when))]
+fn starts_at(us: Held, out: i64) -> Result<(), Reason>
     ensures { result ≡ starts_at us out }
 {
-    match us {
-        Held::Outside => ticks::NO_TIME,
-        Held::Is(time) => choice::first_of(signed::same(time, out), 0, OTHER_START),
+    let Held::Is(time) = us else {
+        return Err(Reason::NoFrameTime);
+    };
+    if !signed::same(time, out) {
+        return Err(Reason::OtherFrameTime);
     }
+    Ok(())
 }
 
 // 23 and 24 of segment k.
@@ -188,7 +178,7 @@ fn start_refusal_at<S: Segments>(
     k: usize,
     video: Video,
     starts: &[i64],
-) -> u64
+) -> Result<(), Reason>
     requires even { table.now.uneven ≡ false }
     requires inside { k < length table.now.segments }
     requires within { (shown_by video starts.now).over ≡ false }
@@ -199,7 +189,12 @@ fn start_refusal_at<S: Segments>(
 }
 
 // 23 and 24, segment by segment.
-fn first_start<S: Segments>(table: &SegmentTable<'_, S>, video: Video, starts: &[i64]) -> Refusal
+#[tactic(auto, using(table::proofs::Checks::loops))]
+fn first_start<S: Segments>(
+    table: &SegmentTable<'_, S>,
+    video: Video,
+    starts: &[i64],
+) -> Result<(), Refusal>
     requires even { table.now.uneven ≡ false }
     requires within { (shown_by video starts.now).over ≡ false }
     ensures { result ≡ first_refused (start_refusal (shown_by video starts.now)) 0 table.now.segments }
@@ -207,13 +202,12 @@ fn first_start<S: Segments>(table: &SegmentTable<'_, S>, video: Video, starts: &
     let m = table.segment_count();
     let mut k = 0;
     while k < m {
-        let n = start_refusal_at(table, k, video, starts);
-        if n != 0 {
-            return Refusal::At(n, k);
+        if let Err(reason) = start_refusal_at(table, k, video, starts) {
+            return Err(reason.at(k));
         }
         k += 1;
     }
-    Refusal::Never
+    Ok(())
 }
 
 // Where a segment ends in the output.
@@ -225,34 +219,31 @@ fn end_us(stamps: Stamps) -> i64
 }
 
 // 20 to 25 of an accepted table of n frames.
-#[tactic(auto, using(choice::proofs::Tests::tests), unfolding(crate::specs::Judge::video_refusal, choice::specs::Choice::when, choice::specs::Records::or_refused))]
+#[tactic(auto, unfolding(crate::specs::Judge::video_refusal, choice::specs::Choice::when))]
 fn video_refusal<S: Segments>(
     table: &SegmentTable<'_, S>,
     n: u64,
     video: Video,
     starts: &[i64],
-) -> Refusal
+) -> Result<(), Refusal>
     requires { Ready table.now n }
     ensures { result ≡ video_refusal table.now.segments (shown_by video starts.now) }
 {
     let last = table.segment_count() - 1;
     if !is_given(video) {
-        return Refusal::At(NO_VIDEO, 0);
+        return Err(Reason::NoVideo.at(0));
     }
     if is_over(video, starts) {
-        return Refusal::At(ticks::SCALE_OVER, 0);
+        return Err(Reason::TooLarge.at(0));
     }
     if n != frame_count(video, starts) {
-        return Refusal::At(OTHER_COUNT, 0);
+        return Err(Reason::OtherFrameCount.at(0));
     }
-    match first_start(table, video, starts) {
-        Refusal::At(number, index) => return Refusal::At(number, index),
-        Refusal::Never => {}
-    }
+    first_start(table, video, starts)?;
     if !is_near(video, starts, end_us(table.segment(last).stamps)) {
-        return Refusal::At(NOT_NEAR, 0);
+        return Err(Reason::EndNotNear.at(0));
     }
-    Refusal::Never
+    Ok(())
 }
 
 // A recording of one frame, at the rate of segment 0's source.
@@ -272,94 +263,91 @@ fn single_frame<S: Segments>(table: &SegmentTable<'_, S>) -> Video
     }
 }
 
-// 31 as 35, any other number as it is.
+// 31 as 35, any other reason as it is.
 #[tactic(auto, unfolding(crate::specs::Judge::recoded))]
-fn recode(n: u64) -> u64
-    ensures { result ≡ recoded n }
+fn recode(reason: Reason) -> Reason
+    ensures { result ≡ recoded reason }
 {
-    choice::first_of(n == choice::NO_TIMES, NO_FRAMES, n)
+    match reason {
+        Reason::Missing => Reason::NoRecordingTimes,
+        other => other,
+    }
 }
 
 // 20 to 35 of an accepted table of n frames and a recording; the working slices are left as they happen to be.
-#[tactic(auto, using(choice::proofs::Tests::tests), unfolding(crate::specs::Judge::recording_refusal, crate::specs::Judge::times_refusal, choice::specs::Choice::when))]
+#[tactic(auto, unfolding(crate::specs::Judge::recording_refusal, crate::specs::Judge::times_refusal, choice::specs::Choice::when))]
 fn recording_refusal<S: Segments>(
     table: &SegmentTable<'_, S>,
     n: u64,
     timestamps: &[i64],
     a: &mut [i64],
     b: &mut [i64],
-) -> Refusal
+) -> Result<(), Refusal>
     requires { Ready table.now n }
     ensures { result ≡ recording_refusal table.now.sources table.now.segments timestamps.now (length a.old) (length b.old) }
 {
     if timestamps.len() == 1 {
         return video_refusal(table, n, single_frame(table), timestamps);
     }
-    match mcraw::mcraw_times(timestamps, a, b) {
-        RecordingTimes::Refused(number, index) => Refusal::At(recode(number), index),
-        RecordingTimes::Timed {
-            frames,
-            scale,
-            nominal,
-            end,
-        } => {
-            let video = Video::Times {
-                scale,
-                end,
-                nominal,
-            };
-            video_refusal(table, n, video, &a[..frames])
-        }
-    }
+    let answer = mcraw::mcraw_times(timestamps, a, b);
+    let times = answer.map_err(|refusal| recode(refusal.reason).at(refusal.index))?;
+    let video = Video::Times {
+        scale: times.scale,
+        end: times.end,
+        nominal: times.nominal,
+    };
+    video_refusal(table, n, video, &a[..times.frames])
 }
 
 // Judges a table by a recording, and leaves the working slices as they happen to be.
-#[tactic(auto, using(crate::proofs::Ready::ready, crate::proofs::Chains::judged), unfolding(crate::specs::Judge::check_mcraw))]
+#[tactic(auto, using(crate::proofs::Ready::ready), unfolding(crate::specs::Judge::check_mcraw, rules::specs::Rules::check_of))]
 fn judge_recording<S: Segments>(
     table: &SegmentTable<'_, S>,
     timestamps: &[i64],
     a: &mut [i64],
     b: &mut [i64],
-) -> Checked
+) -> Result<u64, Refusal>
     ensures { result ≡ check_mcraw table.now timestamps.now (length a.old) (length b.old) }
 {
-    match table.check() {
-        Checked::Refused(number, index) => Checked::Refused(number, index),
-        Checked::Frames(n) => match recording_refusal(table, n, timestamps, a, b) {
-            Refusal::At(number, index) => Checked::Refused(number, index),
-            Refusal::Never => Checked::Frames(n),
-        },
-    }
+    let frames = table.check()?;
+    recording_refusal(table, frames, timestamps, a, b)?;
+    Ok(frames)
 }
 
-// What judges a table: its frame total, or a refusal's number and index. The Rust's validate and check_mcraw.
+// What judges a table: its frame total, or why it is refused. The Rust's validate and check_mcraw.
 pub trait Judging: Tabled {
     // By the video of its file.
-    fn validate(&self, video: Video, starts: &[i64]) -> Checked
+    fn validate(&self, video: Video, starts: &[i64]) -> Result<u64, Refusal>
         ensures { result ≡ validate_of (Self.table self.now) (shown_by video starts.now) };
 
     // By the timestamps of a MotionCam recording's frames, in nanoseconds. Both working slices are all zero afterwards.
-    fn check_mcraw(&self, timestamps: &[i64], work_a: &mut [i64], work_b: &mut [i64]) -> Checked
+    fn check_mcraw(
+        &self,
+        timestamps: &[i64],
+        work_a: &mut [i64],
+        work_b: &mut [i64],
+    ) -> Result<u64, Refusal>
         ensures { Settled (Self.table self.now) timestamps.now work_a.old work_b.old result work_a.new work_b.new };
 }
 
-#[tactic(auto, using(crate::proofs::Ready::ready, crate::proofs::Chains::judged), unfolding(crate::specs::Judge::validate_of))]
+#[tactic(auto, using(crate::proofs::Ready::ready), unfolding(crate::specs::Judge::validate_of, rules::specs::Rules::check_of))]
 impl<S: Segments> Judging for SegmentTable<'_, S> {
-    fn validate(&self, video: Video, starts: &[i64]) -> Checked {
-        match self.check() {
-            Checked::Refused(number, index) => Checked::Refused(number, index),
-            Checked::Frames(n) => match video_refusal(self, n, video, starts) {
-                Refusal::At(number, index) => Checked::Refused(number, index),
-                Refusal::Never => Checked::Frames(n),
-            },
-        }
+    fn validate(&self, video: Video, starts: &[i64]) -> Result<u64, Refusal> {
+        let frames = self.check()?;
+        video_refusal(self, frames, video, starts)?;
+        Ok(frames)
     }
 
-    fn check_mcraw(&self, timestamps: &[i64], work_a: &mut [i64], work_b: &mut [i64]) -> Checked {
-        let r = judge_recording(self, timestamps, work_a, work_b);
+    fn check_mcraw(
+        &self,
+        timestamps: &[i64],
+        work_a: &mut [i64],
+        work_b: &mut [i64],
+    ) -> Result<u64, Refusal> {
+        let answer = judge_recording(self, timestamps, work_a, work_b);
         slices::clear(work_a);
         slices::clear(work_b);
-        r
+        answer
     }
 }
 
@@ -372,7 +360,7 @@ pub fn validate(
     text: &[u8],
     video: Video,
     starts: &[i64],
-) -> Checked
+) -> Result<u64, Refusal>
     ensures { result ≡ validate_of (table_of sources.now u.now t.now log text.now) (shown_by video starts.now) }
 {
     SegmentTable::of_words(sources, u, t, log, text).validate(video, starts)
@@ -387,7 +375,7 @@ pub fn check_mcraw(
     timestamps: &[i64],
     work_a: &mut [i64],
     work_b: &mut [i64],
-) -> Checked
+) -> Result<u64, Refusal>
     ensures { Settled (table_of sources.now u.now t.now log text.now) timestamps.now work_a.old work_b.old result work_a.new work_b.new }
 {
     SegmentTable::of_words(sources, u, t, log, text).check_mcraw(timestamps, work_a, work_b)
@@ -407,12 +395,12 @@ pub fn refusals_by_recording_are_right()
 
 // A table is accepted for a video, with the video's frames, exactly where it fits it.
 pub fn accepted_tables_fit_their_video()
-    ensures { (t : Table) (v : Shown) (N : ℕ) → (validate_of t v ≡ Frames N) ↔ Fits t v N }
+    ensures { (t : Table) (v : Shown) (N : ℕ) → (validate_of t v ≡ Ok N) ↔ Fits t v N }
 {}
 
 // The same of a recording.
 pub fn accepted_tables_fit_their_recording()
-    ensures { (t : Table) (ts : List ℤ) (a b N : ℕ) → (check_mcraw t ts a b ≡ Frames N) ↔ Recorded t ts a b N }
+    ensures { (t : Table) (ts : List ℤ) (a b N : ℕ) → (check_mcraw t ts a b ≡ Ok N) ↔ Recorded t ts a b N }
 {}
 
 // The definitions give the numbers of specs/Examples.antt.

@@ -9,8 +9,9 @@ ghost use Rattle.table.specs.Layout.{table_of};
 ghost use Rattle.lookup.specs.Steps.{Chained, Timed};
 ghost use Rattle.lookup.specs.Examples.{WorkedExamples};
 
+use refusal::Refusal;
 use rows::halving;
-use rules::{Checked, Continued, Lookup, Segment};
+use rules::Segment;
 use table::layout::Segments;
 use table::{SegmentTable, Tabled};
 
@@ -55,45 +56,41 @@ fn runs_on(p: Segment, e: Segment) -> bool
 // What is looked up in a table. The Rust's segment_of_frame, segment_of_time_us and continues.
 pub trait Lookups: Tabled {
     // The segment that has a frame; past the last frame, the last segment.
-    fn segment_of_frame(&self, frame: u64) -> Lookup
+    fn segment_of_frame(&self, frame: u64) -> Result<usize, Refusal>
         ensures { result ≡ segment_of_frame (Self.table self.now) frame };
 
     // The segment that presents a time: before the first one, the first; past the last, the last.
-    fn segment_of_time_us(&self, time: i64) -> Lookup
+    fn segment_of_time_us(&self, time: i64) -> Result<usize, Refusal>
         ensures { result ≡ segment_of_time (Self.table self.now) time };
 
     // Whether segment r continues the one before it in their source, as one run of it.
-    fn continues(&self, r: usize) -> Continued
+    fn continues(&self, r: usize) -> Result<bool, Refusal>
         ensures { result ≡ continues_at (Self.table self.now) r };
 }
 
 impl<S: Segments> Lookups for SegmentTable<'_, S> {
-    fn segment_of_frame(&self, frame: u64) -> Lookup {
-        match self.check() {
-            Checked::Refused(n, i) => Lookup::NoIndex(n, i),
-            Checked::Frames(_) => Lookup::Index(index_of_frame(self, frame)),
-        }
+    #[tactic(auto, using(crate::proofs::Found::chained), unfolding(rules::specs::Lookups::segment_of_frame))]
+    fn segment_of_frame(&self, frame: u64) -> Result<usize, Refusal> {
+        self.check()?;
+        Ok(index_of_frame(self, frame))
     }
 
-    fn segment_of_time_us(&self, time: i64) -> Lookup {
-        match self.check() {
-            Checked::Refused(n, i) => Lookup::NoIndex(n, i),
-            Checked::Frames(_) => Lookup::Index(index_of_time(self, time)),
-        }
+    #[tactic(auto, unfolding(rules::specs::Lookups::segment_of_time))]
+    fn segment_of_time_us(&self, time: i64) -> Result<usize, Refusal> {
+        self.check()?;
+        Ok(index_of_time(self, time))
     }
 
-    fn continues(&self, r: usize) -> Continued {
-        match self.check() {
-            Checked::Refused(n, i) => return Continued::NoAnswer(n, i),
-            Checked::Frames(_) => {}
-        }
+    #[tactic(auto, using(crate::proofs::Found::chained, crate::proofs::Found::source_sum), unfolding(rules::specs::Lookups::continues_at))]
+    fn continues(&self, r: usize) -> Result<bool, Refusal> {
+        self.check()?;
         if r < 1 {
-            return Continued::Answer(false);
+            return Ok(false);
         }
         if r >= self.segment_count() {
-            return Continued::Answer(false);
+            return Ok(false);
         }
-        Continued::Answer(runs_on(self.segment(r - 1), self.segment(r)))
+        Ok(runs_on(self.segment(r - 1), self.segment(r)))
     }
 }
 
@@ -105,7 +102,7 @@ pub fn segment_of_frame(
     log: bool,
     text: &[u8],
     frame: u64,
-) -> Lookup
+) -> Result<usize, Refusal>
     ensures { result ≡ segment_of_frame (table_of sources.now u.now t.now log text.now) frame }
 {
     SegmentTable::of_words(sources, u, t, log, text).segment_of_frame(frame)
@@ -118,7 +115,7 @@ pub fn segment_of_time_us(
     log: bool,
     text: &[u8],
     time: i64,
-) -> Lookup
+) -> Result<usize, Refusal>
     ensures { result ≡ segment_of_time (table_of sources.now u.now t.now log text.now) time }
 {
     SegmentTable::of_words(sources, u, t, log, text).segment_of_time_us(time)
@@ -131,7 +128,7 @@ pub fn continues(
     log: bool,
     text: &[u8],
     r: usize,
-) -> Continued
+) -> Result<bool, Refusal>
     ensures { result ≡ continues_at (table_of sources.now u.now t.now log text.now) r }
 {
     SegmentTable::of_words(sources, u, t, log, text).continues(r)

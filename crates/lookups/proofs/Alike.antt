@@ -4,18 +4,18 @@ use mathlib.Core.Path.{◌≡◌, ◌∙◌, ap}
 use mathlib.Core.List.{List}
 use lib.ListN.{length}
 use lib.Dec.{ltb}
-use Rattle.choice.specs.declared.Refusal.{Refusal}
-use Rattle.choice.specs.declared.Refusal.TheVariants.{Never, At}
+use Rattle.std.specs.Prelude.{Result, Ok}
+use Rattle.std.specs.Result.{result_and}
 use Rattle.choice.specs.Choice.{when}
-use Rattle.choice.specs.Numbers.{no_room}
-use Rattle.choice.specs.Records.{or_refused}
+use Rattle.refusal.specs.declared.Refusal.{Refusal}
+use Rattle.refusal.specs.declared.Reason.TheVariants as reason
+use Rattle.refusal.specs.Refusals.{refused}
 use Rattle.slices.specs.Slices.{after}
 use Rattle.slices.proofs.Lists.{map_same}
 use Rattle.rules.specs.Records.{Table}
 use Rattle.rules.specs.Absent.{stripped}
 use Rattle.rules.proofs.Ignored.{refusal-stripped, over-stripped, alike}
-use Rattle.lookups.specs.declared.Indexed.{Indexed}
-use Rattle.lookups.specs.Indices.{indices_of, indices_refusal, indexed, Indexing}
+use Rattle.lookups.specs.Indices.{indices_of, indices_refusal, Indexing}
 
 indices-stripped : (frames : List ℕ) (t : Table) → indices_of t frames ≡ indices_of (stripped t) frames
 unfolding indices_of
@@ -23,14 +23,14 @@ indices-stripped frames t = map_same _ _ (λ k. over-stripped k t) frames
 
 room-stripped : (n room : ℕ) (t : Table) → indices_refusal t n room ≡ indices_refusal (stripped t) n room
 unfolding indices_refusal
-room-stripped n room t = λ i. or_refused (refusal-stripped t i) (when (ltb room n) (At no_room 0) Never)
+room-stripped n room t = λ i. result_and (refusal-stripped t i) (when (ltb room n) (refused reason.NoRoom 0) (Ok tt))
 
 -- what segments_of_frames may answer and leave of one of two tables that are stripped alike, it may of the other
-pub indices-alike : (a b : Table) → stripped a ≡ stripped b → (frames out out' : List ℕ) (r : Indexed) → Indexing a frames out r out' → Indexing b frames out r out'
+pub indices-alike : (a b : Table) → stripped a ≡ stripped b → (frames out out' : List ℕ) (r : Result ℕ Refusal) → Indexing a frames out r out' → Indexing b frames out r out'
 indices-alike a b e frames out out' r p =
     let refusals = alike (λ t. indices_refusal t (length frames) (length out)) (room-stripped (length frames) (length out)) a b e in
     let indices = alike (λ t. indices_of t frames) (indices-stripped frames) a b e in
     record {
-      answer = p.answer ∙ ap (λ (x : Refusal). indexed x (length frames)) refusals;
+      answer = p.answer ∙ ap (λ (x : Result (Unit {0}) Refusal). result_and x (Ok (length frames))) refusals;
       indices = p.indices ∙ λ i. after (refusals i) (indices i) out;
     }

@@ -10,16 +10,9 @@ ghost use Rattle.lookups.specs.Indices.{Indexing};
 ghost use Rattle.lookups.specs.Steps.{index_in, piece_end, piece_at, Covers};
 
 use choice::MAX_U64;
-use rules::Checked;
+use refusal::{Reason, Refusal};
 use table::layout::Segments;
 use table::{SegmentTable, Tabled};
-
-// What `segments_of_frames` answers: how many indices it wrote, or a refusal's number and index.
-#[derive(Clone, Copy)]
-pub enum Indexed {
-    Indices(usize),
-    NoIndices(u64, usize),
-}
 
 // Frames of one segment: those from `from` on that come before `end`.
 #[derive(Clone, Copy)]
@@ -108,22 +101,20 @@ fn write_indices<S: Segments>(table: &SegmentTable<'_, S>, frames: &[u64], out: 
 
 // What is looked up in a table for a list of frames.
 pub trait ListLookup: Tabled {
-    // The segment of each frame, into lent room: each index is what `segment_of_frame` answers.
-    fn segments_of_frames(&self, frames: &[u64], out: &mut [u64]) -> Indexed
+    // The segment of each frame, into lent room: each index is what `segment_of_frame` answers. Answers how many there are.
+    fn segments_of_frames(&self, frames: &[u64], out: &mut [u64]) -> Result<usize, Refusal>
         ensures { Indexing (Self.table self.now) frames.now out.old result out.new };
 }
 
+#[tactic(auto, using(lookup::proofs::Found::chained))]
 impl<S: Segments> ListLookup for SegmentTable<'_, S> {
-    fn segments_of_frames(&self, frames: &[u64], out: &mut [u64]) -> Indexed {
-        match self.check() {
-            Checked::Refused(n, i) => return Indexed::NoIndices(n, i),
-            Checked::Frames(_) => {}
-        }
+    fn segments_of_frames(&self, frames: &[u64], out: &mut [u64]) -> Result<usize, Refusal> {
+        self.check()?;
         if out.len() < frames.len() {
-            return Indexed::NoIndices(32, 0);
+            return Err(Reason::NoRoom.at(0));
         }
         write_indices(self, frames, out);
-        Indexed::Indices(frames.len())
+        Ok(frames.len())
     }
 }
 
@@ -136,7 +127,7 @@ pub fn segments_of_frames(
     text: &[u8],
     frames: &[u64],
     out: &mut [u64],
-) -> Indexed
+) -> Result<usize, Refusal>
     ensures { Indexing (table_of sources.now u.now t.now log text.now) frames.now out.old result out.new }
 {
     SegmentTable::of_words(sources, u, t, log, text).segments_of_frames(frames, out)

@@ -1,6 +1,6 @@
 -- Segment records, the words of a lent table that say the same, and the lookup over them.
-use Rattle.std.specs.Prelude.{ℕ, Bool, cond, List, [], ◌∷◌, ◌++◌, ℤ}
-use Rattle.rules.specs.declared.Lookup.{Lookup}
+use Rattle.std.specs.Prelude.{ℕ, Bool, cond, List, [], ◌∷◌, ◌++◌, ℤ, Result}
+use Rattle.refusal.specs.declared.Refusal.{Refusal}
 use Rattle.rules.specs.Lookups.{segment_of_frame}
 use Rattle.table.specs.Layout.{table_of}
 use Rattle.records.specs.declared.TrimSegment.{TrimSegment}
@@ -22,5 +22,5 @@ all_signed [] = []
 all_signed (r ∷ rs) = signed r ++ all_signed rs
 
 -- the lookup over words, of the words of the records
-unfoldable pub locate : List ℕ → List ℕ → List TrimSegment → Bool → ℕ → Lookup
+unfoldable pub locate : List ℕ → List ℕ → List TrimSegment → Bool → ℕ → Result ℕ Refusal
 locate sources text rs log frame = segment_of_frame (table_of sources (all_unsigned rs) (all_signed rs) log text) frame

@@ -7,7 +7,8 @@ ghost use Rattle.records.specs.Records.{all_unsigned, all_signed, locate};
 ghost use Rattle.records.specs.Steps.{segment_of};
 
 use lookup::Lookups;
-use rules::{Lookup, Segment, Stamps, Words};
+use refusal::Refusal;
+use rules::{Segment, Stamps, Words};
 use table::SegmentTable;
 use table::layout::Segments;
 use table::sources::Sources;
@@ -127,7 +128,7 @@ pub fn segment_of_frame_records(
     records: &[TrimSegment],
     log: bool,
     frame: u64,
-) -> Lookup
+) -> Result<usize, Refusal>
     ensures { result ≡ locate sources.now text.now records.now log frame }
 {
     of_records(sources, records, log, text).segment_of_frame(frame)

@@ -10,6 +10,7 @@ use lib.ListN.{length, get_or, take, drop}
 use lib.Dec.{ltb, leb}
 use lib.IntN.{ℤ, pos, negsuc, nat_abs, ◌+ℤ◌}
 use lib.Signed.{◌<ℤ◌, ◌≤ℤ◌}
+use Rattle.std.specs.Prelude.{Ok}
 use borrow.Author.Tests.{ltb-false, leb-false}
 use Rattle.choice.specs.Choice.{max_u64}
 use Rattle.choice.proofs.Tests.{decide, tf}
@@ -17,7 +18,6 @@ use Rattle.signed.specs.Signed.{eq_z}
 use Rattle.signed.proofs.Order.{eq_z-true, eq_z-yes}
 use Rattle.utc.specs.Utc.{utc_second}
 use Rattle.rules.specs.declared.Source.{Source}
-use Rattle.rules.specs.declared.Checked.TheVariants.{Frames}
 use Rattle.rules.specs.Limits.{max_sources, max_segments, max_i64}
 use Rattle.rules.specs.declared.Segment.{Segment}
 use Rattle.rules.specs.Records.{Table, no_segment, source, segment, source_of, out_end, out_end_us, capture_end_us, frame_total}
@@ -188,7 +188,7 @@ ends_at p (e ∷ d ∷ l) h z f =
     ∙ ends_at (out_end e) (d ∷ l) (suc-le-suc zero-le) (f 0 (suc-le-suc (suc-le-suc zero-le))) (λ k b. f (suc k) (suc-le-suc b))
     ∙ omega arith
 
-pub accepted : (t : Table) (N : ℕ) → check_of t ≡ Frames N → Accepted t N
+pub accepted : (t : Table) (N : ℕ) → check_of t ≡ Ok N → Accepted t N
 accepted t N e =
     let r = ((rightly t).accepts N).0 e in
     let n1 = r.0.0 in

@@ -1,30 +1,19 @@
 -- What an answer of the check says of the refusal behind it, and of a chain of tests that goes on after 1 to 17. Assumes nothing.
 use Prim.Native.Nat.{ℕ}
-use native.Mathlib.Omega.{arith}
-use mathlib.Core.Path.{◌≡◌, refl}
-use Rattle.choice.specs.declared.Refusal.{Refusal}
-use Rattle.choice.specs.declared.Refusal.TheVariants.{Never, At}
-use Rattle.choice.specs.Records.{or_refused}
-use Rattle.rules.specs.declared.Checked.TheVariants.{Frames, Refused}
+use mathlib.Core.Path.{◌≡◌}
+use Rattle.std.specs.Prelude.{Result, Ok, Err}
+use Rattle.std.specs.Result.{result_and}
+use Rattle.refusal.specs.declared.Refusal.{Refusal}
+use Rattle.refusal.proofs.Chains.{ok-of, err-of}
 use Rattle.rules.specs.Records.{Table}
-use Rattle.rules.specs.Rules.{refusal, checked_of, check_of}
-
-refused-at : (r : Refusal) (m n i : ℕ) → checked_of r m ≡ Refused n i → r ≡ At n i
-unfolding checked_of
-refused-at Never m n i e = let z : ◌≡◌ {A = ℕ} 0 1 = cc in absurd (omega arith)
-refused-at (At k j) m n i e = cc
-
-pub frames-never : (r : Refusal) (m n : ℕ) → checked_of r m ≡ Frames n → (r ≡ Never) × (m ≡ n)
-unfolding checked_of
-frames-never Never m n e = (refl, cc)
-frames-never (At k j) m n e = let z : ◌≡◌ {A = ℕ} 0 1 = cc in absurd (omega arith)
+use Rattle.rules.specs.Rules.{refusal, check_of}
 
 -- 1 to 17 come first, and where they refuse nothing the rest decides
-module _ (t : Table) (rest : Refusal) where
-  pub check-first : {n i : ℕ} → check_of t ≡ Refused n i → or_refused (refusal t) rest ≡ At n i
-  unfolding check_of or_refused
-  check-first {n} {i} e = rw (refused-at (refusal t) _ n i e)
+module _ (t : Table) {A : Type 0} (rest : Result A Refusal) where
+  pub check-first : {r : Refusal} → check_of t ≡ Err r → result_and (refusal t) rest ≡ Err r
+  unfolding check_of
+  check-first e = rw (err-of (refusal t) _ _ e)
 
-  pub then-rest : {N : ℕ} → check_of t ≡ Frames N → or_refused (refusal t) rest ≡ rest
-  unfolding check_of or_refused
-  then-rest {N} e = rw (frames-never (refusal t) _ N e).0
+  pub then-rest : {N : ℕ} → check_of t ≡ Ok N → result_and (refusal t) rest ≡ rest
+  unfolding check_of
+  then-rest {N} e = rw (ok-of (refusal t) _ N e).0

@@ -9,10 +9,11 @@ use lib.ListN.{length, get_or, take, drop}
 use lib.Dec.{eqb}
 use lib.IntN.{ℤ, pos, nat_abs}
 use lib.Signed.{◌<ℤ◌}
-use Rattle.choice.specs.declared.Refusal.TheVariants.{Never}
+use Rattle.std.specs.Prelude.{Ok}
 use Rattle.choice.specs.Records.{run}
 use Rattle.choice.specs.Choice.{max_u64}
 use Rattle.choice.proofs.Tests.{tf, or-false}
+use Rattle.refusal.specs.declared.Reason.TheVariants as reason
 use Rattle.utc.specs.Utc.{utc_second}
 use Rattle.rules.specs.declared.Ends.{Ends}
 use Rattle.rules.specs.Limits.{max_sources, max_segments}
@@ -22,7 +23,7 @@ use Rattle.rules.specs.Rules.{negative, apart, bad_source, bad_segment, malforme
 use Rattle.rules.specs.Paper.{Test, given, Malformed, OverLimit, of_source, of_segment, each, tests, Rightly, FrameGap, TimeGap, Negative}
 use Rattle.rules.proofs.Turns.{judged-fit}
 use Rattle.rules.proofs.Walks.{not-refused}
-use Rattle.rules.proofs.Conditions.{Number, Agrees, link, front, append, record-first, first-agrees, right}
+use Rattle.rules.proofs.Conditions.{Finds, Agrees, link, front, append, record-first, first-agrees, right}
 use Rattle.rules.proofs.Says.{Says, is, isnt, equal, less, most, passes, either, both, unless, three, some, below, late, gap, outside}
 
 -- a list is the run of its records
@@ -38,14 +39,14 @@ as-run {A} d l = go l 0 (λ k. get_or l k d) (λ k. ap (λ (j : ℕ). get_or l j
         head = ap f (sym (add-zero i)) ∙ q 0
 
 -- ---- a source
-source-number : (t : Table) (k : ℕ) → Number k (source_refusal t.log t.text (source t k)) (of_source t k)
-unfolding source_refusal Number
-source-number t k =
+source-finds : (t : Table) (k : ℕ) → Finds k (source_refusal t.log t.text (source t k)) (of_source t k)
+unfolding source_refusal Finds
+source-finds t k =
     let s = source t k in
-    link 3 k _ _ (three (either (either (equal s.frames 0) (equal s.num 0)) (equal s.den 0)))
-    λ _. link 4 k _ _ (both (equal s.dated 1) (isnt (utc_second (take s.size (drop s.from t.text)))))
-    λ _. link 5 k _ _ (both (unless (equal s.kind 0)) (three (either (either (equal s.ticks 0) (equal s.per 0)) (both (equal s.kind 2) (equal s.modulus 0)))))
-    λ _. link 6 k _ _ (both (is t.log) (equal s.kind 0))
+    link reason.ZeroInSource k _ _ (three (either (either (equal s.frames 0) (equal s.num 0)) (equal s.den 0)))
+    λ _. link reason.BadDate k _ _ (both (equal s.dated 1) (isnt (utc_second (take s.size (drop s.from t.text)))))
+    λ _. link reason.BadClock k _ _ (both (unless (equal s.kind 0)) (three (either (either (equal s.ticks 0) (equal s.per 0)) (both (equal s.kind 2) (equal s.modulus 0)))))
+    λ _. link reason.NoClock k _ _ (both (is t.log) (equal s.kind 0))
     λ _. tt
 
 -- ---- a segment
@@ -101,23 +102,23 @@ time-gap t (suc k) prev p q =
     (gap (segment t k).stamps.outstart (segment t k).stamps.duration (segment t (suc k)).stamps.outstart p.1.outstart p.1.duration q.outstart)
     (gap (segment t k).stamps.outcap (segment t k).stamps.capdur (segment t (suc k)).stamps.outcap p.1.outcap p.1.capdur q.outcap))
 
-segment-number : (t : Table) (k : ℕ) (prev : Ends) → Prev t k prev → Number k (segment_refusal t.sources prev (segment t k)) (of_segment t k)
-unfolding segment_refusal judged stamp_times Number
-segment-number t k prev v =
+segment-finds : (t : Table) (k : ℕ) (prev : Ends) → Prev t k prev → Finds k (segment_refusal t.sources prev (segment t k)) (of_segment t k)
+unfolding segment_refusal judged stamp_times Finds
+segment-finds t k prev v =
     let w = (segment t k).words in
     let e = (segment t k).stamps in
     let s = source_of t.sources (segment t k) in
-    link 8 k _ _ (most (length t.sources) w.source)
-    λ _. link 9 k _ _ (equal w.count 0)
-    λ _. link 10 k _ _ (either (passes w.out w.count max_u64) (passes w.first w.count max_u64))
-    λ _. link 11 k _ _ (passes w.first w.count s.frames)
-    λ _. link 12 k _ _ (negatives (segment t k))
+    link reason.NoSuchSource k _ _ (most (length t.sources) w.source)
+    λ _. link reason.NoFrames k _ _ (equal w.count 0)
+    λ _. link reason.FramesWrap k _ _ (either (passes w.out w.count max_u64) (passes w.first w.count max_u64))
+    λ _. link reason.PastSource k _ _ (passes w.first w.count s.frames)
+    λ _. link reason.NegativeTime k _ _ (negatives (segment t k))
     λ f. let p = positive (segment t k) (untrue _ (negatives (segment t k)) f) in
-    link 13 k _ _ (either (late e.srcstart e.duration p.srcstart p.duration) (late e.srccap e.capdur p.srccap p.capdur))
-    λ _. link 14 k _ _ (frame-gap t k prev v)
-    λ _. link 15 k _ _ (time-gap t k prev v p)
-    λ _. link 13 k _ _ (either (late e.outstart e.duration p.outstart p.duration) (late e.outcap e.capdur p.outcap p.capdur))
-    λ _. link 16 k _ _ (three (either
+    link reason.TooLate k _ _ (either (late e.srcstart e.duration p.srcstart p.duration) (late e.srccap e.capdur p.srccap p.capdur))
+    λ _. link reason.FrameGap k _ _ (frame-gap t k prev v)
+    λ _. link reason.TimeGap k _ _ (time-gap t k prev v p)
+    λ _. link reason.TooLate k _ _ (either (late e.outstart e.duration p.outstart p.duration) (late e.outcap e.capdur p.outcap p.capdur))
+    λ _. link reason.BadShift k _ _ (three (either
     (either (both (equal s.kind 0) (equal w.flag 1)) (both (unless (equal s.kind 0)) (equal w.flag 0)))
     (both (equal s.kind 2) (outside e.shift s.modulus))))
     λ _. tt
@@ -126,7 +127,7 @@ segments-agree : (t : Table) (m i : ℕ) (prev : Ends) → Prev t i prev → Agr
 unfolding segments_from run Agrees Prev
 segments-agree t zero i prev p = tt
 segments-agree t (suc m) i prev p =
-    record-first (segment_refusal t.sources prev (segment t i)) i _ (of_segment t i) (each (of_segment t) (suc i) m) (segment-number t i prev p)
+    record-first (segment_refusal t.sources prev (segment t i)) i _ (of_segment t i) (each (of_segment t) (suc i) m) (segment-finds t i prev p)
     (λ z. segments-agree t m (suc i) (ends (segment t i)) (refl, positive (segment t i) (judged-fit _ _ _ _ (not-refused _ _ _ z).1).positive))
 
 -- ---- the whole
@@ -142,15 +143,15 @@ pub agrees : (t : Table) → Agrees (refusal t) (tests t)
 unfolding refusal front_refusal Prev Agrees
 agrees t =
     let segs = rw (as-run no_segment t.segments) at (segments-agree t (length t.segments) 0 start refl) in
-    let none : Agrees Never [] = tt in
-    let srcs = first-agrees (source_refusal t.log t.text) no_source (of_source t) 0 t.sources (λ k b. subst (λ (j : ℕ). Number j (source_refusal t.log t.text (source t k)) (of_source t j)) (sym (zero-add k)) (source-number t k)) in
-    let eight = front 8 0 _ _ (equal (length t.segments) 0) none in
-    let head = front 1 0 _ _ (malformed-says t)
-    (front 2 0 _ _ (either (less max_sources (length t.sources)) (less max_segments (length t.segments)))
-    (front 3 0 _ _ (equal (length t.sources) 0)
+    let none : Agrees (Ok tt) [] = tt in
+    let srcs = first-agrees (source_refusal t.log t.text) no_source (of_source t) 0 t.sources (λ k b. subst (λ (j : ℕ). Finds j (source_refusal t.log t.text (source t k)) (of_source t j)) (sym (zero-add k)) (source-finds t k)) in
+    let eight = front reason.NoSegments 0 _ _ (equal (length t.segments) 0) none in
+    let head = front reason.Malformed 0 _ _ (malformed-says t)
+    (front reason.OverLimit 0 _ _ (either (less max_sources (length t.sources)) (less max_segments (length t.segments)))
+    (front reason.NoSources 0 _ _ (equal (length t.sources) 0)
     (append _ _ _ _ srcs eight))) in
-    subst (λ (l : List Test). Agrees (refusal t) (given (Malformed t) 1 0 ∷ given (OverLimit t) 2 0 ∷ given (length t.sources ≡ 0) 3 0 ∷ l))
-    (append_assoc (each (of_source t) 0 (length t.sources)) (given (length t.segments ≡ 0) 8 0 ∷ []) (each (of_segment t) 0 (length t.segments)))
+    subst (λ (l : List Test). Agrees (refusal t) (given (Malformed t) reason.Malformed 0 ∷ given (OverLimit t) reason.OverLimit 0 ∷ given (length t.sources ≡ 0) reason.NoSources 0 ∷ l))
+    (append_assoc (each (of_source t) 0 (length t.sources)) (given (length t.segments ≡ 0) reason.NoSegments 0 ∷ []) (each (of_segment t) 0 (length t.segments)))
     (append _ _ _ _ head segs)
 
 -- of every table

@@ -9,12 +9,12 @@ use lib.ListN.{length}
 use lib.IntN.{ℤ, pos, negsuc, nat_abs}
 use mir.Syntax.{w64}
 use mir.Val.{SFits}
+use Rattle.std.specs.Prelude.{Ok}
 use borrow.Author.Tests.{eq-eqb, ne_eqb, eqb-true, eqb-false, ltb-false, leb-false, not-true, not-false}
-use Rattle.choice.specs.declared.Refusal.TheVariants.{Never}
 use Rattle.choice.specs.Choice.{past, max_u64, when}
-use Rattle.choice.specs.Records.{first_refused, or_refused}
 use Rattle.choice.proofs.Tests.{tf, or-false}
-use Rattle.choice.proofs.Chains.{not-past, past-not}
+use Rattle.choice.proofs.Sums.{not-past, past-not}
+use Rattle.refusal.specs.Refusals.{first_refused}
 use Rattle.rules.specs.declared.Source.{Source}
 use Rattle.rules.specs.declared.Words.{Words}
 use Rattle.rules.specs.declared.Ends.{Ends}
@@ -52,7 +52,7 @@ pub short : (x : ℤ) → SFits w64 x → negative x ≡ false → nat_abs x ≤
 short (pos n) f t = let h : n < 2 ^ 63 = f.sfits in omega arith
 short (negsuc n) f t = let z : ◌≡◌ {A = ℕ} 0 1 = cc in absurd (omega arith)
 
--- and what each of their tests would find
+-- and what each test of a flag and a shift would find
 module _ (kind modulus flag : ℕ) (shift : ℤ) (f : FineShift kind modulus flag shift) where
   few : flag ≤ 1
   few = ltb-false 1 flag f.flagged
@@ -119,8 +119,8 @@ plain-source log text s e l a b c =
 
 -- none of 2 to 8 refuses
 pub front-none : (log : Bool) (text : List ℕ) (srcs : List Source) (n : ℕ) → over_limit (length srcs) n ≡ false → eqb (length srcs) 0 || eqb n 0 ≡ false
-    → Never ≡ first_refused (source_refusal log text) 0 srcs → front_refusal log text srcs false n ≡ Never
-unfolding front_refusal when or_refused
+    → Ok tt ≡ first_refused (source_refusal log text) 0 srcs → front_refusal log text srcs false n ≡ Ok tt
+unfolding front_refusal when
 front-none log text srcs n o e f =
     let x = or-false (eqb (length srcs) 0) (eqb n 0) e in
     rw (o, x.0, ← f, x.1)

@@ -8,15 +8,20 @@ use lib.ListN.{length, get_or, length-map, get_or-map}
 use lib.Dec.{eqb, leb, ltb}
 use lib.IntN.{ℤ, pos, nat_abs}
 use borrow.Author.Tests.{eqb-true, ne_eqb}
+use Rattle.std.specs.Prelude.{Result, Ok, Err}
+use Rattle.std.specs.Result.{result_and}
 use Rattle.choice.specs.Choice.{when}
-use Rattle.choice.specs.Records.{any, first_refused, or_refused}
+use Rattle.choice.specs.Records.{any}
 use Rattle.choice.proofs.Tests.{decide}
+use Rattle.refusal.specs.declared.Reason.{Reason}
+use Rattle.refusal.specs.declared.Reason.TheVariants as reason
+use Rattle.refusal.specs.Refusals.{first_refused}
 use Rattle.rules.specs.declared.Source.{Source}
 use Rattle.rules.specs.declared.Ends.{Ends}
 use Rattle.rules.specs.declared.Segment.{Segment}
 use Rattle.rules.specs.Records.{Table, no_source, no_segment, segment, source_of, frame_total}
-use Rattle.rules.specs.Rules.{negative, bad_words, bad_source, bad_segment, malformed, bad_date, bad_clock, bad_shift, source_refusal, stamp_times, judged, segment_refusal, start, ends_of, ends, segments_from, front_refusal, refusal, checked_of, check_of}
-use Rattle.rules.specs.Lookups.{count_such, ended, over_by, over_by_us, looked_up, segment_of_frame, segment_of_time, same_shift, segment_runs_on, continued, continues_at}
+use Rattle.rules.specs.Rules.{negative, bad_words, bad_source, bad_segment, malformed, bad_date, bad_clock, bad_shift, source_refusal, stamp_times, judged, segment_refusal, start, ends_of, ends, segments_from, front_refusal, refusal, check_of}
+use Rattle.rules.specs.Lookups.{count_such, ended, over_by, over_by_us, segment_of_frame, segment_of_time, same_shift, segment_runs_on, continues_at}
 use Rattle.rules.specs.Absent.{stripped_source, stripped_segment, stripped}
 
 -- ---- lists of records that are changed where no one looks
@@ -30,7 +35,7 @@ unfolding count_such
 count_map p f [] h = refl
 count_map p f (a ∷ l) h = rw (h a, count_map p f l h)
 
-pub first-map : {A : Type 0} (g : A → ℕ) (f : A → A) (i : ℕ) (l : List A) → ((a : A) → g (f a) ≡ g a) → first_refused g i (map f l) ≡ first_refused g i l
+pub first-map : {A : Type 0} (g : A → Result (Unit {0}) Reason) (f : A → A) (i : ℕ) (l : List A) → ((a : A) → g (f a) ≡ g a) → first_refused g i (map f l) ≡ first_refused g i l
 unfolding first_refused
 first-map g f i [] h = refl
 first-map g f i (a ∷ l) h = rw (h a, first-map g f (suc i) l h)
@@ -92,7 +97,7 @@ segment-at l k = ap (get_or (map stripped_segment l) k) (sym no-segment) ∙ get
 segment-stripped : (srcs : List Source) (prev : Ends) (e : Segment) → segment_refusal (map stripped_source srcs) prev (stripped_segment e) ≡ segment_refusal srcs prev e
 unfolding segment_refusal stripped_segment
 segment-stripped srcs prev e =
-    rw (length-map srcs stripped_source) (ap (when (leb (length srcs) e.words.source) 9) (rest srcs prev e))
+    rw (length-map srcs stripped_source) (ap (when (leb (length srcs) e.words.source) (Err reason.NoSuchSource)) (rest srcs prev e))
   where
     rest : (srcs : List Source) (prev : Ends) (e : Segment) → judged (get_or (map stripped_source srcs) (stripped_segment e).words.source no_source) prev (stripped_segment e).words (stamp_times (stripped_segment e).stamps) ≡ judged (source_of srcs e) prev e.words (stamp_times e.stamps)
     rest srcs prev e = rw (source-at srcs e.words.source) (judged-stripped (source_of srcs e) prev e)
@@ -128,7 +133,7 @@ front-stripped log text srcs bad n = rw (length-map srcs stripped_source, first-
 
 pub refusal-stripped : (t : Table) → refusal t ≡ refusal (stripped t)
 unfolding refusal stripped
-refusal-stripped t = sym λ i. or_refused (first i) (segments-stripped t.sources 0 start t.segments i)
+refusal-stripped t = sym λ i. result_and (first i) (segments-stripped t.sources 0 start t.segments i)
   where
     first :
         front_refusal t.log t.text (map stripped_source t.sources) (malformed (stripped t)) (length (map stripped_segment t.segments))
@@ -139,7 +144,7 @@ refusal-stripped t = sym λ i. or_refused (first i) (segments-stripped t.sources
 
 pub check-stripped : (t : Table) → check_of t ≡ check_of (stripped t)
 unfolding check_of stripped
-check-stripped t = λ i. checked_of (refusal-stripped t i) (sym (total-stripped t.segments) i)
+check-stripped t = λ i. result_and (refusal-stripped t i) (Ok (sym (total-stripped t.segments) i))
 
 ended-stripped : (p : Segment → Bool) (l : List Segment) → ((e : Segment) → p (stripped_segment e) ≡ p e) → ended p l ≡ ended p (map stripped_segment l)
 unfolding ended
@@ -162,15 +167,15 @@ over-stripped k t = ended-stripped (over_by k) t.segments (λ e. refl)
 
 pub frame-stripped : (k : ℕ) (t : Table) → segment_of_frame t k ≡ segment_of_frame (stripped t) k
 unfolding segment_of_frame
-frame-stripped k t = λ i. looked_up (check-stripped t i) (over-stripped k t i)
+frame-stripped k t = λ i. result_and (check-stripped t i) (Ok (over-stripped k t i))
 
 pub time-stripped : (z : ℤ) (t : Table) → segment_of_time t z ≡ segment_of_time (stripped t) z
 unfolding segment_of_time stripped stripped_segment
-time-stripped z t = λ i. looked_up (check-stripped t i) (ended-stripped (over_by_us z) t.segments (λ e. refl) i)
+time-stripped z t = λ i. result_and (check-stripped t i) (Ok (ended-stripped (over_by_us z) t.segments (λ e. refl) i))
 
 pub continues-stripped : (r : ℕ) (t : Table) → continues_at t r ≡ continues_at (stripped t) r
 unfolding continues_at stripped stripped_segment
-continues-stripped r t = λ i. continued (check-stripped t i) (asked i)
+continues-stripped r t = λ i. result_and (check-stripped t i) (Ok (asked i))
   where
     asked : ((leb 1 r && ltb r (length t.segments)) && segment_runs_on (segment t (r - 1)) (segment t r))
         ≡ ((leb 1 r && ltb r (length (map stripped_segment t.segments))) && segment_runs_on (segment (stripped t) (r - 1)) (segment (stripped t) r))

@@ -1,5 +1,4 @@
 pub mod Dates
-mod Chain
 pub mod Turns
 pub mod Signs
 pub mod Fine

@@ -1,14 +1,10 @@
 -- What is asked of an accepted table: the segment of a frame or time, and whether a segment continues the one before. Each checks first.
-use Rattle.std.specs.Prelude.{ℕ, suc, ◌+◌, ◌-◌, min, Bool, ◌&&◌, ◌||◌, List, [], ◌∷◌, length, leb, ltb, eqb, ℤ}
+use Rattle.std.specs.Prelude.{ℕ, suc, ◌+◌, ◌-◌, min, Bool, ◌&&◌, ◌||◌, List, [], ◌∷◌, length, leb, ltb, eqb, ℤ, Result, Ok}
+use Rattle.std.specs.Result.{result_and}
 use Rattle.std.specs.Int.Signed.{le_z}
 use Rattle.choice.specs.Choice.{when}
+use Rattle.refusal.specs.declared.Refusal.{Refusal}
 use Rattle.signed.specs.Signed.{eq_z}
-use Rattle.rules.specs.declared.Checked.{Checked}
-use Rattle.rules.specs.declared.Checked.TheVariants.{Frames, Refused}
-use Rattle.rules.specs.declared.Lookup.{Lookup}
-use Rattle.rules.specs.declared.Lookup.TheVariants.{Index, NoIndex}
-use Rattle.rules.specs.declared.Continued.{Continued}
-use Rattle.rules.specs.declared.Continued.TheVariants.{Answer, NoAnswer}
 use Rattle.rules.specs.declared.Segment.{Segment}
 use Rattle.rules.specs.Records.{Table, segment, out_end, out_end_us}
 use Rattle.rules.specs.Rules.{check_of}
@@ -29,18 +25,13 @@ over_by frame e = leb (out_end e) frame
 abbrev pub over_by_us : ℤ → Segment → Bool
 over_by_us time e = le_z (out_end_us e) time
 
--- segment k, where the table is accepted
-unfoldable pub looked_up : Checked → ℕ → Lookup
-looked_up (Frames n) k = Index k
-looked_up (Refused n i) k = NoIndex n i
-
 -- the Rust's segment_of_frame: the number of segments whose end is at most the frame
-unfoldable pub segment_of_frame : Table → ℕ → Lookup
-segment_of_frame t frame = looked_up (check_of t) (ended (over_by frame) t.segments)
+unfoldable pub segment_of_frame : Table → ℕ → Result ℕ Refusal
+segment_of_frame t frame = result_and (check_of t) (Ok (ended (over_by frame) t.segments))
 
 -- its segment_of_time_us: the same with end times
-unfoldable pub segment_of_time : Table → ℤ → Lookup
-segment_of_time t time = looked_up (check_of t) (ended (over_by_us time) t.segments)
+unfoldable pub segment_of_time : Table → ℤ → Result ℕ Refusal
+segment_of_time t time = result_and (check_of t) (Ok (ended (over_by_us time) t.segments))
 
 -- shifts are equal: both absent, or both present and the same
 abbrev pub same_shift : ℕ → ℤ → ℕ → ℤ → Bool
@@ -52,11 +43,6 @@ segment_runs_on p e =
     (eqb p.words.source e.words.source && eqb (p.words.first + p.words.count) e.words.first)
     && same_shift p.words.flag p.stamps.shift e.words.flag e.stamps.shift
 
--- b, where the table is accepted
-unfoldable pub continued : Checked → Bool → Continued
-continued (Frames n) b = Answer b
-continued (Refused n i) b = NoAnswer n i
-
 -- the Rust's continues at r: r >= 1, r exists, and it continues the one before
-unfoldable pub continues_at : Table → ℕ → Continued
-continues_at t r = continued (check_of t) ((leb 1 r && ltb r (length t.segments)) && segment_runs_on (segment t (r - 1)) (segment t r))
+unfoldable pub continues_at : Table → ℕ → Result Bool Refusal
+continues_at t r = result_and (check_of t) (Ok ((leb 1 r && ltb r (length t.segments)) && segment_runs_on (segment t (r - 1)) (segment t r)))

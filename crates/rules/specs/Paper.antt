@@ -1,11 +1,14 @@
--- DOCUMENT 01'S TABLE OF REFUSALS, 1 to 17, in its own words: what each condition says of the records, and the order in which they are tested.
+-- DOCUMENT 01'S TABLE OF REFUSALS, 1 to 17, in its own words: what each condition says of the records, and the order in which they are tested. Each reason's number is
+-- that of refusal/specs/Reasons.antt.
 -- Of every table what `check` answers is proved right by them, as the contract of `refusals_are_right`. Sums of times are integers here, without bounds.
-use Rattle.std.specs.Prelude.{ℕ, zero, suc, ◌+◌, ◌≤◌, ◌<◌, ◌≡◌, Bool, true, false, List, [], ◌∷◌, ◌++◌, ◌⊎◌, ◌↔◌, length, get_or, take, drop, pos, ◌+ℤ◌, ◌<ℤ◌, ◌≤ℤ◌}
+use Rattle.std.specs.Prelude.{ℕ, zero, suc, ◌+◌, ◌≤◌, ◌<◌, ◌≡◌, Bool, true, false, List, [], ◌∷◌, ◌++◌, ◌⊎◌, ◌↔◌, length, get_or, take, drop, pos, ◌+ℤ◌, ◌<ℤ◌, ◌≤ℤ◌, Result, Ok}
 use Rattle.choice.specs.Choice.{max_u64}
+use Rattle.refusal.specs.declared.Reason.{Reason}
+use Rattle.refusal.specs.declared.Reason.TheVariants as reason
+use Rattle.refusal.specs.declared.Refusal.{Refusal}
+use Rattle.refusal.specs.Refusals.{refused}
 use Rattle.utc.specs.Utc.{utc_second}
 use Rattle.rules.specs.declared.Source.{Source}
-use Rattle.rules.specs.declared.Checked.{Checked}
-use Rattle.rules.specs.declared.Checked.TheVariants.{Frames, Refused}
 use Rattle.rules.specs.Limits.{max_sources, max_segments, max_i64}
 use Rattle.rules.specs.declared.Segment.{Segment}
 use Rattle.rules.specs.Records.{Table, no_source, no_segment, source, segment, source_of, out_end, out_end_us, capture_end_us}
@@ -27,8 +30,8 @@ abbrev pub OverLimit : Table → Type 0
 OverLimit t = (max_sources < length t.sources) ⊎ (max_segments < length t.segments)
 
 -- 4: frames, or either fps number, is 0
-abbrev pub NoRate : Source → Type 0
-NoRate s = (s.frames ≡ 0) ⊎ (s.num ≡ 0) ⊎ (s.den ≡ 0)
+abbrev pub ZeroInSource : Source → Type 0
+ZeroInSource s = (s.frames ≡ 0) ⊎ (s.num ≡ 0) ⊎ (s.den ≡ 0)
 
 -- 5: its creation time fails the UTC rule
 abbrev pub NotUtc : List ℕ → Source → Type 0
@@ -81,38 +84,38 @@ BadShift s e =
     ⊎ ((s.kind ≡ 0 → ⊥) × (e.words.flag ≡ 0))
     ⊎ ((s.kind ≡ 2) × ((e.stamps.shift <ℤ pos 0) ⊎ (pos s.modulus ≤ℤ e.stamps.shift)))
 
--- a condition, with the number and index of its refusal
+-- a condition, with the reason and index of its refusal
 pub record Test : Type 1 where
   pub holds : Type 0
-  pub number : ℕ
+  pub reason : Reason
   pub index : ℕ
 
--- condition C is refused with n at i
-abbrev pub given : Type 0 → ℕ → ℕ → Test
-given C n i = record { holds = C; number = n; index = i }
+-- condition C is refused for a reason, at i
+abbrev pub given : Type 0 → Reason → ℕ → Test
+given C why i = record { holds = C; reason = why; index = i }
 
 -- 4 to 7 of source k
 abbrev pub of_source : Table → ℕ → List Test
 of_source t k =
-    given (NoRate (source t k)) 4 k
-    ∷ given (NotUtc t.text (source t k)) 5 k
-    ∷ given (BadClock (source t k)) 6 k
-    ∷ given (NoClock t.log (source t k)) 7 k
+    given (ZeroInSource (source t k)) reason.ZeroInSource k
+    ∷ given (NotUtc t.text (source t k)) reason.BadDate k
+    ∷ given (BadClock (source t k)) reason.BadClock k
+    ∷ given (NoClock t.log (source t k)) reason.NoClock k
     ∷ []
 
 -- 9 to 17 of segment k; 9: no such source, 10: frame_count 0, 12: source end past the source's frames
 abbrev pub of_segment : Table → ℕ → List Test
 of_segment t k =
-    given (length t.sources ≤ (segment t k).words.source) 9 k
-    ∷ given ((segment t k).words.count ≡ 0) 10 k
-    ∷ given (Wraps (segment t k)) 11 k
-    ∷ given ((source_of t.sources (segment t k)).frames < (segment t k).words.first + (segment t k).words.count) 12 k
-    ∷ given (Negative (segment t k)) 13 k
-    ∷ given (SourceLate (segment t k)) 14 k
-    ∷ given (FrameGap t k) 15 k
-    ∷ given (TimeGap t k) 16 k
-    ∷ given (OutLate (segment t k)) 14 k
-    ∷ given (BadShift (source_of t.sources (segment t k)) (segment t k)) 17 k
+    given (length t.sources ≤ (segment t k).words.source) reason.NoSuchSource k
+    ∷ given ((segment t k).words.count ≡ 0) reason.NoFrames k
+    ∷ given (Wraps (segment t k)) reason.FramesWrap k
+    ∷ given ((source_of t.sources (segment t k)).frames < (segment t k).words.first + (segment t k).words.count) reason.PastSource k
+    ∷ given (Negative (segment t k)) reason.NegativeTime k
+    ∷ given (SourceLate (segment t k)) reason.TooLate k
+    ∷ given (FrameGap t k) reason.FrameGap k
+    ∷ given (TimeGap t k) reason.TimeGap k
+    ∷ given (OutLate (segment t k)) reason.TooLate k
+    ∷ given (BadShift (source_of t.sources (segment t k)) (segment t k)) reason.BadShift k
     ∷ []
 
 -- the tests of n records, the i-th first
@@ -123,25 +126,25 @@ each f i (suc n) = f i ++ each f (suc i) n
 -- all tests, in testing order; 3: no sources, 8: no segments
 abbrev pub tests : Table → List Test
 tests t =
-    given (Malformed t) 1 0
-    ∷ given (OverLimit t) 2 0
-    ∷ given (length t.sources ≡ 0) 3 0
+    given (Malformed t) reason.Malformed 0
+    ∷ given (OverLimit t) reason.OverLimit 0
+    ∷ given (length t.sources ≡ 0) reason.NoSources 0
     ∷ (each (of_source t) 0 (length t.sources)
-    ++ (given (length t.segments ≡ 0) 8 0
+    ++ (given (length t.segments ≡ 0) reason.NoSegments 0
     ∷ each (of_segment t) 0 (length t.segments)))
 
--- condition n holds at i, and none that is tested before it does
-abbrev pub First : List Test → ℕ → ℕ → Type 0
-First [] n i = ⊥
-First (c ∷ l) n i = (c.holds × (n ≡ c.number) × (i ≡ c.index)) ⊎ ((c.holds → ⊥) × First l n i)
+-- the condition of a reason holds at i, and none that is tested before it does
+abbrev pub First : List Test → Reason → ℕ → Type 0
+First [] why i = ⊥
+First (c ∷ l) why i = (c.holds × (why ≡ c.reason) × (i ≡ c.index)) ⊎ ((c.holds → ⊥) × First l why i)
 
 -- none holds
 abbrev pub None : List Test → Type 0
 None [] = Unit
 None (c ∷ l) = (c.holds → ⊥) × None l
 
--- r is right by the conditions of l, where the segments have so many frames in total: it refuses with n at i exactly when condition n holds there and none that is
--- tested before it does, and accepts with the total exactly when none holds
-pub record Rightly (r : Checked) (l : List Test) (total : ℕ) : Type 0 where
-  pub refuses : (n i : ℕ) → (r ≡ Refused n i) ↔ First l n i
-  pub accepts : (N : ℕ) → (r ≡ Frames N) ↔ (None l × (N ≡ total))
+-- r is right by the conditions of l, where the segments have so many frames in total: it refuses for a reason at i exactly when that reason's condition holds there and
+-- none that is tested before it does, and accepts with the total exactly when none holds
+pub record Rightly (r : Result ℕ Refusal) (l : List Test) (total : ℕ) : Type 0 where
+  pub refuses : (why : Reason) (i : ℕ) → (r ≡ refused why i) ↔ First l why i
+  pub accepts : (N : ℕ) → (r ≡ Ok N) ↔ (None l × (N ≡ total))

@@ -1,18 +1,19 @@
 -- Document 01's refusals 1 to 17, in testing order, over records: no word of this file knows how a table is lent.
 -- 1, 2, 3; 4 to 7 source by source; 8; 9 to 17 segment by segment. The index is the source in 4 to 7, the segment in 9 to 17, else 0.
-use Rattle.std.specs.Prelude.{ℕ, suc, ◌+◌, List, [], ◌∷◌, Bool, true, false, not, ◌||◌, ◌&&◌, length, take, drop, ltb, leb, eqb, ℤ, pos, nat_abs}
+use Rattle.std.specs.Prelude.{ℕ, suc, ◌+◌, List, [], ◌∷◌, Bool, true, false, not, ◌||◌, ◌&&◌, length, take, drop, ltb, leb, eqb, ℤ, pos, nat_abs, Result, Ok, Err}
+use Rattle.std.specs.Result.{result_and}
 use Rattle.std.specs.Int.Signed.{lt_z}
-use Rattle.choice.specs.declared.Refusal.{Refusal}
-use Rattle.choice.specs.declared.Refusal.TheVariants.{Never, At}
+use Rattle.refusal.specs.declared.Reason.{Reason}
+use Rattle.refusal.specs.declared.Reason.TheVariants as reason
+use Rattle.refusal.specs.declared.Refusal.{Refusal}
+use Rattle.refusal.specs.Refusals.{refused, indexed, first_refused}
 use Rattle.choice.specs.Choice.{when, past, max_u64}
-use Rattle.choice.specs.Records.{any, first_refused, or_refused}
+use Rattle.choice.specs.Records.{any}
 use Rattle.utc.specs.Utc.{utc_second}
 use Rattle.rules.specs.declared.Source.{Source}
 use Rattle.rules.specs.declared.Words.{Words}
 use Rattle.rules.specs.declared.SixTimes.{SixTimes}
 use Rattle.rules.specs.declared.Ends.{Ends}
-use Rattle.rules.specs.declared.Checked.{Checked}
-use Rattle.rules.specs.declared.Checked.TheVariants.{Frames, Refused}
 use Rattle.rules.specs.Limits.{max_sources, max_segments, max_i64}
 use Rattle.rules.specs.declared.Stamps.{Stamps}
 use Rattle.rules.specs.declared.Segment.{Segment}
@@ -38,8 +39,8 @@ abbrev pub over_limit : ℕ → ℕ → Bool
 over_limit srcs segs = ltb max_sources srcs || ltb max_segments segs
 
 -- 4: frames, or either fps number, is 0
-abbrev pub no_rate : ℕ → ℕ → ℕ → Bool
-no_rate frames num den = (eqb frames 0 || eqb num 0) || eqb den 0
+abbrev pub zero_in_source : ℕ → ℕ → ℕ → Bool
+zero_in_source frames num den = (eqb frames 0 || eqb num 0) || eqb den 0
 
 -- 5: its creation time fails the UTC rule
 abbrev pub bad_date : List ℕ → ℕ → ℕ → ℕ → Bool
@@ -50,13 +51,13 @@ abbrev pub bad_clock : ℕ → ℕ → ℕ → ℕ → Bool
 bad_clock kind ticks per modulus = not (eqb kind 0) && ((eqb ticks 0 || eqb per 0) || (eqb kind 2 && eqb modulus 0))
 
 -- 4 to 7 of a source; 7: a log is named and it has no clock
-unfoldable pub source_refusal : Bool → List ℕ → Source → ℕ
+unfoldable pub source_refusal : Bool → List ℕ → Source → Result (Unit {0}) Reason
 source_refusal log text s =
-    when (no_rate s.frames s.num s.den) 4
-    (when (bad_date text s.dated s.from s.size) 5
-    (when (bad_clock s.kind s.ticks s.per s.modulus) 6
-    (when (log && eqb s.kind 0) 7
-    0)))
+    when (zero_in_source s.frames s.num s.den) (Err reason.ZeroInSource)
+    (when (bad_date text s.dated s.from s.size) (Err reason.BadDate)
+    (when (bad_clock s.kind s.ticks s.per s.modulus) (Err reason.BadClock)
+    (when (log && eqb s.kind 0) (Err reason.NoClock)
+    (Ok tt))))
 
 -- below 0
 abbrev pub negative : ℤ → Bool
@@ -94,23 +95,23 @@ bad_shift kind modulus flag back shift =
 -- 10 to 17 of a segment of the source s, after one that ends at prev
 -- 10: frame_count 0. 11: out or src first frame plus count passes 2^64 - 1. 12: source end past the source's frames.
 -- 13: any of the six times negative. 14: of the source pairs; after 16, of the out pairs. 15: out_first_frame isn't the end before
-unfoldable pub judged : Source → Ends → Words → SixTimes → ℕ
+unfoldable pub judged : Source → Ends → Words → SixTimes → Result (Unit {0}) Reason
 judged s prev w t =
-    when (eqb w.count 0) 10
-    (when (past w.out w.count max_u64 || past w.first w.count max_u64) 11
-    (when (past w.first w.count s.frames) 12
-    (when t.negative 13
-    (when (too_late t.srcstart t.duration t.srccap t.capdur) 14
-    (when (not (eqb w.out prev.frame)) 15
-    (when (apart prev.some prev.time prev.capture t.outstart t.outcap) 16
-    (when (too_late t.outstart t.duration t.outcap t.capdur) 14
-    (when (bad_shift s.kind s.modulus w.flag t.back t.shift) 17
-    0))))))))
+    when (eqb w.count 0) (Err reason.NoFrames)
+    (when (past w.out w.count max_u64 || past w.first w.count max_u64) (Err reason.FramesWrap)
+    (when (past w.first w.count s.frames) (Err reason.PastSource)
+    (when t.negative (Err reason.NegativeTime)
+    (when (too_late t.srcstart t.duration t.srccap t.capdur) (Err reason.TooLate)
+    (when (not (eqb w.out prev.frame)) (Err reason.FrameGap)
+    (when (apart prev.some prev.time prev.capture t.outstart t.outcap) (Err reason.TimeGap)
+    (when (too_late t.outstart t.duration t.outcap t.capdur) (Err reason.TooLate)
+    (when (bad_shift s.kind s.modulus w.flag t.back t.shift) (Err reason.BadShift)
+    (Ok tt)))))))))
 
 -- 9 to 17 of a segment; 9: no such source
-unfoldable pub segment_refusal : List Source → Ends → Segment → ℕ
+unfoldable pub segment_refusal : List Source → Ends → Segment → Result (Unit {0}) Reason
 segment_refusal srcs prev e =
-    when (leb (length srcs) e.words.source) 9
+    when (leb (length srcs) e.words.source) (Err reason.NoSuchSource)
     (judged (source_of srcs e) prev e.words (stamp_times e.stamps))
 
 -- before the first segment: frame 0, and no times
@@ -126,32 +127,26 @@ unfoldable pub ends : Segment → Ends
 ends e = ends_of e.words (stamp_times e.stamps)
 
 -- 9 to 17, segment by segment from the i-th on, after one that ends at prev
-unfoldable pub segments_from : List Source → ℕ → Ends → List Segment → Refusal
-segments_from srcs i prev [] = Never
-segments_from srcs i prev (e ∷ es) =
-    when (eqb (segment_refusal srcs prev e) 0) (segments_from srcs (suc i) (ends e) es) (At (segment_refusal srcs prev e) i)
+unfoldable pub segments_from : List Source → ℕ → Ends → List Segment → Result (Unit {0}) Refusal
+segments_from srcs i prev [] = Ok tt
+segments_from srcs i prev (e ∷ es) = result_and (indexed i (segment_refusal srcs prev e)) (segments_from srcs (suc i) (ends e) es)
 
 -- 1 to 8, where `bad` says whether 1 holds and n segments are lent; 3: no sources; 8: no segments
-unfoldable pub front_refusal : Bool → List ℕ → List Source → Bool → ℕ → Refusal
+unfoldable pub front_refusal : Bool → List ℕ → List Source → Bool → ℕ → Result (Unit {0}) Refusal
 front_refusal log text srcs bad n =
-    when bad (At 1 0)
-    (when (over_limit (length srcs) n) (At 2 0)
-    (when (eqb (length srcs) 0) (At 3 0)
-    (or_refused (first_refused (source_refusal log text) 0 srcs)
-    (when (eqb n 0) (At 8 0)
-    Never))))
+    when bad (refused reason.Malformed 0)
+    (when (over_limit (length srcs) n) (refused reason.OverLimit 0)
+    (when (eqb (length srcs) 0) (refused reason.NoSources 0)
+    (result_and (first_refused (source_refusal log text) 0 srcs)
+    (when (eqb n 0) (refused reason.NoSegments 0)
+    (Ok tt)))))
 
 -- 1 to 17
-unfoldable pub refusal : Table → Refusal
+unfoldable pub refusal : Table → Result (Unit {0}) Refusal
 refusal t =
-    or_refused (front_refusal t.log t.text t.sources (malformed t) (length t.segments))
+    result_and (front_refusal t.log t.text t.sources (malformed t) (length t.segments))
     (segments_from t.sources 0 start t.segments)
 
--- a refusal, or the n frames of a table that has none
-unfoldable pub checked_of : Refusal → ℕ → Checked
-checked_of Never n = Frames n
-checked_of (At n i) _ = Refused n i
-
 -- the check of a table: a refusal, or the frame total
-unfoldable pub check_of : Table → Checked
-check_of t = checked_of (refusal t) (frame_total t.segments)
+unfoldable pub check_of : Table → Result ℕ Refusal
+check_of t = result_and (refusal t) (Ok (frame_total t.segments))

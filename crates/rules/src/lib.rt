@@ -1,14 +1,15 @@
 // Refusals 1 to 17 over records: no word here knows how a table is lent. The Rust's SegmentTable::check.
 #![tactic(auto)]
 
-ghost use Rattle.std.specs.Prelude.{◌≡◌, true, false, not, ◌||◌, ◌↔◌, ◌≤◌, nat_abs};
+ghost use Rattle.std.specs.Prelude.{◌≡◌, true, false, not, ◌||◌, ◌↔◌, ◌≤◌, nat_abs, Ok};
 ghost use Rattle.rules.specs.Limits.{max_i64};
 ghost use Rattle.rules.specs.Records.{Table, frame_total};
-ghost use Rattle.rules.specs.Rules.{bad_words, no_rate, bad_date, bad_clock, source_refusal, negative, stamp_times, too_late, apart, bad_shift, over_limit, judged, start, ends, check_of};
+ghost use Rattle.rules.specs.Rules.{bad_words, zero_in_source, bad_date, bad_clock, source_refusal, negative, stamp_times, too_late, apart, bad_shift, over_limit, judged, start, ends, check_of};
 ghost use Rattle.rules.specs.Paper.{tests, Rightly};
 ghost use Rattle.rules.specs.Steps.{frames_or, times_or, turned, FineFrames, FineShift, out_of_time, Passing, EndFits};
 
 use choice::MAX_U64;
+use refusal::Reason;
 
 // Limits of 2.
 const MAX_SOURCES: usize = 64;
@@ -110,34 +111,6 @@ pub struct Ends {
     pub capture: u64,
 }
 
-// What a segment's tests say: a refusal, or where the segment ends.
-#[derive(Clone, Copy)]
-pub enum Turn {
-    Stop(u64),
-    Go(Ends),
-}
-
-// What a check answers: the frame total, or a refusal's number and index.
-#[derive(Clone, Copy)]
-pub enum Checked {
-    Frames(u64),
-    Refused(u64, usize),
-}
-
-// What a lookup answers: the segment's index, or the check's refusal.
-#[derive(Clone, Copy)]
-pub enum Lookup {
-    Index(usize),
-    NoIndex(u64, usize),
-}
-
-// What `continues` answers, or the check's refusal.
-#[derive(Clone, Copy)]
-pub enum Continued {
-    Answer(bool),
-    NoAnswer(u64, usize),
-}
-
 // 1, of a source's words, where n bytes of text are lent.
 pub fn bad_words(n: u64, dated: u64, from: u64, size: u64, kind: u64) -> bool
     ensures { result ≡ bad_words n dated from size kind }
@@ -154,8 +127,8 @@ pub fn over_limit(sources: usize, segments: usize) -> bool
 }
 
 // 4.
-fn no_rate(frames: u64, num: u64, den: u64) -> bool
-    ensures { result ≡ no_rate frames num den }
+fn zero_in_source(frames: u64, num: u64, den: u64) -> bool
+    ensures { result ≡ zero_in_source frames num den }
 {
     ((frames == 0) | (num == 0)) | (den == 0)
 }
@@ -186,24 +159,24 @@ fn bad_clock(kind: u64, ticks: u64, per: u64, modulus: u64) -> bool
     (kind != 0) & (((ticks == 0) | (per == 0)) | ((kind == 2) & (modulus == 0)))
 }
 
-// 4 to 7 of a source: a number, or 0 where none refuses it.
+// 4 to 7 of a source.
 #[tactic(auto, unfolding(choice::specs::Choice::when, crate::specs::Rules::source_refusal))]
-pub fn source_refusal(log: bool, text: &[u8], s: Source) -> u64
+pub fn source_refusal(log: bool, text: &[u8], s: Source) -> Result<(), Reason>
     ensures { result ≡ source_refusal log text.now s }
 {
-    if no_rate(s.frames, s.num, s.den) {
-        return 4;
+    if zero_in_source(s.frames, s.num, s.den) {
+        return Err(Reason::ZeroInSource);
     }
     if bad_date(text, s.dated, s.from, s.size) {
-        return 5;
+        return Err(Reason::BadDate);
     }
     if bad_clock(s.kind, s.ticks, s.per, s.modulus) {
-        return 6;
+        return Err(Reason::BadClock);
     }
     if log & (s.kind == 0) {
-        return 7;
+        return Err(Reason::NoClock);
     }
-    0
+    Ok(())
 }
 
 // 14, of a start with its duration and of the capture pair.
@@ -231,76 +204,69 @@ fn bad_shift(kind: u64, modulus: u64, flag: u64, back: bool, shift: u64) -> bool
         | ((kind == 2) & (back | (modulus <= shift)))
 }
 
-// 10 to 12: a number, or 0. Each test leaves at once, since most segments pass all and a walk of many is long.
+// 10 to 12. Each test leaves at once, since most segments pass all and a walk of many is long.
 #[tactic(auto, unfolding(choice::specs::Choice::when))]
-fn frames_refusal(frames: u64, first: u64, count: u64, out: u64) -> u64
-    ensures { result ≡ frames_or frames first count out 0 }
+fn frames_refusal(frames: u64, first: u64, count: u64, out: u64) -> Result<(), Reason>
+    ensures { result ≡ frames_or frames first count out (Ok tt) }
 {
     if count == 0 {
-        return 10;
+        return Err(Reason::NoFrames);
     }
     if choice::is_past(out, count, MAX_U64) {
-        return 11;
+        return Err(Reason::FramesWrap);
     }
     if choice::is_past(first, count, MAX_U64) {
-        return 11;
+        return Err(Reason::FramesWrap);
     }
     if choice::is_past(first, count, frames) {
-        return 12;
+        return Err(Reason::PastSource);
     }
-    0
+    Ok(())
 }
 
-// 13 to 16, and 14 of the out pairs: a number, or 0.
+// 13 to 16, and 14 of the out pairs.
 #[tactic(auto, unfolding(choice::specs::Choice::when))]
-fn times_refusal(prev: Ends, out: u64, t: SixTimes) -> u64
-    ensures { result ≡ times_or prev out t 0 }
+fn times_refusal(prev: Ends, out: u64, t: SixTimes) -> Result<(), Reason>
+    ensures { result ≡ times_or prev out t (Ok tt) }
 {
     if t.negative {
-        return 13;
+        return Err(Reason::NegativeTime);
     }
     if too_late(t.srcstart, t.duration, t.srccap, t.capdur) {
-        return 14;
+        return Err(Reason::TooLate);
     }
     if out != prev.frame {
-        return 15;
+        return Err(Reason::FrameGap);
     }
     if is_apart(prev.some, prev.time, prev.capture, t.outstart, t.outcap) {
-        return 16;
+        return Err(Reason::TimeGap);
     }
     if too_late(t.outstart, t.duration, t.outcap, t.capdur) {
-        return 14;
+        return Err(Reason::TooLate);
     }
-    0
+    Ok(())
 }
 
-// 10 to 17 of a segment of the source s, after one that ends at prev: a number, or 0.
-fn judge(s: Source, prev: Ends, w: Words, t: SixTimes) -> u64
+// 10 to 17 of a segment of the source s, after one that ends at prev.
+#[tactic(auto, using(crate::proofs::Turns::judged_parts), unfolding(choice::specs::Choice::when))]
+fn judge(s: Source, prev: Ends, w: Words, t: SixTimes) -> Result<(), Reason>
     ensures { result ≡ judged s prev w t }
 {
-    let frames = frames_refusal(s.frames, w.first, w.count, w.out);
-    if frames != 0 {
-        return frames;
-    }
-    let times = times_refusal(prev, w.out, t);
-    if times != 0 {
-        return times;
-    }
+    frames_refusal(s.frames, w.first, w.count, w.out)?;
+    times_refusal(prev, w.out, t)?;
     if bad_shift(s.kind, s.modulus, w.flag, t.back, t.shift) {
-        return 17;
+        return Err(Reason::BadShift);
     }
-    0
+    Ok(())
 }
 
-// 10 to 17 of a segment: a refusal, or where it ends.
-pub fn turn_of(s: Source, prev: Ends, w: Words, t: SixTimes) -> Turn
+// 10 to 17 of a segment, and where it ends.
+#[tactic(auto, unfolding(crate::specs::Steps::turned, crate::specs::Rules::ends_of))]
+pub fn turn_of(s: Source, prev: Ends, w: Words, t: SixTimes) -> Result<Ends, Reason>
     ensures { result ≡ turned s prev w t }
 {
-    let n = judge(s, prev, w, t);
-    if n != 0 {
-        return Turn::Stop(n);
-    }
-    Turn::Go(Ends {
+    judge(s, prev, w, t)?;
+    Ok(Ends {
         some: true,
         frame: w.out + w.count,
         time: t.outstart + t.duration,

@@ -9,22 +9,26 @@ use mathlib.Core.List.{List, [], ◌∷◌}
 use lib.ListN.{length, get_or}
 use lib.Dec.{eqb}
 use borrow.Author.Tests.{eqb-true, eqb-false}
-use Rattle.choice.specs.declared.Refusal.TheVariants.{Never, At}
+use Rattle.std.specs.Prelude.{Ok, Err}
 use Rattle.choice.specs.Choice.{when}
 use Rattle.choice.specs.Records.{run, any}
 use Rattle.choice.proofs.Tests.{or-false, decide}
+use Rattle.refusal.specs.declared.Reason.{Reason}
+use Rattle.refusal.specs.declared.Refusal.{Refusal}
+use Rattle.refusal.specs.declared.Reason.TheVariants as reason
+use Rattle.refusal.specs.Refusals.{refused}
+use Rattle.refusal.proofs.Chains.{when-ok, ok-of}
+use Rattle.refusal.proofs.First.{first-turn, first-hit, first-end}
+use Rattle.choice.proofs.Runs.{any-turn, any-hit, any-end}
 use Rattle.rules.specs.declared.Source.{Source}
-use Rattle.rules.specs.declared.Checked.{Checked}
-use Rattle.rules.specs.declared.Checked.TheVariants.{Frames, Refused}
 use Rattle.rules.specs.declared.Segment.{Segment}
-use Rattle.rules.specs.Records.{Table, no_source, no_segment, nth}
+use Rattle.rules.specs.Records.{Table, no_source, no_segment, nth, segment}
 use Rattle.rules.specs.Rules.{bad_source, bad_segment, segment_refusal, start, ends, malformed, front_refusal, check_of}
 use Rattle.rules.specs.declared.Ends.{Ends}
-use Rattle.rules.specs.declared.Turn.TheVariants.{Go}
-use Rattle.rules.specs.Steps.{turn_of, Walk, end_before}
+use Rattle.rules.specs.Steps.{turn_of, walked, Walk, end_before}
 use Rattle.rules.proofs.Exact.{as-run}
-use Rattle.rules.proofs.Walks.{turn-go, turn_on, walk_start, walk-go, check-stops, check-goes}
-use Rattle.table.specs.Steps.{FineAt, FineFront, FineSegments, front_of, segments_of_check}
+use Rattle.rules.proofs.Walks.{turn_on, turn-none, turn-some, walk_start, walk-go, walk-stop, check-stops, check-goes}
+use Rattle.table.specs.Steps.{FineAt, FineFront, FineSegments, Stopped, front_of}
 
 -- source k of a list, as `nth` has a segment
 abbrev pub nth_source : List Source → ℕ → Source
@@ -41,9 +45,9 @@ pub segments-run : (l : List Segment) {m : ℕ} → m ≡ length l → run (nth 
 segments-run l e = rw e (as-run no_segment l)
 
 -- a walk over segments that doesn't stop at one: nothing refuses it
-pub never-goes : (srcs : List Source) (prev : Ends) (e : Segment) {next : Ends} → turn_of srcs prev e ≡ Go next → segment_refusal srcs prev e ≡ 0
+pub never-goes : (srcs : List Source) (prev : Ends) (e : Segment) {next : Ends} → turn_of srcs prev e ≡ Ok next → segment_refusal srcs prev e ≡ Ok tt
 unfolding turn_of
-never-goes srcs prev e h = (turn-go _ _ _ h).0
+never-goes srcs prev e h = (ok-of _ _ _ h).0
 
 pub flag-at : (l : List Segment) (k : ℕ) → k < length l → any bad_segment l ≡ false → bad_segment (nth l k) ≡ false
 unfolding any
@@ -80,14 +84,13 @@ unfolding end_before
 before-more l k h = let e : suc (k - 1) ≡ k = omega arith in ap (end_before l) e
 
 -- 1 to 8 refused nothing: 1 doesn't hold
-front-free : (log : Bool) (text : List ℕ) (srcs : List Source) (bad : Bool) (n : ℕ) → front_refusal log text srcs bad n ≡ Never → bad ≡ false
-unfolding front_refusal when
-front-free log text srcs true n e = absurd (let z : ◌≡◌ {A = ℕ} 0 1 = cc in omega arith)
-front-free log text srcs false n e = refl
+front-free : (log : Bool) (text : List ℕ) (srcs : List Source) (bad : Bool) (n : ℕ) → front_refusal log text srcs bad n ≡ Ok tt → bad ≡ false
+unfolding front_refusal
+front-free log text srcs bad n e = (when-ok bad _ _ tt e).0
 
 module _ (t : Table) where
   -- 1 to 8 refuse nothing
-  pub fine-front : front_of t ≡ Never → FineFront t
+  pub fine-front : front_of t ≡ Ok tt → FineFront t
   unfolding malformed
   fine-front h =
       let b = front-free t.log t.text t.sources (malformed t) (length t.segments) h in
@@ -98,12 +101,12 @@ module _ (t : Table) where
       }
 
   -- 1 refuses lengths
-  pub check-uneven : t.uneven ≡ true → Refused 1 0 ≡ check_of t
+  pub check-uneven : t.uneven ≡ true → refused reason.Malformed 0 ≡ check_of t
   unfolding malformed front_refusal when
   check-uneven e = check-stops t (rw e)
 
   -- 1 to 8 decide
-  pub check-refused : {n i : ℕ} → front_of t ≡ At n i → Refused n i ≡ check_of t
+  pub check-refused : {r : Refusal} → front_of t ≡ Err r → Err r ≡ check_of t
   check-refused h = check-stops t h
 
   -- they refuse nothing, but 1 of segments may
@@ -112,12 +115,29 @@ module _ (t : Table) where
     unfolding malformed
     fine = rw (e, f.words)
 
-    pub check-accepted : {n : ℕ} → FineSegments t.sources t.segments n → Frames n ≡ check_of t
+    pub check-accepted : {n : ℕ} → FineSegments t.sources t.segments n → Ok n ≡ check_of t
     check-accepted g = g.frames ∙ check-goes t (fine ∙ rw g.flags f.none)
 
-    pub check-stopped : {x : Checked} → x ≡ segments_of_check t.sources t.segments → x ≡ check_of t
-    unfolding segments_of_check when front_refusal
-    check-stopped h =
-        decide (any bad_segment t.segments)
-        (λ b. h ∙ rw b (check-refused (fine ∙ rw b)))
-        (λ b. h ∙ rw b (check-goes t (fine ∙ rw b f.none)))
+    -- 1 refuses a flag
+    pub check-flagged : any bad_segment t.segments ≡ true → refused reason.Malformed 0 ≡ check_of t
+    unfolding front_refusal when
+    check-flagged b = check-refused (fine ∙ rw b)
+
+    -- what refuses the segment at which the walk stopped
+    pub check-at : {k : ℕ} {why : Reason} → Stopped t.sources t.segments k → any bad_segment t.segments ≡ false → turn_of t.sources (end_before t.segments k) (segment t k) ≡ Err why → refused why k ≡ check_of t
+    check-at s b h =
+        walk-stop _ _ _ (walk-to _ _ _ (omega (arith, s.inside)) s.before) s.inside h
+        ∙ ap (walked t.sources) (segments-run _ refl) ∙ check-goes t (fine ∙ rw b f.none)
+
+-- what the loops over sources and segments take from a turn
+pub ruleset loops = (sources-whole, segments-whole, any-turn, any-hit, any-end, first-turn, first-hit, first-end)
+
+-- a segment's source is there or not; it is the first or not
+pub ruleset turns = (turn-none, turn-some)
+
+pub ruleset ends_before = (before-zero, before-more)
+
+-- what the check's steps answer, and what refuses where the walk stopped
+pub ruleset checks = (check-uneven, check-refused, check-accepted)
+
+pub ruleset stops = (check-flagged, check-at)

@@ -1,8 +1,9 @@
 -- T of document 01, and each refusal of a check. They are the contract of `worked_examples_hold`.
-use Rattle.std.specs.Prelude.{ℕ, zero, suc, true, false, List, [], ◌∷◌, ◌++◌, ℤ, pos, neg_ℤ}
+use Rattle.std.specs.Prelude.{ℕ, zero, suc, true, false, List, [], ◌∷◌, ◌++◌, ℤ, pos, neg_ℤ, Result, Ok}
 use Rattle.choice.specs.Worked.{Worked, is, AllRight}
-use Rattle.rules.specs.declared.Checked.{Checked}
-use Rattle.rules.specs.declared.Checked.TheVariants.{Frames, Refused}
+use Rattle.refusal.specs.declared.Reason.TheVariants as reason
+use Rattle.refusal.specs.declared.Refusal.{Refusal}
+use Rattle.refusal.specs.Refusals.{refused}
 use Rattle.rules.specs.Records.{Table}
 use Rattle.rules.specs.Rules.{check_of}
 use Rattle.table.specs.Layout.{table_of}
@@ -37,15 +38,15 @@ abbrev pub T : Table
 T = table_of sources segments times false []
 
 -- A check of a changed T.
-abbrev pub of : List ℕ → List ℕ → List ℤ → Checked
+abbrev pub of : List ℕ → List ℕ → List ℤ → Result ℕ Refusal
 of s u t = check_of (table_of s u t false [])
 
 -- its first source another
-abbrev pub from : List ℕ → Checked
+abbrev pub from : List ℕ → Result ℕ Refusal
 from s = of (s ++ plain 50) segments times
 
 -- its second segment another
-abbrev pub with : List ℕ → List ℤ → Checked
+abbrev pub with : List ℕ → List ℤ → Result ℕ Refusal
 with u t = of sources (words 0 10 30 0 0 ++ u) (first ++ t)
 
 -- 0000-02-29T00:00:00Z, and then 1900-02-29T00:00:00Z
@@ -55,7 +56,7 @@ text =
     ∷ 49 ∷ 57 ∷ 48 ∷ 48 ∷ 45 ∷ 48 ∷ 50 ∷ 45 ∷ 50 ∷ 57 ∷ 84 ∷ 48 ∷ 48 ∷ 58 ∷ 48 ∷ 48 ∷ 58 ∷ 48 ∷ 48 ∷ 90 ∷ []
 
 -- its first source made at the creation time that starts at a byte
-abbrev pub made : ℕ → Checked
+abbrev pub made : ℕ → Result ℕ Refusal
 made at = check_of (table_of (source 100 1 at 0 0 0 ++ plain 50) segments times false text)
 
 -- n sources
@@ -64,7 +65,7 @@ many zero = []
 many (suc n) = plain 1 ++ many n
 
 -- its second segment of a source with a clock, the first without
-abbrev pub clocked : ℕ → ℕ → ℤ → Checked
+abbrev pub clocked : ℕ → ℕ → ℤ → Result ℕ Refusal
 clocked kind flag shift =
     of (plain 100 ++ source 50 0 0 kind 1 7) (words 0 10 30 0 0 ++ words 1 5 20 30 flag)
     (first ++ (pos 0 ∷ pos 1200000 ∷ pos 800000 ∷ pos 0 ∷ pos 0 ∷ pos 0 ∷ shift ∷ []))
@@ -72,40 +73,40 @@ clocked kind flag shift =
 abbrev pub late : List ℤ
 late = stamps (pos 1200000) (pos 800000) (pos 0)
 
-abbrev pub checks : List (Worked Checked)
+abbrev pub checks : List (Worked (Result ℕ Refusal))
 checks =
-    is (check_of T) (Frames 50)
-    ∷ is (made 0) (Frames 50)
-    ∷ is (of (0 ∷ sources) segments times) (Refused 1 0)
-    ∷ is (of sources (segments ++ segments) times) (Refused 1 0)
-    ∷ is (from (source 100 2 0 0 0 0)) (Refused 1 0)
-    ∷ is (from (source 100 0 0 3 0 0)) (Refused 1 0)
-    ∷ is (made 21) (Refused 1 0)
-    ∷ is (with (words 1 5 20 30 2) late) (Refused 1 0)
-    ∷ is (of (many 65) [] []) (Refused 2 0)
-    ∷ is (of (many 64) [] []) (Refused 8 0)
-    ∷ is (of [] segments times) (Refused 3 0)
-    ∷ is (of (plain 100 ++ plain 0) segments times) (Refused 4 1)
-    ∷ is (made 20) (Refused 5 0)
-    ∷ is (from (source 100 0 0 1 0 7)) (Refused 6 0)
-    ∷ is (from (source 100 0 0 2 1 0)) (Refused 6 0)
-    ∷ is (check_of (table_of sources segments times true [])) (Refused 7 0)
-    ∷ is (of sources [] []) (Refused 8 0)
-    ∷ is (with (words 2 5 20 30 0) late) (Refused 9 1)
-    ∷ is (with (words 1 5 0 30 0) late) (Refused 10 1)
-    ∷ is (with (words 1 0xffff_ffff_ffff_ffff 1 30 0) late) (Refused 11 1)
-    ∷ is (with (words 1 31 20 30 0) late) (Refused 12 1)
-    ∷ is (with (words 1 5 20 30 0) (stamps (pos 1200000) (neg_ℤ (pos 1)) (pos 0))) (Refused 13 1)
-    ∷ is (with (words 1 5 20 31 0) (stamps (pos 1200000) (pos 1) (pos 0x7fff_ffff_ffff_ffff))) (Refused 14 1)
-    ∷ is (with (words 1 5 20 31 0) (stamps (pos 1200001) (pos 800000) (pos 0))) (Refused 15 1)
-    ∷ is (with (words 1 5 20 30 0) (stamps (pos 1200001) (pos 0x7fff_ffff_ffff_ffff) (pos 0))) (Refused 16 1)
-    ∷ is (with (words 1 5 20 30 0) (stamps (pos 1200000) (pos 0x7fff_ffff_ffff_ffff) (pos 0))) (Refused 14 1)
-    ∷ is (clocked 0 1 (pos 0)) (Refused 17 1)
-    ∷ is (clocked 1 0 (pos 0)) (Refused 17 1)
-    ∷ is (clocked 1 1 (neg_ℤ (pos 10))) (Frames 50)
-    ∷ is (clocked 2 1 (pos 6)) (Frames 50)
-    ∷ is (clocked 2 1 (pos 7)) (Refused 17 1)
-    ∷ is (clocked 2 1 (neg_ℤ (pos 1))) (Refused 17 1)
+    is (check_of T) (Ok 50)
+    ∷ is (made 0) (Ok 50)
+    ∷ is (of (0 ∷ sources) segments times) (refused reason.Malformed 0)
+    ∷ is (of sources (segments ++ segments) times) (refused reason.Malformed 0)
+    ∷ is (from (source 100 2 0 0 0 0)) (refused reason.Malformed 0)
+    ∷ is (from (source 100 0 0 3 0 0)) (refused reason.Malformed 0)
+    ∷ is (made 21) (refused reason.Malformed 0)
+    ∷ is (with (words 1 5 20 30 2) late) (refused reason.Malformed 0)
+    ∷ is (of (many 65) [] []) (refused reason.OverLimit 0)
+    ∷ is (of (many 64) [] []) (refused reason.NoSegments 0)
+    ∷ is (of [] segments times) (refused reason.NoSources 0)
+    ∷ is (of (plain 100 ++ plain 0) segments times) (refused reason.ZeroInSource 1)
+    ∷ is (made 20) (refused reason.BadDate 0)
+    ∷ is (from (source 100 0 0 1 0 7)) (refused reason.BadClock 0)
+    ∷ is (from (source 100 0 0 2 1 0)) (refused reason.BadClock 0)
+    ∷ is (check_of (table_of sources segments times true [])) (refused reason.NoClock 0)
+    ∷ is (of sources [] []) (refused reason.NoSegments 0)
+    ∷ is (with (words 2 5 20 30 0) late) (refused reason.NoSuchSource 1)
+    ∷ is (with (words 1 5 0 30 0) late) (refused reason.NoFrames 1)
+    ∷ is (with (words 1 0xffff_ffff_ffff_ffff 1 30 0) late) (refused reason.FramesWrap 1)
+    ∷ is (with (words 1 31 20 30 0) late) (refused reason.PastSource 1)
+    ∷ is (with (words 1 5 20 30 0) (stamps (pos 1200000) (neg_ℤ (pos 1)) (pos 0))) (refused reason.NegativeTime 1)
+    ∷ is (with (words 1 5 20 31 0) (stamps (pos 1200000) (pos 1) (pos 0x7fff_ffff_ffff_ffff))) (refused reason.TooLate 1)
+    ∷ is (with (words 1 5 20 31 0) (stamps (pos 1200001) (pos 800000) (pos 0))) (refused reason.FrameGap 1)
+    ∷ is (with (words 1 5 20 30 0) (stamps (pos 1200001) (pos 0x7fff_ffff_ffff_ffff) (pos 0))) (refused reason.TimeGap 1)
+    ∷ is (with (words 1 5 20 30 0) (stamps (pos 1200000) (pos 0x7fff_ffff_ffff_ffff) (pos 0))) (refused reason.TooLate 1)
+    ∷ is (clocked 0 1 (pos 0)) (refused reason.BadShift 1)
+    ∷ is (clocked 1 0 (pos 0)) (refused reason.BadShift 1)
+    ∷ is (clocked 1 1 (neg_ℤ (pos 10))) (Ok 50)
+    ∷ is (clocked 2 1 (pos 6)) (Ok 50)
+    ∷ is (clocked 2 1 (pos 7)) (refused reason.BadShift 1)
+    ∷ is (clocked 2 1 (neg_ℤ (pos 1))) (refused reason.BadShift 1)
     ∷ []
 
 abbrev pub WorkedExamples : Type 0

@@ -1,12 +1,9 @@
 -- Words of inner contracts: what the walk finds that only asks whether nothing refuses.
 use Rattle.std.specs.Prelude.{ℕ, ◌<◌, false, List, ◌≡◌, length, Result, Ok, Err}
-use Rattle.choice.specs.declared.Refusal.{Refusal}
-use Rattle.choice.specs.declared.Refusal.TheVariants.{Never}
-use Rattle.choice.specs.Choice.{when}
-use Rattle.choice.specs.Records.{any, first_refused}
+use Rattle.refusal.specs.declared.Refusal.{Refusal}
+use Rattle.refusal.specs.Refusals.{first_refused}
+use Rattle.choice.specs.Records.{any}
 use Rattle.rules.specs.declared.Source.{Source}
-use Rattle.rules.specs.declared.Checked.{Checked}
-use Rattle.rules.specs.declared.Checked.TheVariants.{Frames, Refused}
 use Rattle.rules.specs.declared.Segment.{Segment}
 use Rattle.table.specs.declared.walk.Walked.{Walked}
 use Rattle.table.specs.declared.walk.Walked.TheVariants as found
@@ -17,25 +14,25 @@ use Rattle.rules.specs.Steps.{walked, end_before}
 -- neither 1 nor any of 4 to 7 holds of one of its sources
 pub record FineSources (t : Table) : Type 0 where
   pub words : any (bad_source (length t.text)) t.sources ≡ false
-  pub none : first_refused (source_refusal t.log t.text) 0 t.sources ≡ Never
+  pub none : first_refused (source_refusal t.log t.text) 0 t.sources ≡ Ok tt
 
 -- none of 1 to 8 holds, of lengths that fit, but for 1 of segments
 pub record FineFront (t : Table) : Type 0 where
   pub words : any (bad_source (length t.text)) t.sources ≡ false
-  pub none : front_refusal t.log t.text t.sources false (length t.segments) ≡ Never
+  pub none : front_refusal t.log t.text t.sources false (length t.segments) ≡ Ok tt
 
 -- 1 to 8
-abbrev pub front_of : Table → Refusal
+abbrev pub front_of : Table → Result (Unit {0}) Refusal
 front_of t = front_refusal t.log t.text t.sources (malformed t) (length t.segments)
 
 -- neither 1, of segments, nor any of 9 to 17 holds, and they have n frames
 pub record FineSegments (srcs : List Source) (segs : List Segment) (n : ℕ) : Type 0 where
   pub flags : any bad_segment segs ≡ false
-  pub frames : Frames n ≡ walked srcs segs
+  pub frames : Ok n ≡ walked srcs segs
 
 -- neither 1 nor any of 9 to 17 holds of segment k
 abbrev pub FineAt : List Source → List Segment → ℕ → Type 0
-FineAt srcs segs k = (bad_segment (nth segs k) ≡ false) × (segment_refusal srcs (end_before segs k) (nth segs k) ≡ 0)
+FineAt srcs segs k = (bad_segment (nth segs k) ≡ false) × (segment_refusal srcs (end_before segs k) (nth segs k) ≡ Ok tt)
 
 -- segment k is the first of which 1 or one of 9 to 17 holds
 pub record Stopped (srcs : List Source) (segs : List Segment) (k : ℕ) : Type 0 where
@@ -48,10 +45,6 @@ unfoldable pub Passed : List Source → List Segment → Result ℕ ℕ → Type
 Passed srcs segs (Ok n) = FineSegments srcs segs n
 Passed srcs segs (Err k) = Stopped srcs segs k
 
--- what refuses segments after 2 to 8: 1 first
-unfoldable pub segments_of_check : List Source → List Segment → Checked
-segments_of_check srcs segs = when (any bad_segment segs) (Refused 1 0) (walked srcs segs)
-
 -- a table whose segments are walked, and the one at which that stops
 pub record StoppedAt (t : Table) (k : ℕ) : Type 0 where
   pub even : t.uneven ≡ false
@@ -60,6 +53,6 @@ pub record StoppedAt (t : Table) (k : ℕ) : Type 0 where
 
 -- what the first walk over a table finds; `InOrder` says nothing
 unfoldable pub FirstWalk : Table → Walked → Type 0
-FirstWalk t (found.Frames n) = Frames n ≡ check_of t
+FirstWalk t (found.Frames n) = Ok n ≡ check_of t
 FirstWalk t (found.Stopped k) = StoppedAt t k
 FirstWalk t found.InOrder = Unit {0}

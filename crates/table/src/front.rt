@@ -1,6 +1,7 @@
 // 1 to 8: a table's flags and kinds, its sources, and its limits.
 ghost use Rattle.std.specs.Prelude.{◌≡◌, true, false, ◌<◌, length};
-ghost use Rattle.choice.specs.Records.{any, first_refused};
+ghost use Rattle.choice.specs.Records.{any};
+ghost use Rattle.refusal.specs.Refusals.{first_refused};
 ghost use Rattle.rules.specs.Records.{source};
 ghost use Rattle.rules.specs.Rules.{bad_source, bad_segment, malformed, source_refusal, check_of};
 ghost use Rattle.rules.specs.Steps.{FineSource};
@@ -8,8 +9,7 @@ ghost use Rattle.table.specs.Steps.{FineSources, FineFront, front_of};
 
 use crate::SegmentTable;
 use crate::layout::Segments;
-use choice::Refusal;
-use rules::Checked;
+use refusal::{Reason, Refusal};
 
 impl<'a, S: Segments> SegmentTable<'a, S> {
     // 1, of source k.
@@ -22,8 +22,8 @@ impl<'a, S: Segments> SegmentTable<'a, S> {
         rules::bad_words(self.text.len() as u64, s.dated, s.from, s.size, s.kind)
     }
 
-    // 4 to 7 of source k: a number, or 0 where none refuses it.
-    fn source_refusal(&self, k: usize) -> u64
+    // 4 to 7 of source k.
+    fn source_refusal(&self, k: usize) -> Result<(), Reason>
         requires { k < length self.now.sources }
         ensures { result ≡ source_refusal self.now.log self.now.text (source self.now k) }
     {
@@ -39,7 +39,7 @@ impl<'a, S: Segments> SegmentTable<'a, S> {
         if self.is_bad(k) {
             return false;
         }
-        self.source_refusal(k) == 0
+        self.source_refusal(k).is_ok()
     }
 
     // The same; of a source without creation time and clock three words are left to test.
@@ -64,6 +64,7 @@ impl<'a, S: Segments> SegmentTable<'a, S> {
     }
 
     // 1, of all sources.
+    #[tactic(auto, using(crate::proofs::Checks::loops))]
     fn has_bad_source(&self) -> bool
         ensures { result ≡ any (bad_source (length self.now.text)) self.now.sources }
     {
@@ -79,6 +80,7 @@ impl<'a, S: Segments> SegmentTable<'a, S> {
     }
 
     // 1, of all segments.
+    #[tactic(auto, using(crate::proofs::Checks::loops), unfolding(rules::specs::Rules::bad_segment))]
     pub(crate) fn has_bad_flag(&self) -> bool
         requires { self.now.uneven ≡ false }
         ensures { result ≡ any bad_segment self.now.segments }
@@ -104,22 +106,23 @@ impl<'a, S: Segments> SegmentTable<'a, S> {
     }
 
     // 4 to 7, source by source.
-    fn first_refused_source(&self) -> Refusal
+    #[tactic(auto, using(crate::proofs::Checks::loops))]
+    fn first_refused_source(&self) -> Result<(), Refusal>
         ensures { result ≡ first_refused (source_refusal self.now.log self.now.text) 0 self.now.sources }
     {
         let m = self.source_count();
         let mut k = 0;
         while k < m {
-            let n = self.source_refusal(k);
-            if n != 0 {
-                return Refusal::At(n, k);
+            if let Err(reason) = self.source_refusal(k) {
+                return Err(reason.at(k));
             }
             k += 1;
         }
-        Refusal::Never
+        Ok(())
     }
 
     // The same of all sources.
+    #[tactic(auto, using(crate::proofs::Checks::loops))]
     fn has_fine_sources(&self) -> bool
         ensures { result ≡ true → FineSources self.now }
     {
@@ -150,43 +153,40 @@ impl<'a, S: Segments> SegmentTable<'a, S> {
     }
 
     // 1 to 8, of lengths that fit.
-    fn front_refusal(&self) -> Refusal
+    #[tactic(auto, unfolding(choice::specs::Choice::when, rules::specs::Rules::front_refusal))]
+    fn front_refusal(&self) -> Result<(), Refusal>
         requires { self.now.uneven ≡ false }
         ensures { result ≡ front_of self.now }
     {
         let m = self.source_count();
         let n = self.segment_count();
         if self.is_malformed() {
-            return Refusal::At(1, 0);
+            return Err(Reason::Malformed.at(0));
         }
         if rules::over_limit(m, n) {
-            return Refusal::At(2, 0);
+            return Err(Reason::OverLimit.at(0));
         }
         if m == 0 {
-            return Refusal::At(3, 0);
+            return Err(Reason::NoSources.at(0));
         }
-        match self.first_refused_source() {
-            Refusal::At(n, i) => return Refusal::At(n, i),
-            Refusal::Never => {}
-        }
+        self.first_refused_source()?;
         if n == 0 {
-            return Refusal::At(8, 0);
+            return Err(Reason::NoSegments.at(0));
         }
-        Refusal::Never
+        Ok(())
     }
 
     // Checks a table that one of 1 to 8 may refuse: by these in their order, then its segments.
     #[cold]
     #[inline(never)]
-    pub(crate) fn check_in_order(&self) -> Checked
+    #[tactic(auto, using(crate::proofs::Checks::checks))]
+    pub(crate) fn check_in_order(&self) -> Result<u64, Refusal>
         ensures { result ≡ check_of self.now }
     {
         if self.is_uneven() {
-            return Checked::Refused(1, 0);
+            return Err(Reason::Malformed.at(0));
         }
-        match self.front_refusal() {
-            Refusal::At(n, i) => Checked::Refused(n, i),
-            Refusal::Never => self.check_segments(),
-        }
+        self.front_refusal()?;
+        self.check_segments()
     }
 }

@@ -85,6 +85,7 @@ fn uneven_rows(u: usize, t: usize) -> bool
     t - u != m * 2
 }
 
+#[tactic(auto, using(crate::proofs::Lent::segments_length, crate::proofs::Lent::segments_get, crate::proofs::Lent::even))]
 impl Segments for Rows<'_> {
     ghost uneven = { λ r. uneven_rows (length r.words.now) (length r.stamps.now) };
 

@@ -13,7 +13,8 @@ pub mod sources;
 mod walk;
 
 use layout::{Rows, Segments};
-use rules::{Checked, Segment, Source};
+use refusal::Refusal;
+use rules::{Segment, Source};
 use sources::Sources;
 use std::marker::Model;
 use walk::Walked;
@@ -109,13 +110,14 @@ impl<'a, S: Segments> SegmentTable<'a, S> {
         self.segments.segment(k)
     }
 
-    // Checks the table: its frame total, or a refusal's number and index. Most tables are accepted: that is asked first. The Rust's check.
+    // Checks the table: its frame total, or why it is refused. Most tables are accepted: that is asked first. The Rust's check.
     #[inline(always)]
-    pub fn check(&self) -> Checked
+    #[tactic(auto, unfolding(crate::specs::Steps::FirstWalk))]
+    pub fn check(&self) -> Result<u64, Refusal>
         ensures { result ≡ check_of self.now }
     {
         match self.first_walk() {
-            Walked::Frames(frames) => Checked::Frames(frames),
+            Walked::Frames(frames) => Ok(frames),
             Walked::Stopped(k) => self.refused_at(k),
             Walked::InOrder => self.check_in_order(),
         }
@@ -124,7 +126,7 @@ impl<'a, S: Segments> SegmentTable<'a, S> {
 
 // The check of a table that is lent as words.
 #[inline(always)]
-pub fn check(sources: &[u64], u: &[u64], t: &[i64], log: bool, text: &[u8]) -> Checked
+pub fn check(sources: &[u64], u: &[u64], t: &[i64], log: bool, text: &[u8]) -> Result<u64, Refusal>
     ensures { result ≡ check_of (table_of sources.now u.now t.now log text.now) }
 {
     SegmentTable::of_words(sources, u, t, log, text).check()

@@ -7,7 +7,8 @@ ghost use Rattle.table.specs.Steps.{FineFront, Passed, StoppedAt, FirstWalk};
 
 use crate::SegmentTable;
 use crate::layout::Segments;
-use rules::{Checked, Ends, Segment, Turn};
+use refusal::{Reason, Refusal};
+use rules::{Ends, Segment};
 
 // What a walk finds that asks only whether nothing refuses: the table's frames; the first segment that is refused; or that something before the segments may be,
 // so that 1 to 8 are tested in their order.
@@ -18,13 +19,14 @@ pub(crate) enum Walked {
 }
 
 impl<'a, S: Segments> SegmentTable<'a, S> {
-    // 9 to 17 of a segment, after one that ends at prev.
-    fn turn_of(&self, prev: Ends, e: Segment) -> Turn
+    // 9 to 17 of a segment, after one that ends at prev, and where it ends.
+    #[tactic(auto, using(crate::proofs::Checks::turns))]
+    fn turn_of(&self, prev: Ends, e: Segment) -> Result<Ends, Reason>
         ensures { result ≡ turn_of self.now.sources prev e }
     {
         let from = e.words.source as usize;
         if from >= self.source_count() {
-            return Turn::Stop(9);
+            return Err(Reason::NoSuchSource);
         }
         rules::turn_of(self.source(from), prev, e.words, rules::times_of(e.stamps))
     }
@@ -63,6 +65,7 @@ impl<'a, S: Segments> SegmentTable<'a, S> {
 
     // Asks whether nothing refuses the table. A function of its own, so that the walk has the registers to itself.
     #[inline(never)]
+    #[tactic(auto, using(crate::proofs::Checks::checks), unfolding(crate::specs::Steps::Passed, crate::specs::Steps::FirstWalk))]
     pub(crate) fn first_walk(&self) -> Walked
         ensures { FirstWalk self.now result }
     {
@@ -79,18 +82,20 @@ impl<'a, S: Segments> SegmentTable<'a, S> {
     }
 
     // Checks the segments of a table that none of 1 to 8 refuses, but for 1 of segments.
-    pub(crate) fn check_segments(&self) -> Checked
+    #[tactic(auto, using(crate::proofs::Checks::checks), unfolding(crate::specs::Steps::Passed))]
+    pub(crate) fn check_segments(&self) -> Result<u64, Refusal>
         requires even { self.now.uneven ≡ false }
         requires fine { FineFront self.now }
         ensures { result ≡ check_of self.now }
     {
         match self.walk() {
-            Ok(frames) => Checked::Frames(frames),
+            Ok(frames) => Ok(frames),
             Err(k) => self.refused_at(k),
         }
     }
 
     // Where the segment before number k ends.
+    #[tactic(auto, using(crate::proofs::Checks::ends_before))]
     fn end_before(&self, k: usize) -> Ends
         requires even { self.now.uneven ≡ false }
         requires inside { k < length self.now.segments }
@@ -106,17 +111,18 @@ impl<'a, S: Segments> SegmentTable<'a, S> {
     // Refuses a table whose walk stopped at segment k: by 1, of any segment, or by what refuses that one, since nothing refuses those before it.
     #[cold]
     #[inline(never)]
-    pub(crate) fn refused_at(&self, k: usize) -> Checked
+    #[tactic(auto, using(crate::proofs::Checks::stops))]
+    pub(crate) fn refused_at(&self, k: usize) -> Result<u64, Refusal>
         requires { StoppedAt self.now k }
         ensures { result ≡ check_of self.now }
     {
         if self.has_bad_flag() {
-            return Checked::Refused(1, 0);
+            return Err(Reason::Malformed.at(0));
         }
         match self.turn_of(self.end_before(k), self.segment(k)) {
-            Turn::Stop(n) => Checked::Refused(n, k),
+            Err(reason) => Err(reason.at(k)),
             // it doesn't: the walk stopped there
-            Turn::Go(next) => Checked::Frames(next.frame),
+            Ok(next) => Ok(next.frame),
         }
     }
 }

@@ -5,9 +5,12 @@ use mathlib.Core.List.{List, [], ◌∷◌, map}
 use lib.ListN.{length, length-map}
 use lib.Dec.{eqb}
 use lib.IntN.{ℤ}
-use Rattle.choice.specs.declared.Refusal.TheVariants.{Never, At}
+use Rattle.std.specs.Prelude.{Result, Ok}
+use Rattle.std.specs.Result.{result_and}
+use Rattle.refusal.specs.declared.Refusal.{Refusal}
+use Rattle.refusal.specs.declared.Reason.TheVariants as reason
+use Rattle.refusal.specs.Refusals.{refused}
 use Rattle.choice.specs.Choice.{when}
-use Rattle.choice.specs.Records.{or_refused}
 use Rattle.choice.proofs.Tests.{decide}
 use Rattle.slices.specs.Slices.{after}
 use Rattle.rows.specs.Lent.{words_of, shifts_of}
@@ -15,8 +18,7 @@ use Rattle.rules.specs.declared.Segment.{Segment}
 use Rattle.rules.specs.Records.{Table}
 use Rattle.rules.specs.Absent.{stripped_segment, stripped}
 use Rattle.rules.proofs.Ignored.{refusal-stripped, alike}
-use Rattle.table_rows.specs.declared.Filled.{Filled}
-use Rattle.table_rows.specs.Rows.{row_of, rows_of, too_small, rows_refusal, filled, Rowed}
+use Rattle.table_rows.specs.Rows.{row_of, rows_of, too_small, rows_refusal, Rowed}
 
 row-stripped : (e : Segment) → row_of (stripped_segment e) ≡ row_of e
 unfolding row_of stripped_segment when
@@ -36,16 +38,16 @@ length-stripped t = sym (length-map t.segments stripped_segment)
 
 room-stripped : (nu ns : ℕ) (t : Table) → rows_refusal t nu ns ≡ rows_refusal (stripped t) nu ns
 unfolding rows_refusal
-room-stripped nu ns t = λ i. or_refused (refusal-stripped t i) (when (too_small (length-stripped t i) nu ns) (At 32 0) Never)
+room-stripped nu ns t = λ i. result_and (refusal-stripped t i) (when (too_small (length-stripped t i) nu ns) (refused reason.NoRoom 0) (Ok tt))
 
 -- what rows_of_table may answer and leave of one of two tables that are stripped alike, it may of the other
-pub rows_alike : (a b : Table) → stripped a ≡ stripped b → (ou ou' : List ℕ) (os os' : List ℤ) (r : Filled) → Rowed a ou os r ou' os' → Rowed b ou os r ou' os'
+pub rows_alike : (a b : Table) → stripped a ≡ stripped b → (ou ou' : List ℕ) (os os' : List ℤ) (r : Result ℕ Refusal) → Rowed a ou os r ou' os' → Rowed b ou os r ou' os'
 rows_alike a b e ou ou' os os' r p =
     let refusals = alike (λ t. rows_refusal t (length ou) (length os)) (room-stripped (length ou) (length os)) a b e in
     let rows = alike rows_of rows-of-stripped a b e in
     let lengths = alike (λ t. length t.segments) length-stripped a b e in
     record {
-      answer = p.answer ∙ λ i. filled (refusals i) (lengths i);
+      answer = p.answer ∙ λ i. result_and (refusals i) (Ok (lengths i));
       words = p.words ∙ λ i. after (refusals i) (words_of (rows i)) ou;
       shifts = p.shifts ∙ λ i. after (refusals i) (shifts_of (rows i)) os;
     }

@@ -7,7 +7,7 @@ use mathlib.Core.List.{List, [], ◌∷◌, map}
 use lib.ListN.{length, get_or, length-map}
 use lib.Dec.{eqb}
 use borrow.Author.Tests.{eq-eqb, ne_eqb, lt-ltb, eqb-true, eqb-false}
-use Rattle.choice.proofs.Chains.{not-past}
+use Rattle.choice.proofs.Sums.{not-past}
 use Rattle.choice.specs.Choice.{when, max_u64}
 use Rattle.choice.proofs.Tests.{decide}
 use Rattle.rows.specs.Rows.{ok_shift, ok_row, WellFrom}

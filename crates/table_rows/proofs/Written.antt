@@ -8,8 +8,10 @@ use mathlib.Core.List.{List, [], ◌∷◌, ◌++◌, map, map-append}
 use lib.ListN.{length, get_or, set, take, length-map}
 use lib.Seq.{sets, take-suc, length-take-le}
 use lib.IntN.{ℤ}
-use Rattle.choice.specs.declared.Refusal.{Refusal}
-use Rattle.choice.specs.declared.Refusal.TheVariants.{Never, At}
+use Rattle.std.specs.Prelude.{Result, Ok, Err}
+use Rattle.refusal.specs.declared.Refusal.{Refusal}
+use Rattle.refusal.specs.declared.Reason.TheVariants as reason
+use Rattle.refusal.specs.Refusals.{refused}
 use Rattle.choice.specs.Choice.{when}
 use Rattle.choice.proofs.Runs.{map-run}
 use Rattle.slices.specs.Slices.{laid}
@@ -17,14 +19,13 @@ use Rattle.slices.proofs.Laid.{set-laid, sets-laid}
 use Rattle.rows.specs.declared.Row.{Row}
 use Rattle.rows.specs.Lent.{words, words_of, shifts_of}
 use Rattle.rows.proofs.Flat.{words_append, shifts-append, length-words, length-shifts, five_at, words-read}
-use Rattle.rules.specs.declared.Checked.TheVariants.{Frames, Refused}
 use Rattle.rules.specs.declared.Segment.{Segment}
 use Rattle.rules.specs.Records.{Table, no_segment, nth}
 use Rattle.rules.specs.Rules.{check_of}
 use Rattle.rules.proofs.Answers.{check-first, then-rest}
-use Rattle.table_rows.specs.declared.Filled.TheVariants.{Rows, NoRows}
 use Rattle.table.specs.Layout.{segment_at, segments_of}
-use Rattle.table_rows.specs.Rows.{row_of, rows_of, too_small, rows_refusal, filled, Rowed}
+use Rattle.table.proofs.Lent.{even, segments_length}
+use Rattle.table_rows.specs.Rows.{row_of, rows_of, too_small, rows_refusal, Rowed}
 
 -- ---- words
 read : (u : List ℕ) (t : List ℤ) (k : ℕ) → words (row_of (segment_at u t k)) ≡ five_at u k
@@ -69,24 +70,29 @@ module _ (l : List Segment) (k : ℕ) (h : k < length l) where
 
 -- ---- the answer
 module _ (t : Table) (ou : List ℕ) (os : List ℤ) where
-  at : Refusal → Type 0
+  at : Result (Unit {0}) Refusal → Type 0
   at r = rows_refusal t (length ou) (length os) ≡ r
 
-  pub rows-refused : {n i : ℕ} → check_of t ≡ Refused n i → Rowed t ou os (NoRows n i) ou os
-  unfolding at rows_refusal filled
-  rows-refused {n} {i} e = let q : at (At n i) = check-first _ _ e in record { answer = rw q; words = rw q; shifts = rw q }
+  pub rows-refused : {why : Refusal} → check_of t ≡ Err why → Rowed t ou os (Err why) ou os
+  unfolding at rows_refusal
+  rows-refused {why} e = let q : at (Err why) = check-first _ _ e in record { answer = rw q; words = rw q; shifts = rw q }
 
   -- of n segments
-  module _ {N n : ℕ} (e : check_of t ≡ Frames N) (m : n ≡ length t.segments) where
-    then-room : {b : Bool} → too_small n (length ou) (length os) ≡ b → at (when b (At 32 0) Never)
+  module _ {N n : ℕ} (e : check_of t ≡ Ok N) (m : n ≡ length t.segments) where
+    then-room : {b : Bool} → too_small n (length ou) (length os) ≡ b → at (when b (refused reason.NoRoom 0) (Ok tt))
     unfolding at rows_refusal
     then-room h = then-rest _ _ e ∙ rw (← m, h)
 
-    pub rows-small : too_small n (length ou) (length os) ≡ true → Rowed t ou os (NoRows 32 0) ou os
-    unfolding at filled when
+    pub rows-small : too_small n (length ou) (length os) ≡ true → Rowed t ou os (refused reason.NoRoom 0) ou os
+    unfolding at when
     rows-small h = let q = then-room h in record { answer = rw q; words = rw q; shifts = rw q }
 
     pub rows_written : {ou' : List ℕ} {os' : List ℤ} → too_small n (length ou) (length os) ≡ false
-        → ou' ≡ laid (words_of (map row_of t.segments)) ou → os' ≡ laid (shifts_of (map row_of t.segments)) os → Rowed t ou os (Rows n) ou' os'
-    unfolding at filled when rows_of
+        → ou' ≡ laid (words_of (map row_of t.segments)) ou → os' ≡ laid (shifts_of (map row_of t.segments)) os → Rowed t ou os (Ok n) ou' os'
+    unfolding at when rows_of
     rows_written h w v = let q = then-room h in record { answer = rw (q, m); words = rw q w; shifts = rw q v }
+
+-- what the loops that write take from a turn, and what lent words are written by
+pub ruleset writes = (words-more, shifts-more)
+
+pub ruleset lent = (even, segments_length, words-all)

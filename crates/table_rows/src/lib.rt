@@ -12,17 +12,11 @@ ghost use Rattle.table_rows.specs.Rows.{row_of, row_words, Rowed};
 ghost use Rattle.table_rows.specs.Mapped.{RowsAreMap};
 ghost use Rattle.table_rows.specs.Examples.{WorkedExamples};
 
+use refusal::{Reason, Refusal};
 use rows::Row;
-use rules::{Checked, Segment};
+use rules::Segment;
 use table::layout::{Rows, Segments, WORDS};
 use table::{SegmentTable, Tabled};
-
-// What `rows_of_table` answers: how many rows it wrote, or a refusal's number and index.
-#[derive(Clone, Copy)]
-pub enum Filled {
-    Rows(usize),
-    NoRows(u64, usize),
-}
 
 // The shift of a row: an absent one is 0.
 #[tactic(auto, unfolding(choice::specs::Choice::when))]
@@ -66,6 +60,7 @@ fn put_words(out: &mut [u64], k: usize, r: Row)
 
 // How a layout writes the words of its segments' rows: row by row, unless it has them as they are.
 pub trait RowWords: Segments {
+    #[tactic(auto, using(crate::proofs::Written::writes))]
     fn write_words(&self, out: &mut [u64])
         requires even { Self.uneven self.now ≡ false }
         requires room { length (Self.listed self.now) * row_words ≤ length out.old }
@@ -80,6 +75,7 @@ pub trait RowWords: Segments {
     }
 }
 
+#[tactic(auto, using(crate::proofs::Written::lent))]
 impl RowWords for Rows<'_> {
     // a segment's unsigned words are its row's
     fn write_words(&self, out: &mut [u64]) {
@@ -88,6 +84,7 @@ impl RowWords for Rows<'_> {
 }
 
 // The shifts of the rows.
+#[tactic(auto, using(crate::proofs::Written::writes))]
 fn write_shifts<S: Segments>(table: &SegmentTable<'_, S>, os: &mut [i64])
     requires even { table.now.uneven ≡ false }
     requires room { length table.now.segments ≤ length os.old }
@@ -103,24 +100,22 @@ fn write_shifts<S: Segments>(table: &SegmentTable<'_, S>, os: &mut [i64])
 
 // What is written of a table.
 pub trait TableRows: Tabled {
-    // The rows of an accepted table, one a segment, into lent room: five words and a shift a row.
-    fn rows_of_table(&self, ou: &mut [u64], os: &mut [i64]) -> Filled
+    // The rows of an accepted table, one a segment, into lent room: five words and a shift a row. Answers how many there are.
+    fn rows_of_table(&self, ou: &mut [u64], os: &mut [i64]) -> Result<usize, Refusal>
         ensures { Rowed (Self.table self.now) ou.old os.old result ou.new os.new };
 }
 
+#[tactic(auto, using(rules::proofs::Accepted::accepted))]
 impl<S: RowWords> TableRows for SegmentTable<'_, S> {
-    fn rows_of_table(&self, ou: &mut [u64], os: &mut [i64]) -> Filled {
-        match self.check() {
-            Checked::Refused(n, i) => return Filled::NoRows(n, i),
-            Checked::Frames(_) => {}
-        }
+    fn rows_of_table(&self, ou: &mut [u64], os: &mut [i64]) -> Result<usize, Refusal> {
+        self.check()?;
         let n = self.segment_count();
         if (ou.len() < n * WORDS) | (os.len() < n) {
-            return Filled::NoRows(32, 0);
+            return Err(Reason::NoRoom.at(0));
         }
         write_shifts(self, os);
         self.segments.write_words(ou);
-        Filled::Rows(n)
+        Ok(n)
     }
 }
 
@@ -133,7 +128,7 @@ pub fn rows_of_table(
     text: &[u8],
     ou: &mut [u64],
     os: &mut [i64],
-) -> Filled
+) -> Result<usize, Refusal>
     ensures { Rowed (table_of sources.now u.now t.now log text.now) ou.old os.old result ou.new os.new }
 {
     SegmentTable::of_words(sources, u, t, log, text).rows_of_table(ou, os)

@@ -1,5 +1,6 @@
 use Rattle.std.proofs.Common.{◌≡◌, ◌-◌}
-use Rattle.choice.specs.Records.{run, first_refused}
+use Rattle.choice.specs.Records.{run}
+use Rattle.refusal.specs.Refusals.{first_refused}
 use Rattle.rules.specs.Records.{nth}
 use Rattle.judge.specs.Video.{shown_by}
 use Rattle.judge.specs.Judge.{start_refusal}

@@ -1,5 +1,6 @@
 use Rattle.std.proofs.Common.{◌≡◌, ◌-◌, ◌≤◌}
-use Rattle.choice.specs.Records.{run, first_refused}
+use Rattle.choice.specs.Records.{run}
+use Rattle.refusal.specs.Refusals.{first_refused}
 use Rattle.rules.specs.Rules.{source_refusal}
 use Rattle.table.proofs.Checks.{nth_source}
 use Rattle.table.proofs.SegmentTable.first_refused_source.Given as goal

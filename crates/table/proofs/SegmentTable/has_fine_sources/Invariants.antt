@@ -1,5 +1,6 @@
 use Rattle.std.proofs.Common.{◌≡◌, ◌-◌, ◌≤◌, length}
-use Rattle.choice.specs.Records.{run, any, first_refused}
+use Rattle.choice.specs.Records.{run, any}
+use Rattle.refusal.specs.Refusals.{first_refused}
 use Rattle.rules.specs.Rules.{bad_source, source_refusal}
 use Rattle.table.proofs.Checks.{nth_source}
 use Rattle.table.proofs.SegmentTable.has_fine_sources.Given as goal

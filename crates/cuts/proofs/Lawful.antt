@@ -7,22 +7,22 @@ use mathlib.Core.Path.{◌≡◌, refl, sym, ◌∙◌, ap}
 use lib.IntN.{ℤ}
 use lib.ListN.{length, get_or, take, drop, length-append, length-map, get_or-append}
 use lib.Seq.{take_at, drop_at, take_all, take-append-le}
-use Rattle.choice.specs.declared.Refusal.{Refusal}
-use Rattle.choice.specs.declared.Refusal.TheVariants.{Never}
+use Rattle.std.specs.Prelude.{Result, Ok, Err}
+use Rattle.std.specs.Result.{result_and}
+use Rattle.refusal.specs.declared.Refusal.{Refusal}
+use Rattle.refusal.proofs.Chains.{err-of}
 use Rattle.slices.specs.Slices.{laid, after}
 use Rattle.rows.specs.declared.Row.{Row}
 use Rattle.rows.specs.Rows.{cut}
 use Rattle.rows.specs.Lent.{rows, words_of, shifts_of}
 use Rattle.rows.proofs.Flat.{words_append, shifts-append, length-words, length-shifts}
-use Rattle.maps.specs.declared.Mapped.{Mapped}
-use Rattle.maps.specs.declared.Mapped.TheVariants.{Rows, Refused}
-use Rattle.maps.specs.Answers.{mapped_of, Cut}
+use Rattle.maps.specs.Answers.{Cut}
 use Rattle.maps.specs.Laws.{LentMap}
 use Rattle.maps.proofs.Lawful as maps
-use Rattle.maps.proofs.ReadBack.{none, count, words_are, shifts-are, as_lent, as-lent-refused}
+use Rattle.maps.proofs.ReadBack.{none, count, words_are, shifts-are, as_lent}
 use Rattle.cuts.specs.Answers.{range_at, ranges_of, cuts_of, concat, cuts_refusal, Cuts}
 use Rattle.cuts.specs.Laws.{sum, rows_before, Accepted, CountsAsLent, CutsLaws}
-use Rattle.cuts.proofs.Refused.{Cuttable, cuts-never, cuts-accepted, length-cuts}
+use Rattle.cuts.proofs.Refused.{Cuttable, cuts-unrefused, cuts-accepted, length-cuts}
 use Rattle.cuts.proofs.Rows.{cut_at, count_at}
 use Rattle.cuts.proofs.Single.{one}
 use Rattle.cuts.proofs.Which.{map-refused, torn-refused, range-refused, room-refused}
@@ -56,24 +56,24 @@ found x y z o b n p q =
 lent : {u : List ℕ} {s : List ℤ} {ranges : List ℕ} {nu ns nc : ℕ} → Cuttable u s ranges nu ns nc → LentMap u s
 lent c = record { some = c.ready.sound.some; sizes = c.ready.sound.sizes; well = c.ready.sound.well; few = c.few }
 
-module _ (u : List ℕ) (s : List ℤ) (ranges ou : List ℕ) (os : List ℤ) (counts : List ℕ) {n : ℕ} {ou' : List ℕ} {os' : List ℤ} {counts' : List ℕ} (p : Cuts u s ranges ou os counts (Rows n) ou' os' counts') where
+module _ (u : List ℕ) (s : List ℤ) (ranges ou : List ℕ) (os : List ℤ) (counts : List ℕ) {n : ℕ} {ou' : List ℕ} {os' : List ℤ} {counts' : List ℕ} (p : Cuts u s ranges ou os counts (Ok n) ou' os' counts') where
   abbrev all : List (List Row)
   all = cuts_of (rows u s) (ranges_of ranges)
 
-  free : cuts_refusal u s ranges (length ou) (length os) (length counts) ≡ Never
+  free : cuts_refusal u s ranges (length ou) (length os) (length counts) ≡ Ok tt
   free = none p.placed
 
   can : Cuttable u s ranges (length ou) (length os) (length counts)
-  can = cuts-never u s ranges (length ou) (length os) (length counts) free
+  can = cuts-unrefused u s ranges (length ou) (length os) (length counts) free
 
   the-words : ou' ≡ laid (words_of (concat all)) ou
-  the-words = p.placed.words ∙ ap (λ (x : Refusal). after x (words_of (concat all)) ou) free
+  the-words = p.placed.words ∙ ap (λ (x : Result (Unit {0}) Refusal). after x (words_of (concat all)) ou) free
 
   the-shifts : os' ≡ laid (shifts_of (concat all)) os
-  the-shifts = p.placed.shifts ∙ ap (λ (x : Refusal). after x (shifts_of (concat all)) os) free
+  the-shifts = p.placed.shifts ∙ ap (λ (x : Result (Unit {0}) Refusal). after x (shifts_of (concat all)) os) free
 
   the-counts : counts' ≡ laid (map length all) counts
-  the-counts = p.counted ∙ ap (λ (x : Refusal). after x (map length all) counts) free
+  the-counts = p.counted ∙ ap (λ (x : Result (Unit {0}) Refusal). after x (map length all) counts) free
 
   many : length (map length all) ≡ length ranges / 2
   many = length-map all length ∙ length-cuts (rows u s) ranges
@@ -122,7 +122,7 @@ module _ (u : List ℕ) (s : List ℤ) (ranges ou : List ℕ) (os : List ℤ) (c
         ap (λ (l : List ℤ). take (length this) (drop (rows_before k counts') l)) (the-shifts ∙ ap (λ (l : List ℤ). l ++ o) e)
         ∙ found (shifts_of x) (shifts_of this) (shifts_of z) o (rows_before k counts') (length this) (omega (arith, length-shifts x, rows_before-are k (omega arith))) (length-shifts this)
 
-    alone : {i : ℕ} {pu pu' : List ℕ} {ps ps' : List ℤ} → Cut u s (range_at ranges k).from (range_at ranges k).to pu ps (Rows i) pu' ps'
+    alone : {i : ℕ} {pu pu' : List ℕ} {ps ps' : List ℤ} → Cut u s (range_at ranges k).from (range_at ranges k).to pu ps (Ok i) pu' ps'
         → (i ≡ get_or counts' k 0) × (take (5 * i) pu' ≡ take (5 * i) (drop (5 * rows_before k counts') ou')) × (take i ps' ≡ take i (drop (rows_before k counts') os'))
     alone {i} q =
         let e = count q in (
@@ -131,12 +131,12 @@ module _ (u : List ℕ) (s : List ℤ) (ranges ou : List ℕ) (os : List ℤ) (c
           shifts-are q ∙ sym shifts_here ∙ ap (λ (j : ℕ). take j (drop (rows_before k counts') os')) (sym e),
         )
 
-    answers : {pu pu' : List ℕ} {ps ps' : List ℤ} {r : Mapped} → 5 * get_or counts' k 0 ≤ length pu → get_or counts' k 0 ≤ length ps
-        → Cut u s (range_at ranges k).from (range_at ranges k).to pu ps r pu' ps' → r ≡ Rows (get_or counts' k 0)
+    answers : {pu pu' : List ℕ} {ps ps' : List ℤ} {r : Result ℕ Refusal} → 5 * get_or counts' k 0 ≤ length pu → get_or counts' k 0 ≤ length ps
+        → Cut u s (range_at ranges k).from (range_at ranges k).to pu ps r pu' ps' → r ≡ Ok (get_or counts' k 0)
     answers {pu} {pu'} {ps} {ps'} {r} x y q =
         let i = can.ready.inside k h in
         (maps.lawful).cut-accepts u s (range_at ranges k).from (range_at ranges k).to pu pu' ps ps' r (lent can) i.some i.within (omega (arith, count-is)) (omega (arith, count-is)) q
-        ∙ ap Rows (sym count-is)
+        ∙ ap Ok (sym count-is)
 
   what : Accepted u s ranges ou os counts
   what = record {
@@ -149,11 +149,11 @@ module _ (u : List ℕ) (s : List ℤ) (ranges ou : List ℕ) (os : List ℤ) (c
   }
 
 -- ---- any call
-accept : {u : List ℕ} {s : List ℤ} {ranges ou : List ℕ} {os : List ℤ} {counts : List ℕ} {r : Mapped} {ou' : List ℕ} {os' : List ℤ} {counts' : List ℕ}
-    → Accepted u s ranges ou os counts → Cuts u s ranges ou os counts r ou' os' counts' → r ≡ Rows (length (concat (cuts_of (rows u s) (ranges_of ranges))))
+accept : {u : List ℕ} {s : List ℤ} {ranges ou : List ℕ} {os : List ℤ} {counts : List ℕ} {r : Result ℕ Refusal} {ou' : List ℕ} {os' : List ℤ} {counts' : List ℕ}
+    → Accepted u s ranges ou os counts → Cuts u s ranges ou os counts r ou' os' counts' → r ≡ Ok (length (concat (cuts_of (rows u s) (ranges_of ranges))))
 accept {u} {s} {ranges} {ou} {os} {counts} a p =
     p.placed.answer
-    ∙ ap (λ (x : Refusal). mapped_of x (concat (cuts_of (rows u s) (ranges_of ranges))))
+    ∙ ap (λ (x : Result (Unit {0}) Refusal). result_and x (Ok (length (concat (cuts_of (rows u s) (ranges_of ranges))))))
     (cuts-accepted u s ranges (length ou) (length os) (length counts)
     (record {
       ready = record {
@@ -167,11 +167,10 @@ accept {u} {s} {ranges} {ou} {os} {counts} a p =
       counts = a.counted;
     }))
 
-counts-kept : (u : List ℕ) (s : List ℤ) (ranges ou : List ℕ) (os : List ℤ) (counts : List ℕ) (r : Mapped) (ou' : List ℕ) (os' : List ℤ) (counts' : List ℕ)
+counts-kept : (u : List ℕ) (s : List ℤ) (ranges ou : List ℕ) (os : List ℤ) (counts : List ℕ) (r : Result ℕ Refusal) (ou' : List ℕ) (os' : List ℤ) (counts' : List ℕ)
     → Cuts u s ranges ou os counts r ou' os' counts' → CountsAsLent r (length ranges / 2) counts counts'
-counts-kept u s ranges ou os counts (Rows n) ou' os' counts' p = counts_past u s ranges ou os counts p
-counts-kept u s ranges ou os counts (Refused n i) ou' os' counts' p =
-    as-lent-refused (cuts_refusal u s ranges (length ou) (length os) (length counts)) (concat (cuts_of (rows u s) (ranges_of ranges))) n i (map length (cuts_of (rows u s) (ranges_of ranges))) counts counts' p.placed.answer p.counted
+counts-kept u s ranges ou os counts (Ok n) ou' os' counts' p = counts_past u s ranges ou os counts p
+counts-kept u s ranges ou os counts (Err e) ou' os' counts' p = rw (err-of _ _ e (sym p.placed.answer)) at p.counted
 
 pub lawful : CutsLaws Cuts Cut
 lawful = record {

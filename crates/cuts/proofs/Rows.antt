@@ -10,8 +10,6 @@ use lib.Dec.{leb}
 use lib.ListN.{length, get_or, take, drop, length-append, length-map, length-drop}
 use borrow.Author.Tests.{le-leb, lt-leb}
 use Rattle.choice.specs.Records.{run}
-use Rattle.choice.specs.declared.Refusal.{Refusal}
-use Rattle.choice.specs.declared.Refusal.TheVariants.{Never}
 use Rattle.choice.proofs.Tests.{same-leb}
 use Rattle.choice.proofs.Runs.{run-cons, run-nil, length_run, get_d-run}
 use Rattle.slices.specs.Slices.{laid}
@@ -23,12 +21,10 @@ use Rattle.rows.specs.Rows.{cut}
 use Rattle.rows.specs.Lent.{row_at, rows, words_of, shifts_of}
 use Rattle.rows.proofs.Demanded.{demanded}
 use Rattle.rows.proofs.Flat.{words_append, shifts-append, length-words, length-shifts}
-use Rattle.maps.specs.declared.Mapped.TheVariants.{Rows}
 use Rattle.maps.specs.Steps.{Room}
-use Rattle.maps.proofs.Written.{Written, rows_all, words-length, shifts-length, placed-rows}
+use Rattle.maps.proofs.Written.{Written, rows_all, words-length, shifts-length}
 use Rattle.cuts.specs.declared.Range.{Range}
-use Rattle.cuts.specs.Answers.{range_at, ranges_of, cuts_of, concat, Placing}
-use Rattle.cuts.specs.Steps.{AllWritten}
+use Rattle.cuts.specs.Answers.{range_at, ranges_of, cuts_of, concat}
 
 -- the rows of the cuts from range k on, of n ranges
 abbrev pub rest : List Row → (ℕ → Range) → ℕ → ℕ → List Row
@@ -120,8 +116,3 @@ unfolding cuts_of
 count_at m f n k h =
     let a = length_run f 0 n in
     map_at length (cuts_of m (run f 0 n)) k 0 [] (omega (arith, length-map (run f 0 n) (λ (r : Range). cut r.from r.to m))) ∙ ap length (cut_at m f n k h)
-
--- what `cuts` promises, from its two ends
-module _ {x : Refusal} {l : List (List Row)} {ou : List ℕ} {os : List ℤ} {counts : List ℕ} where
-  pub placing-rows : {n : ℕ} {ou' : List ℕ} {os' : List ℤ} {counts' : List ℕ} → x ≡ Never → AllWritten l ou os counts n ou' os' counts' → Placing x l ou os counts (Rows n) ou' os' counts'
-  placing-rows e w = record { placed = placed-rows e w.many w.words w.shifts; counted = rw e w.counted }

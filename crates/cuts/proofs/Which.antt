@@ -1,69 +1,59 @@
 -- Which refusal the cuts give. Assumes nothing.
-use Prim.Native.Nat.{ℕ, ◌/◌, ◌%◌, ◌≤◌, ◌<◌}
-use native.Mathlib.Omega.{arith}
+use Prim.Native.Nat.{ℕ, ◌/◌, ◌%◌, ◌<◌}
 use mathlib.Core.List.{List}
-use mathlib.Core.Logic.{⊎_elim}
-use mathlib.Core.Path.{◌≡◌, refl, sym, ◌∙◌, ap}
-use lib.Dec.{leb}
+use mathlib.Core.Path.{◌≡◌, refl, sym, ◌∙◌}
+use lib.Dec.{ltb}
 use lib.IntN.{ℤ}
 use lib.ListN.{length}
-use borrow.Author.Tests.{leb-true}
-use Rattle.choice.specs.declared.Refusal.{Refusal}
-use Rattle.choice.specs.declared.Refusal.TheVariants.{Never, At}
-use Rattle.choice.proofs.Tests.{decide, le-or-lt}
-use Rattle.rows.specs.Rows.{total, cut}
+use borrow.Author.Tests.{le-ltb, ltb-false}
+use Rattle.std.specs.Prelude.{Result, Ok, Err}
+use Rattle.choice.specs.Choice.{when}
+use Rattle.choice.proofs.Tests.{decide}
+use Rattle.refusal.specs.declared.Refusal.{Refusal}
+use Rattle.refusal.specs.declared.Reason.TheVariants as reason
+use Rattle.refusal.specs.Refusals.{refused}
+use Rattle.rows.specs.Rows.{total}
 use Rattle.rows.specs.Lent.{rows}
-use Rattle.maps.specs.declared.Mapped.{Mapped}
-use Rattle.maps.specs.declared.Mapped.TheVariants.{Refused}
-use Rattle.maps.specs.Answers.{most_rows, bad_range, rows_over, map_refusal, mapped_of, Cut}
+use Rattle.maps.specs.Answers.{most_rows, map_refusal, cut_refusal, Cut}
 use Rattle.maps.specs.Laws.{LentMap}
-use Rattle.maps.proofs.Chains.{sound, sound-map, cut-malformed, cut-rows-in}
-use Rattle.cuts.specs.Answers.{Inside, range_at, ranges_of, cuts_of, concat, cuts_refusal, Cuts}
+use Rattle.maps.proofs.Chains.{sound, sound-map}
+use Rattle.cuts.specs.Answers.{Inside, range_at, ranges_of, cuts_of, ranges_refusal, cuts_fit, cuts_refusal, Cuts}
 use Rattle.cuts.specs.Laws.{Accepted}
-use Rattle.cuts.specs.Steps.{room_of}
-use Rattle.cuts.proofs.Refused.{ranges-odd, ranges-accepted, ranges-first, cuts-malformed, cuts-rows-in, cuts-range, cuts-counts, cuts-short}
+use Rattle.cuts.proofs.Refused.{ranges-odd, ranges-accepted, ranges-first, fit-facts}
 
-module _ (u : List ℕ) (s : List ℤ) (ranges ou : List ℕ) (os : List ℤ) (counts : List ℕ) {r : Mapped} {ou' : List ℕ} {os' : List ℤ} {counts' : List ℕ} (p : Cuts u s ranges ou os counts r ou' os' counts') where
-  answer : {n i : ℕ} → At n i ≡ cuts_refusal u s ranges (length ou) (length os) (length counts) → r ≡ Refused n i
-  answer e = p.placed.answer ∙ ap (λ (x : Refusal). mapped_of x (concat (cuts_of (rows u s) (ranges_of ranges)))) (sym e)
-
+module _ (u : List ℕ) (s : List ℤ) (ranges ou : List ℕ) (os : List ℤ) (counts : List ℕ) {r : Result ℕ Refusal} {ou' : List ℕ} {os' : List ℤ} {counts' : List ℕ} (p : Cuts u s ranges ou os counts r ou' os' counts') where
   -- a map that no call takes: both chains end at the same test
-  pub map-refused : (a b : ℕ) (pu : List ℕ) (ps : List ℤ) {pu' : List ℕ} {ps' : List ℤ} {q : Mapped} → (LentMap u s → ⊥) → Cut u s a b pu ps q pu' ps' → r ≡ q
+  pub map-refused : (a b : ℕ) (pu : List ℕ) (ps : List ℤ) {pu' : List ℕ} {ps' : List ℤ} {q : Result ℕ Refusal} → (LentMap u s → ⊥) → Cut u s a b pu ps q pu' ps' → r ≡ q
+  unfolding cuts_refusal cut_refusal when
   map-refused a b pu ps {pu'} {ps'} {q} h c = by (map_refusal u s) refl
     where
-      by : (x : Refusal) → map_refusal u s ≡ x → r ≡ q
-      by (At n i) e =
-          answer (cuts-malformed u s ranges (length ou) (length os) (length counts) e)
-          ∙ sym (c.answer ∙ ap (λ (x : Refusal). mapped_of x (cut a b (rows u s))) (cut-malformed u s a b (length pu) (length ps) e))
-      by Never e =
-          ⊎_elim (λ (l : length s ≤ most_rows). absurd (h (let o = sound u s e in record { some = o.some; sizes = o.sizes; well = o.well; few = l })))
-          (λ (l : most_rows < length s).
-          answer (cuts-rows-in u s ranges (length ou) (length os) (length counts) e l)
-          ∙ sym (c.answer ∙ ap (λ (x : Refusal). mapped_of x (cut a b (rows u s))) (cut-rows-in u s a b (length pu) (length ps) e l)))
-          (le-or-lt (length s) most_rows)
+      by : (x : Result (Unit {0}) Refusal) → map_refusal u s ≡ x → r ≡ q
+      by (Err x) e = (rw e at p.placed.answer) ∙ sym (rw e at c.answer)
+      by (Ok x) e =
+          decide (ltb most_rows (length s)) (λ l. (rw (e, l) at p.placed.answer) ∙ sym (rw (e, l) at c.answer))
+          (λ l. absurd (h (let o = sound u s e in record { some = o.some; sizes = o.sizes; well = o.well; few = ltb-false most_rows (length s) l })))
 
   module _ (m : LentMap u s) where
-    is-sound : map_refusal u s ≡ Never
+    abbrev t : ℕ
+    t = total (rows u s)
+
+    is-sound : map_refusal u s ≡ Ok tt
     is-sound = sound-map u s (record { some = m.some; sizes = m.sizes; well = m.well })
 
-    pub torn-refused : length ranges % 2 ≡ 1 → r ≡ Refused bad_range (length ranges / 2)
-    torn-refused e = answer (cuts-range u s ranges (length ou) (length os) (length counts) is-sound m.few (sym (ranges-odd (total (rows u s)) ranges e)))
+    at_range : {k : ℕ} → ranges_refusal t ranges ≡ refused reason.BadRange k → r ≡ refused reason.BadRange k
+    unfolding cuts_refusal when
+    at_range e = rw (is-sound, le-ltb most_rows (length s) m.few, e) at p.placed.answer
 
-    pub range-refused : (k : ℕ) → length ranges % 2 ≡ 0 → k < length ranges / 2 → ((j : ℕ) → j < k → Inside (total (rows u s)) (range_at ranges j)) → (Inside (total (rows u s)) (range_at ranges k) → ⊥)
-        → r ≡ Refused bad_range k
-    range-refused k e h b q =
-        answer (cuts-range u s ranges (length ou) (length os) (length counts) is-sound m.few
-        (ranges-first (total (rows u s)) ranges k e h b q))
+    pub torn-refused : length ranges % 2 ≡ 1 → r ≡ refused reason.BadRange (length ranges / 2)
+    torn-refused e = at_range (ranges-odd t ranges e)
 
-    pub room-refused : length ranges % 2 ≡ 0 → ((k : ℕ) → k < length ranges / 2 → Inside (total (rows u s)) (range_at ranges k)) → (Accepted u s ranges ou os counts → ⊥) → r ≡ Refused rows_over 0
+    pub range-refused : (k : ℕ) → length ranges % 2 ≡ 0 → k < length ranges / 2 → ((j : ℕ) → j < k → Inside t (range_at ranges j)) → (Inside t (range_at ranges k) → ⊥)
+        → r ≡ refused reason.BadRange k
+    range-refused k e h b q = at_range (ranges-first t ranges k e h b q)
+
+    pub room-refused : length ranges % 2 ≡ 0 → ((k : ℕ) → k < length ranges / 2 → Inside t (range_at ranges k)) → (Accepted u s ranges ou os counts → ⊥) → r ≡ refused reason.RowsDontFit 0
+    unfolding cuts_refusal when
     room-refused e b q =
-        let n = length (concat (cuts_of (rows u s) (ranges_of ranges))) in
-        let f = ranges-accepted (total (rows u s)) ranges e b in
-        ⊎_elim
-        (λ (c : length ranges / 2 ≤ length counts).
-        decide (leb n (room_of (length ou) (length os)))
-        (λ g. let l = leb-true n (room_of (length ou) (length os)) g in
-        absurd (q (record { map = m; pairs = e; inside = b; words = omega arith; shifts = omega arith; counted = c })))
-        (λ g. answer (cuts-short u s ranges (length ou) (length os) (length counts) is-sound m.few f c g)))
-        (λ (c : length counts < length ranges / 2). answer (cuts-counts u s ranges (length ou) (length os) (length counts) is-sound m.few f c))
-        (le-or-lt (length ranges / 2) (length counts))
+        decide (cuts_fit (cuts_of (rows u s) (ranges_of ranges)) (length ou) (length os) (length counts))
+        (λ f. let x = fit-facts u s ranges (length ou) (length os) (length counts) f in absurd (q (record { map = m; pairs = e; inside = b; words = x.0; shifts = x.1; counted = x.2 })))
+        (λ f. rw (is-sound, le-ltb most_rows (length s) m.few, ranges-accepted t ranges e b, f) at p.placed.answer)

@@ -9,8 +9,8 @@ ghost use Rattle.cuts.specs.Answers.{range_at, ranges_of, cuts_of, concat, range
 ghost use Rattle.cuts.specs.Laws.{CutsLaws};
 ghost use Rattle.cuts.specs.Steps.{ReadyToCut, AllWritten, room_of};
 
-use choice::Refusal;
-use maps::{BAD_RANGE, Frames, MOST_ROWS, Mapped, ROWS_OVER};
+use maps::MOST_ROWS;
+use refusal::{Reason, Refusal};
 
 // The frames of a map from `from` on that come before `to`.
 #[derive(Clone, Copy)]
@@ -31,31 +31,37 @@ fn range_at(ranges: &[u64], k: usize) -> Range
     }
 }
 
-// 50 of a range of a map of t frames, or 0.
-fn refuse_range(r: Range, t: u64) -> u64
+// 50 of a range of a map of t frames.
+#[tactic(auto, using(choice::proofs::Tests::tests), unfolding(choice::specs::Choice::when, crate::specs::Answers::range_refusal))]
+fn refuse_range(r: Range, t: u64) -> Result<(), Reason>
     ensures { result ≡ range_refusal t r }
 {
-    let beyond = choice::first_of(t < r.to, BAD_RANGE, 0);
-    choice::first_of(r.to <= r.from, BAD_RANGE, beyond)
+    if r.to <= r.from {
+        return Err(Reason::BadRange);
+    }
+    if t < r.to {
+        return Err(Reason::BadRange);
+    }
+    Ok(())
 }
 
 // 50 of the ranges.
-fn refuse_ranges(ranges: &[u64], t: u64) -> Refusal
+#[tactic(auto, using(crate::proofs::Refused::ranged), unfolding(choice::specs::Choice::when, crate::specs::Answers::ranges_refusal))]
+fn refuse_ranges(ranges: &[u64], t: u64) -> Result<(), Refusal>
     ensures { result ≡ ranges_refusal t ranges.now }
 {
     let n = ranges.len() / 2;
     if ranges.len() % 2 == 1 {
-        return Refusal::At(BAD_RANGE, n);
+        return Err(Reason::BadRange.at(n));
     }
     let mut k: usize = 0;
     while k < n {
-        let number = refuse_range(range_at(ranges, k), t);
-        if number != 0 {
-            return Refusal::At(number, k);
+        if let Err(reason) = refuse_range(range_at(ranges, k), t) {
+            return Err(reason.at(k));
         }
         k += 1;
     }
-    Refusal::Never
+    Ok(())
 }
 
 // Whether room for so many rows holds those of all cuts, counted cut by cut, so that no sum passes the room.
@@ -97,28 +103,29 @@ fn room_of(nu: usize, ns: usize) -> usize
 }
 
 // The refusal of the cuts, where nu words, ns shifts and nc counts are lent.
-fn refuse_cuts(u: &[u64], s: &[i64], ranges: &[u64], nu: usize, ns: usize, nc: usize) -> Refusal
+#[tactic(auto, using(crate::proofs::Refused::refusing), unfolding(choice::specs::Choice::when, crate::specs::Answers::cuts_refusal))]
+fn refuse_cuts(
+    u: &[u64],
+    s: &[i64],
+    ranges: &[u64],
+    nu: usize,
+    ns: usize,
+    nc: usize,
+) -> Result<(), Refusal>
     ensures { result ≡ cuts_refusal u.now s.now ranges.now nu ns nc }
 {
-    match maps::frames_of(u, s) {
-        Frames::Refused(n, i) => Refusal::At(n, i),
-        Frames::Are(t) => {
-            if MOST_ROWS < s.len() {
-                return Refusal::At(ROWS_OVER, 0);
-            }
-            match refuse_ranges(ranges, t) {
-                Refusal::At(n, i) => return Refusal::At(n, i),
-                Refusal::Never => {}
-            }
-            if nc < ranges.len() / 2 {
-                return Refusal::At(ROWS_OVER, 0);
-            }
-            if !holds_all(u, s, ranges, room_of(nu, ns)) {
-                return Refusal::At(ROWS_OVER, 0);
-            }
-            Refusal::Never
-        }
+    let frames = maps::frames_of(u, s)?;
+    if MOST_ROWS < s.len() {
+        return Err(Reason::RowsDontFit.at(0));
     }
+    refuse_ranges(ranges, frames)?;
+    if nc < ranges.len() / 2 {
+        return Err(Reason::RowsDontFit.at(0));
+    }
+    if !holds_all(u, s, ranges, room_of(nu, ns)) {
+        return Err(Reason::RowsDontFit.at(0));
+    }
+    Ok(())
 }
 
 // The rows of all cuts and their counts, over the first of what is lent: how many rows.
@@ -165,16 +172,11 @@ pub fn cuts(
     ou: &mut [u64],
     os: &mut [i64],
     counts: &mut [u64],
-) -> Mapped
+) -> Result<usize, Refusal>
     ensures { Cuts u.now s.now ranges.now ou.old os.old counts.old result ou.new os.new counts.new }
 {
-    match refuse_cuts(u, s, ranges, ou.len(), os.len(), counts.len()) {
-        Refusal::Never => {
-            let n = write_cuts(u, s, ranges, ou, os, counts);
-            Mapped::Rows(n)
-        }
-        Refusal::At(n, i) => Mapped::Refused(n, i),
-    }
+    refuse_cuts(u, s, ranges, ou.len(), os.len(), counts.len())?;
+    Ok(write_cuts(u, s, ranges, ou, os, counts))
 }
 
 // Each of many cuts is the cut of its range alone, and one range is one cut; which lists are accepted, how others are refused, and what stays

@@ -1,49 +1,41 @@
 -- Chains of refusals: what it says that none of them refused, and what each call's chain gives. Assumes nothing.
-use Rattle.std.proofs.Common.{◌≡◌, ℕ, suc, ◌+◌, ◌*◌, ◌<◌, ◌≤◌, true, false, not, ◌&&◌, eqb, ltb, leb, List, [], ◌∷◌, length, ℤ, refl, sym, ◌∙◌, arith, ltb-false, ltb-true, le-ltb, lt-ltb, eq-eqb, eqb-true, le-leb, leb-false, leb-true}
+use Rattle.std.proofs.Common.{◌≡◌, ℕ, suc, ◌+◌, ◌*◌, ◌<◌, ◌≤◌, true, false, ◌&&◌, eqb, ltb, leb, List, [], ◌∷◌, length, ℤ, refl, sym, ◌∙◌, arith, ltb-false, ltb-true, le-ltb, lt-ltb, eq-eqb, eqb-true, le-leb, leb-false, leb-true}
 use borrow.Author.Tests.{lt-leb, not-false}
+use Rattle.std.specs.Prelude.{Ok}
+use Rattle.std.specs.Result.{result_and}
 use Rattle.choice.specs.Choice.{when, past, max_u64}
-use Rattle.choice.specs.Records.{or_refused}
-use Rattle.choice.specs.declared.Refusal.{Refusal}
-use Rattle.choice.specs.declared.Refusal.TheVariants.{Never, At}
 use Rattle.choice.proofs.Tests.{and_left, and_right}
-use Rattle.choice.proofs.Chains.{past-not, not-past, when-never, or-never}
+use Rattle.choice.proofs.Sums.{past-not, not-past}
 use Rattle.choice.proofs.Runs.{length_run}
+use Rattle.refusal.specs.declared.Reason.TheVariants as reason
+use Rattle.refusal.specs.Refusals.{refused}
+use Rattle.refusal.proofs.Chains.{when-ok, and-ok, ok-of}
 use Rattle.rows.specs.declared.Row.{Row}
 use Rattle.rows.specs.Rows.{total, ok_row, WellFrom, cut, join, merge}
 use Rattle.rows.proofs.Demanded.{demanded}
-use Rattle.maps.specs.declared.Frames.TheVariants as frames
 use Rattle.rows.specs.Lent.{row_at, rows}
-use Rattle.maps.specs.Answers.{most_rows, bad_range, bad_rows, rows_over, frames_over, past_map, sized, first_bad, map_refusal, fits, room_refusal, cut_refusal, join_refusal, merge_refusal, origin_refusal}
-use Rattle.maps.specs.Steps.{Sound, counted}
+use Rattle.maps.specs.Answers.{most_rows, sized, first_bad, map_refusal, fits, room_refusal, cut_refusal, join_refusal, merge_refusal, origin_refusal}
+use Rattle.maps.specs.Steps.{Sound}
 
--- what a count of frames says of the refusal that it stands for
-pub counted-are : (x : Refusal) (t d : ℕ) → counted x t ≡ frames.Are d → (x ≡ Never) × (d ≡ t)
-counted-are Never t d e = (refl, cc)
-counted-are (At n i) t d e = let z : ◌≡◌ {A = ℕ} 0 1 = cc in absurd (omega arith)
-
-pub counted-refused : (x : Refusal) (t n i : ℕ) → counted x t ≡ frames.Refused n i → x ≡ At n i
-counted-refused Never t n i e = let z : ◌≡◌ {A = ℕ} 0 1 = cc in absurd (omega arith)
-counted-refused (At m j) t n i e = cc
-
--- the same of a lent map's count, as a match on it tells
-pub counted-map : (u : List ℕ) (s : List ℤ) {d : ℕ} → frames.Are d ≡ counted (map_refusal u s) (total (rows u s)) → (map_refusal u s ≡ Never) × (d ≡ total (rows u s))
-counted-map u s {d} e = counted-are (map_refusal u s) (total (rows u s)) d (sym e)
+-- what an accepted map's count says
+pub counted : (u : List ℕ) (s : List ℤ) {d : ℕ} → Ok d ≡ result_and (map_refusal u s) (Ok (total (rows u s))) → (map_refusal u s ≡ Ok tt) × (total (rows u s) ≡ d)
+counted u s {d} e = ok-of (map_refusal u s) (total (rows u s)) d (sym e)
 
 -- 51
-first-well : (m : List Row) (p i : ℕ) → first_bad p i m ≡ Never → WellFrom p m
+first-well : (m : List Row) (p i : ℕ) → first_bad p i m ≡ Ok tt → WellFrom p m
 unfolding first_bad
 first-well [] p i e = tt
-first-well (r ∷ m) p i e = let o = when-never (not (ok_row p r)) bad_rows i (first_bad (p + r.count) (suc i) m) e in (not-false (ok_row p r) o.0, first-well m (p + r.count) (suc i) o.1)
+first-well (r ∷ m) p i e = let o = when-ok _ _ _ tt e in (not-false (ok_row p r) o.0, first-well m (p + r.count) (suc i) o.1)
 
-well-first : (m : List Row) (p i : ℕ) → WellFrom p m → first_bad p i m ≡ Never
+well-first : (m : List Row) (p i : ℕ) → WellFrom p m → first_bad p i m ≡ Ok tt
 unfolding first_bad when
 well-first [] p i w = refl
 well-first (r ∷ m) p i w = rw w.0 (well-first m (p + r.count) (suc i) w.1)
 
-pub sound : (u : List ℕ) (s : List ℤ) → map_refusal u s ≡ Never → Sound u s
+pub sound : (u : List ℕ) (s : List ℤ) → map_refusal u s ≡ Ok tt → Sound u s
 unfolding map_refusal
 sound u s e =
-    let o = when-never (not (sized (length u) (length s))) bad_rows 0 (first_bad 0 0 (rows u s)) e in
+    let o = when-ok _ _ _ tt e in
     let z = not-false (sized (length u) (length s)) o.0 in
     record {
       some = ltb-true 0 (length s) (and_left (ltb 0 (length s)) (eqb (length u) (5 * length s)) z);
@@ -51,7 +43,7 @@ sound u s e =
       well = first-well (rows u s) 0 0 o.1;
     }
 
-pub sound-map : (u : List ℕ) (s : List ℤ) → Sound u s → map_refusal u s ≡ Never
+pub sound-map : (u : List ℕ) (s : List ℤ) → Sound u s → map_refusal u s ≡ Ok tt
 unfolding map_refusal when
 sound-map u s o =
     let z : sized (length u) (length s) ≡ true = rw (lt-ltb 0 (length s) o.some) (eq-eqb (length u) (5 * length s) o.sizes) in
@@ -81,41 +73,27 @@ facts-fit k nu ns f = simp (le-leb k most_rows f.few, le-leb (5 * k) nu f.words,
 pub too_many : (k nu ns : ℕ) → most_rows < k → fits k nu ns ≡ false
 too_many k nu ns h = rw (lt-leb k most_rows h)
 
-pub room-never : (k nu ns : ℕ) → room_refusal k nu ns ≡ Never → Fits k nu ns
+pub room-unrefused : (k nu ns : ℕ) → room_refusal k nu ns ≡ Ok tt → Fits k nu ns
 unfolding room_refusal
-room-never k nu ns e = fits-facts k nu ns (not-false (fits k nu ns) (when-never (not (fits k nu ns)) rows_over 0 Never e).0)
+room-unrefused k nu ns e = fits-facts k nu ns (not-false (fits k nu ns) (when-ok _ _ _ tt e).0)
 
-pub room-on : (k nu ns : ℕ) → fits k nu ns ≡ false → room_refusal k nu ns ≡ At rows_over 0
+pub room-on : (k nu ns : ℕ) → fits k nu ns ≡ false → room_refusal k nu ns ≡ refused reason.RowsDontFit 0
 unfolding room_refusal when
 room-on k nu ns e = rw e
 
-pub room-off : (k nu ns : ℕ) → fits k nu ns ≡ true → room_refusal k nu ns ≡ Never
+pub room-off : (k nu ns : ℕ) → fits k nu ns ≡ true → room_refusal k nu ns ≡ Ok tt
 unfolding room_refusal when
 room-off k nu ns e = rw e
 
--- the chain of a cut, test by test
-module _ (u : List ℕ) (s : List ℤ) (a b nu ns : ℕ) where
-  pub cut-malformed : {n i : ℕ} → map_refusal u s ≡ At n i → cut_refusal u s a b nu ns ≡ At n i
-  unfolding cut_refusal or_refused when
-  cut-malformed e = rw (e)
+-- the chain of a cut
+module _ (u : List ℕ) (s : List ℤ) (a b nu ns : ℕ) (e : map_refusal u s ≡ Ok tt) (few : length s ≤ most_rows) where
+  pub cut-empty : b ≤ a → cut_refusal u s a b nu ns ≡ refused reason.BadRange 0
+  unfolding cut_refusal when
+  cut-empty h = rw (e, le-ltb most_rows (length s) few, le-leb b a h)
 
-  module _ (e : map_refusal u s ≡ Never) where
-    pub cut-rows-in : most_rows < length s → cut_refusal u s a b nu ns ≡ At rows_over 0
-    unfolding cut_refusal or_refused when
-    cut-rows-in h = rw (e, lt-ltb most_rows (length s) h)
-
-    module _ (few : length s ≤ most_rows) where
-      pub cut-empty : b ≤ a → cut_refusal u s a b nu ns ≡ At bad_range 0
-      unfolding cut_refusal or_refused when
-      cut-empty h = rw (e, le-ltb most_rows (length s) few, le-leb b a h)
-
-      pub cut-beyond : a < b → total (rows u s) < b → cut_refusal u s a b nu ns ≡ At bad_range 0
-      unfolding cut_refusal or_refused when
-      cut-beyond h l = rw (e, le-ltb most_rows (length s) few, lt-leb b a h, lt-ltb (total (rows u s)) b l)
-
-      pub cut-room : a < b → b ≤ total (rows u s) → cut_refusal u s a b nu ns ≡ room_refusal (length (cut a b (rows u s))) nu ns
-      unfolding cut_refusal or_refused when
-      cut-room h l = rw (e, le-ltb most_rows (length s) few, lt-leb b a h, le-ltb (total (rows u s)) b l)
+  pub cut-room : a < b → b ≤ total (rows u s) → cut_refusal u s a b nu ns ≡ room_refusal (length (cut a b (rows u s))) nu ns
+  unfolding cut_refusal when
+  cut-room h l = rw (e, le-ltb most_rows (length s) few, lt-leb b a h, le-ltb (total (rows u s)) b l)
 
 -- a cut that isn't refused
 pub record Cuttable (u : List ℕ) (s : List ℤ) (a b nu ns : ℕ) : Type 0 where
@@ -125,97 +103,63 @@ pub record Cuttable (u : List ℕ) (s : List ℤ) (a b nu ns : ℕ) : Type 0 whe
   pub inside : b ≤ total (rows u s)
   pub room : Fits (length (cut a b (rows u s))) nu ns
 
-pub cut-never : (u : List ℕ) (s : List ℤ) (a b nu ns : ℕ) → cut_refusal u s a b nu ns ≡ Never → Cuttable u s a b nu ns
+pub cut-unrefused : (u : List ℕ) (s : List ℤ) (a b nu ns : ℕ) → cut_refusal u s a b nu ns ≡ Ok tt → Cuttable u s a b nu ns
 unfolding cut_refusal
-cut-never u s a b nu ns e =
-    let k = room_refusal (length (cut a b (rows u s))) nu ns in
-    let e₀ = or-never (map_refusal u s) (when (ltb most_rows (length s)) (At rows_over 0) (when (leb b a) (At bad_range 0) (when (ltb (total (rows u s)) b) (At bad_range 0) k))) e in
-    let e₁ = when-never (ltb most_rows (length s)) rows_over 0 (when (leb b a) (At bad_range 0) (when (ltb (total (rows u s)) b) (At bad_range 0) k)) e₀.1 in
-    let e₂ = when-never (leb b a) bad_range 0 (when (ltb (total (rows u s)) b) (At bad_range 0) k) e₁.1 in
-    let e₃ = when-never (ltb (total (rows u s)) b) bad_range 0 k e₂.1 in
+cut-unrefused u s a b nu ns e =
+    let e₀ = and-ok _ _ tt e in
+    let e₁ = when-ok _ _ _ tt e₀.1 in
+    let e₂ = when-ok _ _ _ tt e₁.1 in
+    let e₃ = when-ok _ _ _ tt e₂.1 in
     record {
       sound = sound u s e₀.0;
       few = ltb-false most_rows (length s) e₁.0;
       some = leb-false b a e₂.0;
       inside = ltb-false (total (rows u s)) b e₃.0;
-      room = room-never (length (cut a b (rows u s))) nu ns e₃.1;
+      room = room-unrefused (length (cut a b (rows u s))) nu ns e₃.1;
     }
 
-pub cut-accepted : (u : List ℕ) (s : List ℤ) (a b nu ns : ℕ) → Cuttable u s a b nu ns → cut_refusal u s a b nu ns ≡ Never
+pub cut-accepted : (u : List ℕ) (s : List ℤ) (a b nu ns : ℕ) → Cuttable u s a b nu ns → cut_refusal u s a b nu ns ≡ Ok tt
 cut-accepted u s a b nu ns o =
     cut-room u s a b nu ns (sound-map u s o.sound) o.few o.some o.inside
     ∙ room-off (length (cut a b (rows u s))) nu ns (facts-fit (length (cut a b (rows u s))) nu ns o.room)
 
 -- the chain of a merge
-module _ (u : List ℕ) (s : List ℤ) (nu ns : ℕ) where
-  pub merge-malformed : {n i : ℕ} → map_refusal u s ≡ At n i → merge_refusal u s nu ns ≡ At n i
-  unfolding merge_refusal or_refused when
-  merge-malformed e = rw (e)
+module _ (u : List ℕ) (s : List ℤ) (nu ns : ℕ) (e : map_refusal u s ≡ Ok tt) (few : length s ≤ most_rows) where
+  pub merge-room : merge_refusal u s nu ns ≡ room_refusal (length (merge (rows u s))) nu ns
+  unfolding merge_refusal when
+  merge-room = rw (e, le-ltb most_rows (length s) few)
 
-  module _ (e : map_refusal u s ≡ Never) where
-    pub merge-rows-in : most_rows < length s → merge_refusal u s nu ns ≡ At rows_over 0
-    unfolding merge_refusal or_refused when
-    merge-rows-in h = rw (e, lt-ltb most_rows (length s) h)
-
-    pub merge-room : length s ≤ most_rows → merge_refusal u s nu ns ≡ room_refusal (length (merge (rows u s))) nu ns
-    unfolding merge_refusal or_refused when
-    merge-room few = rw (e, le-ltb most_rows (length s) few)
-
-    -- room for all of the map's rows is room for the merged ones
-    pub merge-roomy : length s ≤ most_rows → fits (length s) nu ns ≡ true → merge_refusal u s nu ns ≡ Never
-    merge-roomy few h =
-        let f = fits-facts (length s) nu ns h in
-        let l = demanded.merge-rows (rows u s) in
-        let n = length_run (row_at u s) 0 (length s) in
-        let k = length (merge (rows u s)) in
-        merge-room few ∙ room-off k nu ns (facts-fit k nu ns (record { few = omega (arith, f.few); words = omega (arith, f.words); shifts = omega (arith, f.shifts) }))
+  -- room for all of the map's rows is room for the merged ones
+  pub merge-roomy : fits (length s) nu ns ≡ true → merge_refusal u s nu ns ≡ Ok tt
+  merge-roomy h =
+      let f = fits-facts (length s) nu ns h in
+      let l = demanded.merge-rows (rows u s) in
+      let n = length_run (row_at u s) 0 (length s) in
+      let k = length (merge (rows u s)) in
+      merge-room ∙ room-off k nu ns (facts-fit k nu ns (record { few = omega (arith, f.few); words = omega (arith, f.words); shifts = omega (arith, f.shifts) }))
 
 pub record Mergeable (u : List ℕ) (s : List ℤ) (nu ns : ℕ) : Type 0 where
   pub sound : Sound u s
   pub few : length s ≤ most_rows
   pub room : Fits (length (merge (rows u s))) nu ns
 
-pub merge-never : (u : List ℕ) (s : List ℤ) (nu ns : ℕ) → merge_refusal u s nu ns ≡ Never → Mergeable u s nu ns
+pub merge-unrefused : (u : List ℕ) (s : List ℤ) (nu ns : ℕ) → merge_refusal u s nu ns ≡ Ok tt → Mergeable u s nu ns
 unfolding merge_refusal
-merge-never u s nu ns e =
-    let k = room_refusal (length (merge (rows u s))) nu ns in
-    let e₀ = or-never (map_refusal u s) (when (ltb most_rows (length s)) (At rows_over 0) k) e in
-    let e₁ = when-never (ltb most_rows (length s)) rows_over 0 k e₀.1 in
-    record { sound = sound u s e₀.0; few = ltb-false most_rows (length s) e₁.0; room = room-never (length (merge (rows u s))) nu ns e₁.1 }
+merge-unrefused u s nu ns e =
+    let e₀ = and-ok _ _ tt e in
+    let e₁ = when-ok _ _ _ tt e₀.1 in
+    record { sound = sound u s e₀.0; few = ltb-false most_rows (length s) e₁.0; room = room-unrefused (length (merge (rows u s))) nu ns e₁.1 }
 
-pub merge-accepted : (u : List ℕ) (s : List ℤ) (nu ns : ℕ) → Mergeable u s nu ns → merge_refusal u s nu ns ≡ Never
+pub merge-accepted : (u : List ℕ) (s : List ℤ) (nu ns : ℕ) → Mergeable u s nu ns → merge_refusal u s nu ns ≡ Ok tt
 merge-accepted u s nu ns o =
     merge-room u s nu ns (sound-map u s o.sound) o.few ∙ room-off (length (merge (rows u s))) nu ns (facts-fit (length (merge (rows u s))) nu ns o.room)
 
 -- the chain of a join
 module _ (u : List ℕ) (s : List ℤ) (v : List ℕ) (t : List ℤ) (nu ns : ℕ) where
-  pub join-malformed : {n i : ℕ} → map_refusal u s ≡ At n i → join_refusal u s v t nu ns ≡ At n i
-  unfolding join_refusal or_refused when
-  join-malformed e = rw (e)
-
-  module _ (e : map_refusal u s ≡ Never) where
-    pub join-malformed-second : {n i : ℕ} → map_refusal v t ≡ At n i → join_refusal u s v t nu ns ≡ At n i
-    unfolding join_refusal or_refused when
-    join-malformed-second f = rw (e, f)
-
-    module _ (f : map_refusal v t ≡ Never) where
-      pub join-rows-in : most_rows < length s → join_refusal u s v t nu ns ≡ At rows_over 0
-      unfolding join_refusal or_refused when
-      join-rows-in h = rw (e, f, lt-ltb most_rows (length s) h)
-
-      module _ (few : length s ≤ most_rows) where
-        pub join-rows-in-second : most_rows < length t → join_refusal u s v t nu ns ≡ At rows_over 0
-        unfolding join_refusal or_refused when
-        join-rows-in-second h = rw (e, f, le-ltb most_rows (length s) few, lt-ltb most_rows (length t) h)
-
-        module _ (few₂ : length t ≤ most_rows) where
-          pub join-long : past (total (rows u s)) (total (rows v t)) max_u64 ≡ true → join_refusal u s v t nu ns ≡ At frames_over 0
-          unfolding join_refusal or_refused when
-          join-long h = rw (e, f, le-ltb most_rows (length s) few, le-ltb most_rows (length t) few₂, h)
-
-          pub join-room : past (total (rows u s)) (total (rows v t)) max_u64 ≡ false → join_refusal u s v t nu ns ≡ room_refusal (length (join (rows u s) (rows v t))) nu ns
-          unfolding join_refusal or_refused when
-          join-room h = rw (e, f, le-ltb most_rows (length s) few, le-ltb most_rows (length t) few₂, h)
+  pub join-room : map_refusal u s ≡ Ok tt → map_refusal v t ≡ Ok tt → length s ≤ most_rows → length t ≤ most_rows → past (total (rows u s)) (total (rows v t)) max_u64 ≡ false
+      → join_refusal u s v t nu ns ≡ room_refusal (length (join (rows u s) (rows v t))) nu ns
+  unfolding join_refusal when
+  join-room e f few few-second h = rw (e, f, le-ltb most_rows (length s) few, le-ltb most_rows (length t) few-second, h)
 
 pub record Joinable (u : List ℕ) (s : List ℤ) (v : List ℕ) (t : List ℤ) (nu ns : ℕ) : Type 0 where
   pub first : Sound u s
@@ -225,49 +169,34 @@ pub record Joinable (u : List ℕ) (s : List ℤ) (v : List ℕ) (t : List ℤ) 
   pub short : total (rows u s) + total (rows v t) ≤ max_u64
   pub room : Fits (length (join (rows u s) (rows v t))) nu ns
 
-pub join-never : (u : List ℕ) (s : List ℤ) (v : List ℕ) (t : List ℤ) (nu ns : ℕ) → join_refusal u s v t nu ns ≡ Never → Joinable u s v t nu ns
+pub join-unrefused : (u : List ℕ) (s : List ℤ) (v : List ℕ) (t : List ℤ) (nu ns : ℕ) → join_refusal u s v t nu ns ≡ Ok tt → Joinable u s v t nu ns
 unfolding join_refusal
-join-never u s v t nu ns e =
-    let k = room_refusal (length (join (rows u s) (rows v t))) nu ns in
-    let p = past (total (rows u s)) (total (rows v t)) max_u64 in
-    let x₄ = when p (At frames_over 0) k in
-    let x₃ = when (ltb most_rows (length t)) (At rows_over 0) x₄ in
-    let x₂ = when (ltb most_rows (length s)) (At rows_over 0) x₃ in
-    let e₀ = or-never (map_refusal u s) (or_refused (map_refusal v t) x₂) e in
-    let e₁ = or-never (map_refusal v t) x₂ e₀.1 in
-    let e₂ = when-never (ltb most_rows (length s)) rows_over 0 x₃ e₁.1 in
-    let e₃ = when-never (ltb most_rows (length t)) rows_over 0 x₄ e₂.1 in
-    let e₄ = when-never p frames_over 0 k e₃.1 in
+join-unrefused u s v t nu ns e =
+    let e₀ = and-ok _ _ tt e in
+    let e₁ = and-ok _ _ tt e₀.1 in
+    let e₂ = when-ok _ _ _ tt e₁.1 in
+    let e₃ = when-ok _ _ _ tt e₂.1 in
+    let e₄ = when-ok _ _ _ tt e₃.1 in
     record {
       first = sound u s e₀.0;
       second = sound v t e₁.0;
       few = ltb-false most_rows (length s) e₂.0;
       few-second = ltb-false most_rows (length t) e₃.0;
       short = past-not (total (rows u s)) (total (rows v t)) max_u64 e₄.0;
-      room = room-never (length (join (rows u s) (rows v t))) nu ns e₄.1;
+      room = room-unrefused (length (join (rows u s) (rows v t))) nu ns e₄.1;
     }
 
-pub join-accepted : (u : List ℕ) (s : List ℤ) (v : List ℕ) (t : List ℤ) (nu ns : ℕ) → Joinable u s v t nu ns → join_refusal u s v t nu ns ≡ Never
+pub join-accepted : (u : List ℕ) (s : List ℤ) (v : List ℕ) (t : List ℤ) (nu ns : ℕ) → Joinable u s v t nu ns → join_refusal u s v t nu ns ≡ Ok tt
 join-accepted u s v t nu ns o =
     join-room u s v t nu ns (sound-map u s o.first) (sound-map v t o.second) o.few o.few-second (not-past (total (rows u s)) (total (rows v t)) max_u64 o.short)
     ∙ room-off (length (join (rows u s) (rows v t))) nu ns (facts-fit (length (join (rows u s) (rows v t))) nu ns o.room)
 
 -- the chain of an origin
-module _ (u : List ℕ) (s : List ℤ) (k : ℕ) where
-  pub origin-malformed : {n i : ℕ} → map_refusal u s ≡ At n i → origin_refusal u s k ≡ At n i
-  unfolding origin_refusal or_refused when
-  origin-malformed e = rw (e)
+module _ (u : List ℕ) (s : List ℤ) (k : ℕ) (e : map_refusal u s ≡ Ok tt) (few : length s ≤ most_rows) where
+  pub origin-beyond : total (rows u s) ≤ k → origin_refusal u s k ≡ refused reason.PastMap 0
+  unfolding origin_refusal when
+  origin-beyond h = rw (e, le-ltb most_rows (length s) few, le-leb (total (rows u s)) k h)
 
-  module _ (e : map_refusal u s ≡ Never) where
-    pub origin-rows-in : most_rows < length s → origin_refusal u s k ≡ At rows_over 0
-    unfolding origin_refusal or_refused when
-    origin-rows-in h = rw (e, lt-ltb most_rows (length s) h)
-
-    module _ (few : length s ≤ most_rows) where
-      pub origin-beyond : total (rows u s) ≤ k → origin_refusal u s k ≡ At past_map 0
-      unfolding origin_refusal or_refused when
-      origin-beyond h = rw (e, le-ltb most_rows (length s) few, le-leb (total (rows u s)) k h)
-
-      pub origin-accepted : k < total (rows u s) → origin_refusal u s k ≡ Never
-      unfolding origin_refusal or_refused when
-      origin-accepted h = rw (e, le-ltb most_rows (length s) few, lt-leb (total (rows u s)) k h)
+  pub origin-accepted : k < total (rows u s) → origin_refusal u s k ≡ Ok tt
+  unfolding origin_refusal when
+  origin-accepted h = rw (e, le-ltb most_rows (length s) few, lt-leb (total (rows u s)) k h)

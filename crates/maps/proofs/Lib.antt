@@ -5,3 +5,4 @@ pub mod Joined
 pub mod Tested
 pub mod ReadBack
 pub mod Lawful
+pub mod Planned

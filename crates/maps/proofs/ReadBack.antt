@@ -1,29 +1,24 @@
 -- Rows that are written read back as they are, and what an accepted call wrote is a map that can be lent. Assumes nothing.
-use Rattle.std.proofs.Common.{◌≡◌, ℕ, ◌*◌, ◌<◌, ◌≤◌, List, [], ◌∷◌, ◌++◌, length, take, drop, ℤ, sym, refl, ap, ◌∙◌, ap₂, arith, take_at, drop_at}
-use Rattle.choice.specs.declared.Refusal.{Refusal}
-use Rattle.choice.specs.declared.Refusal.TheVariants.{Never, At}
+use Rattle.std.proofs.Common.{◌≡◌, ℕ, ◌*◌, ◌<◌, ◌≤◌, List, [], ◌∷◌, ◌++◌, length, take, drop, ℤ, sym, ap, ◌∙◌, ap₂, arith, take_at, drop_at}
+use Rattle.std.specs.Prelude.{Result, Ok, Err}
+use Rattle.refusal.specs.declared.Refusal.{Refusal}
+use Rattle.refusal.proofs.Chains.{ok-of, err-of}
 use Rattle.slices.specs.Slices.{after}
 use Rattle.rows.specs.declared.Row.{Row}
 use Rattle.rows.specs.Rows.{total, WellFormed}
 use Rattle.rows.proofs.Demanded.{demanded}
-use Rattle.maps.specs.declared.Mapped.{Mapped}
-use Rattle.maps.specs.declared.Mapped.TheVariants.{Rows, Refused}
 use Rattle.rows.specs.Lent.{rows, words_of, shifts_of}
-use Rattle.maps.specs.Answers.{most_rows, mapped_of, Placed}
+use Rattle.maps.specs.Answers.{most_rows, Placed}
 use Rattle.maps.specs.Laws.{Wrote, AsLent}
 use Rattle.rows.proofs.Flat.{length-words, length-shifts, rows-flat}
 
-answered-rows : (x : Refusal) (m : List Row) (k : ℕ) → Rows k ≡ mapped_of x m → (x ≡ Never) × (k ≡ length m)
-answered-rows Never m k e = (refl, cc)
-answered-rows (At n i) m k e = let z : ◌≡◌ {A = ℕ} 0 1 = cc in absurd (omega arith)
-
 -- an accepted call
-module _ {x : Refusal} {m : List Row} {ou : List ℕ} {os : List ℤ} {k : ℕ} {ou' : List ℕ} {os' : List ℤ} (p : Placed x m ou os (Rows k) ou' os') where
-  pub none : x ≡ Never
-  none = (answered-rows x m k p.answer).0
+module _ {x : Result (Unit {0}) Refusal} {m : List Row} {ou : List ℕ} {os : List ℤ} {k : ℕ} {ou' : List ℕ} {os' : List ℤ} (p : Placed x m ou os (Ok k) ou' os') where
+  pub none : x ≡ Ok tt
+  none = (ok-of x (length m) k (sym p.answer)).0
 
   pub count : k ≡ length m
-  count = (answered-rows x m k p.answer).1
+  count = sym (ok-of x (length m) k (sym p.answer)).1
 
   words-n : length (words_of m) ≡ 5 * k
   words-n = length-words m ∙ ap (λ (n : ℕ). 5 * n) (sym count)
@@ -32,10 +27,10 @@ module _ {x : Refusal} {m : List Row} {ou : List ℕ} {os : List ℤ} {k : ℕ} 
   shifts-n = length-shifts m ∙ sym count
 
   the-words : ou' ≡ words_of m ++ drop (length (words_of m)) ou
-  the-words = p.words ∙ ap (λ (y : Refusal). after y (words_of m) ou) none
+  the-words = p.words ∙ ap (λ (y : Result (Unit {0}) Refusal). after y (words_of m) ou) none
 
   the-shifts : os' ≡ shifts_of m ++ drop (length (shifts_of m)) os
-  the-shifts = p.shifts ∙ ap (λ (y : Refusal). after y (shifts_of m) os) none
+  the-shifts = p.shifts ∙ ap (λ (y : Result (Unit {0}) Refusal). after y (shifts_of m) os) none
 
   pub words_are : take (5 * k) ou' ≡ words_of m
   words_are = ap (take (5 * k)) the-words ∙ take_at (words_of m) (drop (length (words_of m)) ou) (5 * k) words-n
@@ -61,13 +56,9 @@ module _ {x : Refusal} {m : List Row} {ou : List ℕ} {os : List ℤ} {k : ℕ} 
         is = read_back;
       }
 
-pub as-lent-refused : (x : Refusal) (m : List Row) (n i : ℕ) {A : Type 0} (p o o' : List A) → Refused n i ≡ mapped_of x m → o' ≡ after x p o → o' ≡ o
-as-lent-refused Never m n i p o o' e f = let z : ◌≡◌ {A = ℕ} 0 1 = cc in absurd (omega arith)
-as-lent-refused (At n i) m _ _ p o o' e f = f
-
-pub as_lent : {x : Refusal} {m : List Row} {ou : List ℕ} {os : List ℤ} (r : Mapped) {ou' : List ℕ} {os' : List ℤ} → Placed x m ou os r ou' os' → AsLent r ou os ou' os'
-as_lent (Rows k) p = (past_words p, past-shifts p)
-as_lent {x} {m} {ou} {os} (Refused n i) {ou'} {os'} p = (as-lent-refused x m n i (words_of m) ou ou' p.answer p.words, as-lent-refused x m n i (shifts_of m) os os' p.answer p.shifts)
+pub as_lent : {x : Result (Unit {0}) Refusal} {m : List Row} {ou : List ℕ} {os : List ℤ} (r : Result ℕ Refusal) {ou' : List ℕ} {os' : List ℤ} → Placed x m ou os r ou' os' → AsLent r ou os ou' os'
+as_lent (Ok k) p = (past_words p, past-shifts p)
+as_lent {x} {m} (Err e) p = let f = err-of x (length m) e (sym p.answer) in (rw f at p.words, rw f at p.shifts)
 
 -- a map has rows exactly where it has frames
 pub frames-rows : (m : List Row) → 0 < total m → 0 < length m

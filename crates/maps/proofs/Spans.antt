@@ -1,20 +1,21 @@
 -- Runs of rows: where each row of a sound map lies, the row that holds a frame, and the rows that a cut takes. Assumes nothing.
-use Rattle.std.proofs.Common.{◌≡◌, ℕ, zero, suc, ◌+◌, ◌-◌, ◌<◌, ◌≤◌, min, max, true, false, List, [], ◌∷◌, ◌++◌, length, get_or, ℤ, sym, refl, ap, ◌∙◌, subst, ap₂, ⊎_elim, append-nil, le_of_suc-le-suc, not-suc-le-zero, add-zero, arith, ltb-true, le-ltb, lt-ltb}
+use Rattle.std.proofs.Common.{◌≡◌, ℕ, zero, suc, ◌+◌, ◌-◌, ◌<◌, ◌≤◌, min, max, true, false, List, [], ◌∷◌, ◌++◌, length, get_or, ℤ, sym, refl, ap, ◌∙◌, subst, ⊎_elim, append-nil, le_of_suc-le-suc, not-suc-le-zero, add-zero, arith, ltb-true, le-ltb, lt-ltb}
 use Rattle.choice.specs.Records.{run}
 use Rattle.choice.proofs.Runs.{length_run, get_d-run}
 use Rattle.choice.proofs.Tests.{le-or-lt, Test, was, wasnt, test}
 use Rattle.rows.specs.declared.Row.{Row}
+use Rattle.rows.specs.declared.Origin.{Origin}
 use Rattle.rows.specs.Rows.{row_end, total, WellFrom, WellFormed, holds, origin_in, origin, overlaps, clip, cut}
 use Rattle.rows.specs.Demands.{no_row}
 use Rattle.rows.proofs.Origins.{holds-in, holds-lo, holds-hi}
 use Rattle.rows.proofs.Demanded.{demanded}
-use Rattle.rows.proofs.Well.{Ok, ok-facts}
-use Rattle.choice.specs.declared.Refusal.TheVariants.{Never}
+use Rattle.rows.proofs.Well.{OkRow, ok-facts}
+use Rattle.std.specs.Prelude.{Ok, Some}
+use Rattle.std.specs.Result.{result_and}
 use Rattle.choice.specs.Choice.{max_u64}
-use Rattle.maps.specs.declared.Traced.TheVariants.{From}
 use Rattle.rows.specs.Lent.{row_at, rows}
 use Rattle.rows.specs.Steps.{out_at, OutsRise, LastBegun}
-use Rattle.maps.specs.Answers.{origin_refusal, traced_as, traced_of}
+use Rattle.maps.specs.Answers.{origin_refusal, traced_as}
 use Rattle.maps.specs.Steps.{Sound, Room, Holder, Span}
 use Rattle.maps.proofs.Chains.{Cuttable}
 
@@ -41,17 +42,17 @@ module _ (f : ℕ → Row) where
   start-rises : (i j : ℕ) → i ≤ j → start i ≤ start j
   start-rises i j h = subst (λ (k : ℕ). start i ≤ start k) (omega arith) (start-adds i (j - i))
 
-  ok_from : (n i p k : ℕ) → WellFrom p (run f i n) → k < n → Ok (p + total (run f i k)) (f (i + k))
+  ok_from : (n i p k : ℕ) → WellFrom p (run f i n) → k < n → OkRow (p + total (run f i k)) (f (i + k))
   unfolding run
   ok_from zero i p k w h = absurd (not-suc-le-zero h)
   ok_from (suc n) i p zero w h =
       let e : p ≡ p + 0 = omega arith in
       let g : i ≡ i + 0 = omega arith in
-      subst (λ (x : ℕ). Ok x (f (i + 0))) e (subst (λ (x : ℕ). Ok p (f x)) g (ok-facts p (f i) w.0))
+      subst (λ (x : ℕ). OkRow x (f (i + 0))) e (subst (λ (x : ℕ). OkRow p (f x)) g (ok-facts p (f i) w.0))
   ok_from (suc n) i p (suc k) w h =
       let e : p + (f i).count + total (run f (suc i) k) ≡ p + ((f i).count + total (run f (suc i) k)) = omega arith in
       let g : suc i + k ≡ i + suc k = omega arith in
-      subst (λ (x : ℕ). Ok x (f (i + suc k))) e (subst (λ (x : ℕ). Ok (p + (f i).count + total (run f (suc i) k)) (f x)) g (ok_from n (suc i) (p + (f i).count) k w.1 (le_of_suc-le-suc h)))
+      subst (λ (x : ℕ). OkRow x (f (i + suc k))) e (subst (λ (x : ℕ). OkRow (p + (f i).count + total (run f (suc i) k)) (f x)) g (ok_from n (suc i) (p + (f i).count) k w.1 (le_of_suc-le-suc h)))
 
   -- where a row of a well-formed map lies
   pub record Lies (k : ℕ) : Type 0 where
@@ -64,7 +65,7 @@ module _ (f : ℕ → Row) where
   lies : (n k : ℕ) → WellFormed (run f 0 n) → k < n → Lies k
   lies n k w h =
       let e : 0 + k ≡ k = omega arith in
-      let o : Ok (0 + start k) (f k) = subst (λ (x : ℕ). Ok (0 + start k) (f x)) e (ok_from n 0 0 k w h) in
+      let o : OkRow (0 + start k) (f k) = subst (λ (x : ℕ). OkRow (0 + start k) (f x)) e (ok_from n 0 0 k w h) in
       let z = start-next k in
       record { begins = omega (arith, o.out); ends = omega (arith, o.out); some = o.some; last = o.last; source = o.source }
 
@@ -226,13 +227,13 @@ module _ {u : List ℕ} {s : List ℤ} (m : Sound u s) where
   holds_row k j h l t = ap (λ (r : Row). holds r k) (row_is j h) ∙ holds-in (row_at u s j) k l t
 
   -- the row that was found gives the frame's origin
-  pub origin-held : (k i : ℕ) → Holder u s k i → origin (rows u s) k ≡ origin_in (row_at u s i) k
+  pub origin-held : (k i : ℕ) → Holder u s k i → origin (rows u s) k ≡ Some (origin_in (row_at u s i) k)
   origin-held k i x =
       let l = row_lies m i x.within in
       let n = length_run (row_at u s) 0 (length s) in
       let o = demanded.one-row (rows u s) k m.well (omega (arith, l.ends, start-rises (row_at u s) (suc i) (length s) (omega (arith, x.within)), x.high)) in
       let same : i ≡ o.index = o.only i (omega (arith, x.within)) (holds_row k i x.within x.low x.high) in
-      o.gives ∙ ap (λ (j : ℕ). origin_in (get_or (rows u s) j no_row) k) (sym same) ∙ ap (λ (r : Row). origin_in r k) (row_is i x.within)
+      o.gives ∙ ap (λ (j : ℕ). Some (origin_in (get_or (rows u s) j no_row) k)) (sym same) ∙ ap (λ (r : Row). Some (origin_in r k)) (row_is i x.within)
 
   -- each frame has one row that holds it
   pub row-holder : (k : ℕ) → k < total (rows u s) → OneHolder u s k
@@ -255,8 +256,8 @@ module _ {u : List ℕ} {s : List ℤ} (m : Sound u s) {k i : ℕ} (x : Holder u
   pub held_fits : r.first + (k - r.out) ≤ max_u64
   held_fits = let h : k < row_end r = rw e x.high in omega (arith, held_low, row-source m i r e x.within)
 
-  pub held-traced : {z : ℤ} → origin_refusal u s k ≡ Never → z ≡ r.shift → From r.source (r.first + (k - r.out)) r.flag z ≡ traced_of (origin_refusal u s k) (origin (rows u s) k)
-  held-traced a f = ap (From r.source (r.first + (k - r.out)) r.flag) f ∙ ap (λ (y : Row). traced_as (origin_in y k)) e ∙ sym (ap₂ traced_of a (origin-held m k i x))
+  pub held-traced : {o : Origin} → origin_refusal u s k ≡ Ok tt → o ≡ origin_in r k → Ok o ≡ result_and (origin_refusal u s k) (traced_as (origin (rows u s) k))
+  held-traced a f = rw (a, origin-held m k i x, f, e)
 
 pub taken-room : {u : List ℕ} {s : List ℤ} {a b i k : ℕ} {ou : List ℕ} {os : List ℤ} → Cuttable u s a b (length ou) (length os) → Span u s a b i k → Room k ou os
 taken-room o x = let e = span-length x in record { words = omega (arith, o.room.words); shifts = omega (arith, o.room.shifts) }

@@ -3,9 +3,9 @@ use Rattle.std.proofs.Common.{◌≡◌, ℕ, ◌+◌, ◌%◌, ◌^◌, ◌<◌
 use Rattle.choice.proofs.Tests.{Test, was, wasnt, test}
 use Rattle.rows.specs.declared.Row.{Row}
 use Rattle.rows.specs.Rows.{ok_shift, ok_row}
-use Rattle.rows.proofs.Well.{Ok, ok-shift, ok-facts}
+use Rattle.rows.proofs.Well.{OkRow, ok-shift, ok-facts}
 
-not-ok : (p : ℕ) (r : Row) → (Ok p r → ⊥) → false ≡ ok_row p r
+not-ok : (p : ℕ) (r : Row) → (OkRow p r → ⊥) → false ≡ ok_row p r
 not-ok p r h = go (test (ok_row p r))
   where
     go : Test (ok_row p r) → false ≡ ok_row p r

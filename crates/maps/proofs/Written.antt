@@ -1,22 +1,23 @@
 -- Loops over lent rows: judging, writing rows over what is lent, merging, a turn each. Assumes nothing.
 use Rattle.std.proofs.Common.{◌≡◌, ℕ, ◌+◌, ◌-◌, ◌*◌, ◌<◌, ◌≤◌, true, false, List, [], ◌∷◌, ◌++◌, length, set, ℤ, sym, refl, ap, ◌∙◌, append_assoc, append-nil, add-one, arith, length-append}
 use lib.Seq.{sets}
+use Rattle.std.specs.Prelude.{Result, Ok}
+use Rattle.std.specs.Result.{result_and}
 use Rattle.choice.specs.Choice.{when, max_u64}
 use Rattle.choice.specs.Records.{run}
-use Rattle.choice.specs.declared.Refusal.{Refusal}
-use Rattle.choice.specs.declared.Refusal.TheVariants.{Never}
+use Rattle.refusal.specs.declared.Refusal.{Refusal}
+use Rattle.refusal.specs.declared.Reason.TheVariants as reason
+use Rattle.refusal.specs.Refusals.{refused}
 use Rattle.choice.proofs.Runs.{run-cons, run-nil}
 use Rattle.slices.specs.Slices.{laid}
 use Rattle.slices.proofs.Laid.{length-laid, set-laid, sets-laid}
 use Rattle.rows.specs.declared.Row.{Row}
 use Rattle.rows.specs.Rows.{total, ok_row, runs_on, glue, merge_into, merge}
 use Rattle.rows.proofs.Merging.{runs_on-true}
-use Rattle.maps.specs.declared.Mapped.TheVariants.{Rows}
-use Rattle.maps.specs.declared.Frames.TheVariants as frames
 use Rattle.rows.specs.Lent.{row_at, rows, words, words_of, shifts_of}
 use Rattle.rows.proofs.Flat.{words_append, shifts-append, length-words, length-shifts}
-use Rattle.maps.specs.Answers.{bad_rows, first_bad, Placed}
-use Rattle.maps.specs.Steps.{Room, counted}
+use Rattle.maps.specs.Answers.{first_bad}
+use Rattle.maps.specs.Steps.{Room}
 
 -- row i as it was read, and the rows after it
 read : (f : ℕ → Row) (i n : ℕ) (r : Row) → r ≡ f i → i < n → run f i (n - i) ≡ r ∷ run f (i + 1) (n - (i + 1))
@@ -25,21 +26,24 @@ read f i n r e h = run-cons f i n h ∙ ap (λ (x : Row). x ∷ run f (i + 1) (n
 -- judging
 module _ (f : ℕ → Row) (p i n : ℕ) where
   module _ (r : Row) (e : r ≡ f i) (h : i < n) where
-    pub judge-bad : (t : ℕ) → ok_row p r ≡ false → counted (first_bad p i (run f i (n - i))) t ≡ frames.Refused bad_rows i
+    pub judge-bad : {A : Type 0} (t : Result A Refusal) → ok_row p r ≡ false → result_and (first_bad p i (run f i (n - i))) t ≡ refused reason.BadRows i
     unfolding first_bad when
     judge-bad t b = rw (read f i n r e h, b)
 
     pub judge-ok : ok_row p r ≡ true
-        → counted (first_bad p i (run f i (n - i))) (p + total (run f i (n - i)))
-        ≡ counted (first_bad (p + r.count) (i + 1) (run f (i + 1) (n - (i + 1)))) (p + r.count + total (run f (i + 1) (n - (i + 1))))
+        → result_and (first_bad p i (run f i (n - i))) (Ok (p + total (run f i (n - i))))
+        ≡ result_and (first_bad (p + r.count) (i + 1) (run f (i + 1) (n - (i + 1)))) (Ok (p + r.count + total (run f (i + 1) (n - (i + 1)))))
     unfolding first_bad when
     judge-ok b =
         let g : p + (r.count + total (run f (i + 1) (n - (i + 1)))) ≡ p + r.count + total (run f (i + 1) (n - (i + 1))) = omega arith in
         rw (read f i n r e h, b, g, add-one)
 
-  pub judge-end : n ≤ i → counted (first_bad p i (run f i (n - i))) (p + total (run f i (n - i))) ≡ frames.Are p
+  pub judge-end : n ≤ i → result_and (first_bad p i (run f i (n - i))) (Ok (p + total (run f i (n - i)))) ≡ Ok p
   unfolding first_bad
   judge-end h = let g : p + 0 ≡ p = omega arith in rw (run-nil f i n h, g)
+
+-- for the ends of the loop
+pub ruleset judged = (judge-bad, judge-end)
 
 -- of the rows C, those but rest have been written over what was lent
 pub record Written (C rest : List Row) (ou₀ : List ℕ) (os₀ : List ℤ) (ou : List ℕ) (os : List ℤ) (w : ℕ) : Type 0 where
@@ -124,8 +128,3 @@ module _ (f : ℕ → Row) (i n : ℕ) (c : Row) where
 -- row c with row r after it still fits
 pub glue-fits : (c r : Row) → runs_on c r ≡ true → r.first + r.count ≤ max_u64 → (c.count + r.count ≤ max_u64) × (c.first + (c.count + r.count) ≤ max_u64)
 glue-fits c r b h = let o = runs_on-true c r b in omega (arith, o.first)
-
--- what a call that writes rows promises, from its two ends
-module _ {x : Refusal} {m : List Row} {ou : List ℕ} {os : List ℤ} where
-  pub placed-rows : {k : ℕ} {ou' : List ℕ} {os' : List ℤ} → x ≡ Never → k ≡ length m → ou' ≡ laid (words_of m) ou → os' ≡ laid (shifts_of m) os → Placed x m ou os (Rows k) ou' os'
-  placed-rows e n p q = record { answer = rw e (ap Rows n); words = rw e p; shifts = rw e q }

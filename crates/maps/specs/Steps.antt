@@ -1,13 +1,9 @@
 -- What the private steps of the calls ask and promise. No public promise names these.
-use Rattle.std.specs.Prelude.{◌≡◌, ℕ, ◌+◌, ◌*◌, ◌<◌, ◌≤◌, true, List, length, ℤ}
+use Rattle.std.specs.Prelude.{◌≡◌, ℕ, ◌+◌, ◌*◌, ◌<◌, ◌≤◌, true, List, length, ℤ, Result, Ok, Err}
 use Rattle.choice.specs.Records.{run}
-use Rattle.choice.specs.declared.Refusal.{Refusal}
-use Rattle.choice.specs.declared.Refusal.TheVariants.{Never, At}
+use Rattle.refusal.specs.declared.Refusal.{Refusal}
 use Rattle.rows.specs.Rows.{WellFormed, row_end, overlaps, clip, cut}
-use Rattle.maps.specs.declared.Frames.{Frames}
-use Rattle.maps.specs.declared.Frames.TheVariants as frames
-use Rattle.maps.specs.declared.Part.{Part}
-use Rattle.maps.specs.declared.Part.TheVariants as part
+use Rattle.maps.specs.declared.Taken.{Taken}
 use Rattle.rows.specs.Lent.{row_at, rows}
 use Rattle.maps.specs.Answers.{cut_refusal}
 
@@ -28,11 +24,6 @@ pub record Holder (u : List ℕ) (s : List ℤ) (k i : ℕ) : Type 0 where
   pub low : (row_at u s i).out ≤ k
   pub high : k < row_end (row_at u s i)
 
--- t frames, or the refusal
-abbrev pub counted : Refusal → ℕ → Frames
-counted Never t = frames.Are t
-counted (At n i) t = frames.Refused n i
-
 -- the rows of a cut are those of the k rows of a map from row i on
 pub record Span (u : List ℕ) (s : List ℤ) (a b i k : ℕ) : Type 0 where
   pub within : i + k ≤ length s
@@ -40,6 +31,6 @@ pub record Span (u : List ℕ) (s : List ℤ) (a b i k : ℕ) : Type 0 where
   pub is : cut a b (rows u s) ≡ run (λ j. clip a b (row_at u s (i + j))) 0 k
 
 -- what is planned for a cut: the rows that it takes, or the refusal
-abbrev pub Planned : List ℕ → List ℤ → ℕ → ℕ → ℕ → ℕ → Part → Type 0
-Planned u s a b nu ns (part.Rows i k) = (cut_refusal u s a b nu ns ≡ Never) × Span u s a b i k
-Planned u s a b nu ns (part.Refused n i) = cut_refusal u s a b nu ns ≡ At n i
+abbrev pub Planned : List ℕ → List ℤ → ℕ → ℕ → ℕ → ℕ → Result Taken Refusal → Type 0
+Planned u s a b nu ns (Ok part) = (cut_refusal u s a b nu ns ≡ Ok tt) × Span u s a b part.first part.rows
+Planned u s a b nu ns (Err refusal) = cut_refusal u s a b nu ns ≡ Err refusal

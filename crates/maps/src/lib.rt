@@ -1,7 +1,8 @@
 // The calls on lent frame maps: cut, join, merge, and the origin of a frame.
 #![tactic(auto)]
 
-ghost use Rattle.std.specs.Prelude.{◌≡◌, ◌+◌, ◌-◌, ◌*◌, ◌%◌, ◌^◌, ◌<◌, ◌≤◌, min, max, length, slice_set};
+ghost use Rattle.std.specs.Prelude.{◌≡◌, ◌+◌, ◌-◌, ◌*◌, ◌%◌, ◌^◌, ◌<◌, ◌≤◌, min, max, length, slice_set, Ok};
+ghost use Rattle.std.specs.Result.{result_and};
 ghost use Rattle.std.proofs.lemmas.List.Edits.{sets};
 ghost use Rattle.choice.specs.Records.{run};
 ghost use Rattle.choice.specs.Choice.{max_u64};
@@ -9,59 +10,21 @@ ghost use Rattle.slices.specs.Slices.{laid};
 ghost use Rattle.rows.specs.Rows.{row_end, total, ok_row, clip, cut, moved, join, runs_on, glue, merge};
 ghost use Rattle.rows.specs.Lent.{row_at, rows, words, words_of, shifts_of};
 ghost use Rattle.maps.specs.Answers.{sized, fits, first_bad, map_refusal, join_refusal, merge_refusal, Cut, Join, Merge, Trace};
-ghost use Rattle.maps.specs.Steps.{Sound, Room, Holder, counted, Span, Planned};
+ghost use Rattle.maps.specs.Steps.{Sound, Room, Holder, Span, Planned};
 ghost use Rattle.maps.specs.Laws.{Laws};
 
-use choice::{MAX_U64, Refusal};
-use rows::Row;
+use choice::MAX_U64;
+use refusal::{Reason, Refusal};
+use rows::{Origin, Row};
 
 // The rows that a map may have, in or out.
 pub const MOST_ROWS: usize = 1024;
-
-// The refusals' numbers: a cut's range, rows malformed, too many rows or too little room, joined frames past 2^64 - 1, a frame past the map.
-pub const BAD_RANGE: u64 = 50;
-
-const BAD_ROWS: u64 = 51;
-
-pub const ROWS_OVER: u64 = 52;
-
-const FRAMES_OVER: u64 = 53;
-
-const PAST_MAP: u64 = 54;
-
-// The answer of a call that writes rows: how many, or a refusal's number and index.
-#[derive(Clone, Copy)]
-pub enum Mapped {
-    Rows(usize),
-    Refused(u64, usize),
-}
-
-// The answer of `origin`: source, source frame, shift flag and shift; or a refusal's number and index.
-#[derive(Clone, Copy)]
-pub enum Traced {
-    From(u64, u64, u64, i64),
-    Refused(u64, usize),
-}
-
-// A map's frames, or a refusal.
-#[derive(Clone, Copy)]
-pub enum Frames {
-    Are(u64),
-    Refused(u64, usize),
-}
 
 // The rows that a cut takes: the first of them, and how many.
 #[derive(Clone, Copy)]
 pub struct Taken {
     pub first: usize,
     pub rows: usize,
-}
-
-// The same, or a refusal.
-#[derive(Clone, Copy)]
-enum Part {
-    Rows(usize, usize),
-    Refused(u64, usize),
 }
 
 // Row i of a lent map.
@@ -133,9 +96,10 @@ fn is_sized(u: &[u64], s: &[i64]) -> bool
 }
 
 // The frames of a map, or 51 at its first row that isn't well formed.
-fn judge(u: &[u64], s: &[i64]) -> Frames
+#[tactic(auto, using(crate::proofs::Written::judged))]
+fn judge(u: &[u64], s: &[i64]) -> Result<u64, Refusal>
     requires { length u.now ≡ 5 * length s.now }
-    ensures { result ≡ counted (first_bad 0 0 (rows u.now s.now)) (total (rows u.now s.now)) }
+    ensures { result ≡ result_and (first_bad 0 0 (rows u.now s.now)) (Ok (total (rows u.now s.now))) }
 {
     let mut p: u64 = 0;
     let mut i: usize = 0;
@@ -143,20 +107,21 @@ fn judge(u: &[u64], s: &[i64]) -> Frames
         let r = row_at(u, s, i);
         let end = std::num::wrapping_add_u64(p, r.count);
         if !ok_row(p, end, r) {
-            return Frames::Refused(BAD_ROWS, i);
+            return Err(Reason::BadRows.at(i));
         }
         p = end;
         i += 1;
     }
-    Frames::Are(p)
+    Ok(p)
 }
 
 // The frames of a lent map, or 51.
-pub fn frames_of(u: &[u64], s: &[i64]) -> Frames
-    ensures { result ≡ counted (map_refusal u.now s.now) (total (rows u.now s.now)) }
+#[tactic(auto, unfolding(choice::specs::Choice::when, crate::specs::Answers::map_refusal))]
+pub fn frames_of(u: &[u64], s: &[i64]) -> Result<u64, Refusal>
+    ensures { result ≡ result_and (map_refusal u.now s.now) (Ok (total (rows u.now s.now))) }
 {
     if !is_sized(u, s) {
-        return Frames::Refused(BAD_ROWS, 0);
+        return Err(Reason::BadRows.at(0));
     }
     judge(u, s)
 }
@@ -226,28 +191,25 @@ fn clipped(r: Row, a: u64, b: u64) -> Row
 }
 
 // The rows that a cut takes, where nu words and ns shifts are lent for them; or its refusal.
-fn plan_cut(u: &[u64], s: &[i64], a: u64, b: u64, nu: usize, ns: usize) -> Part
+#[tactic(auto, using(crate::proofs::Planned::planned), unfolding(choice::specs::Choice::when, crate::specs::Answers::cut_refusal, crate::specs::Answers::room_refusal))]
+fn plan_cut(u: &[u64], s: &[i64], a: u64, b: u64, nu: usize, ns: usize) -> Result<Taken, Refusal>
     ensures { Planned u.now s.now a b nu ns result }
 {
-    match frames_of(u, s) {
-        Frames::Refused(n, i) => Part::Refused(n, i),
-        Frames::Are(t) => {
-            if MOST_ROWS < s.len() {
-                return Part::Refused(ROWS_OVER, 0);
-            }
-            if b <= a {
-                return Part::Refused(BAD_RANGE, 0);
-            }
-            if t < b {
-                return Part::Refused(BAD_RANGE, 0);
-            }
-            let part = part_of(u, s, a, b);
-            if !has_room(part.rows, nu, ns) {
-                return Part::Refused(ROWS_OVER, 0);
-            }
-            Part::Rows(part.first, part.rows)
-        }
+    let frames = frames_of(u, s)?;
+    if MOST_ROWS < s.len() {
+        return Err(Reason::RowsDontFit.at(0));
     }
+    if b <= a {
+        return Err(Reason::BadRange.at(0));
+    }
+    if frames < b {
+        return Err(Reason::BadRange.at(0));
+    }
+    let part = part_of(u, s, a, b);
+    if !has_room(part.rows, nu, ns) {
+        return Err(Reason::RowsDontFit.at(0));
+    }
+    Ok(part)
 }
 
 // The overlaps of k rows from row i on, written over the first rows of what is lent.
@@ -274,16 +236,20 @@ pub fn write_cut(
 }
 
 // Cut a..b of a map into what is lent: each row's overlap, counted from a.
-pub fn cut(u: &[u64], s: &[i64], a: u64, b: u64, ou: &mut [u64], os: &mut [i64]) -> Mapped
+#[tactic(auto, using(crate::proofs::Planned::planned))]
+pub fn cut(
+    u: &[u64],
+    s: &[i64],
+    a: u64,
+    b: u64,
+    ou: &mut [u64],
+    os: &mut [i64],
+) -> Result<usize, Refusal>
     ensures { Cut u.now s.now a b ou.old os.old result ou.new os.new }
 {
-    match plan_cut(u, s, a, b, ou.len(), os.len()) {
-        Part::Rows(i, k) => {
-            write_cut(u, s, a, b, i, k, ou, os);
-            Mapped::Rows(k)
-        }
-        Part::Refused(n, i) => Mapped::Refused(n, i),
-    }
+    let part = plan_cut(u, s, a, b, ou.len(), os.len())?;
+    write_cut(u, s, a, b, part.first, part.rows, ou, os);
+    Ok(part.rows)
 }
 
 // Whether row r continues row c.
@@ -332,24 +298,21 @@ fn count_merge(u: &[u64], s: &[i64]) -> usize
 }
 
 // The refusal of a merge, where nu words and ns shifts are lent. Its rows are counted only where all of the map's rows have no room.
-fn refuse_merge(u: &[u64], s: &[i64], nu: usize, ns: usize) -> Refusal
+#[tactic(auto, using(crate::proofs::Planned::planned), unfolding(choice::specs::Choice::when, crate::specs::Answers::merge_refusal, crate::specs::Answers::room_refusal))]
+fn refuse_merge(u: &[u64], s: &[i64], nu: usize, ns: usize) -> Result<(), Refusal>
     ensures { result ≡ merge_refusal u.now s.now nu ns }
 {
-    match frames_of(u, s) {
-        Frames::Refused(n, i) => Refusal::At(n, i),
-        Frames::Are(_) => {
-            if MOST_ROWS < s.len() {
-                return Refusal::At(ROWS_OVER, 0);
-            }
-            if has_room(s.len(), nu, ns) {
-                return Refusal::Never;
-            }
-            if has_room(count_merge(u, s), nu, ns) {
-                return Refusal::Never;
-            }
-            Refusal::At(ROWS_OVER, 0)
-        }
+    frames_of(u, s)?;
+    if MOST_ROWS < s.len() {
+        return Err(Reason::RowsDontFit.at(0));
     }
+    if has_room(s.len(), nu, ns) {
+        return Ok(());
+    }
+    if has_room(count_merge(u, s), nu, ns) {
+        return Ok(());
+    }
+    Err(Reason::RowsDontFit.at(0))
 }
 
 // The merged rows, written over the first rows of what is lent: how many.
@@ -376,16 +339,11 @@ fn write_merge(u: &[u64], s: &[i64], ou: &mut [u64], os: &mut [i64]) -> usize
 }
 
 // A map into what is lent, with one row of neighbours that continue.
-pub fn merge(u: &[u64], s: &[i64], ou: &mut [u64], os: &mut [i64]) -> Mapped
+pub fn merge(u: &[u64], s: &[i64], ou: &mut [u64], os: &mut [i64]) -> Result<usize, Refusal>
     ensures { Merge u.now s.now ou.old os.old result ou.new os.new }
 {
-    match refuse_merge(u, s, ou.len(), os.len()) {
-        Refusal::Never => {
-            let k = write_merge(u, s, ou, os);
-            Mapped::Rows(k)
-        }
-        Refusal::At(n, i) => Mapped::Refused(n, i),
-    }
+    refuse_merge(u, s, ou.len(), os.len())?;
+    Ok(write_merge(u, s, ou, os))
 }
 
 // Row r, d output frames later.
@@ -417,30 +375,32 @@ fn write_moved(u: &[u64], s: &[i64], d: u64, ou: &mut [u64])
 }
 
 // The first map's frames, where a join is accepted; or its refusal.
-fn plan_join(u: &[u64], s: &[i64], v: &[u64], t: &[i64], nu: usize, ns: usize) -> Frames
-    ensures { result ≡ counted (join_refusal u.now s.now v.now t.now nu ns) (total (rows u.now s.now)) }
+#[tactic(auto, using(crate::proofs::Planned::planned), unfolding(choice::specs::Choice::when, crate::specs::Answers::join_refusal, crate::specs::Answers::room_refusal))]
+fn plan_join(
+    u: &[u64],
+    s: &[i64],
+    v: &[u64],
+    t: &[i64],
+    nu: usize,
+    ns: usize,
+) -> Result<u64, Refusal>
+    ensures { result ≡ result_and (join_refusal u.now s.now v.now t.now nu ns) (Ok (total (rows u.now s.now))) }
 {
-    match frames_of(u, s) {
-        Frames::Refused(n, i) => Frames::Refused(n, i),
-        Frames::Are(d) => match frames_of(v, t) {
-            Frames::Refused(n, i) => Frames::Refused(n, i),
-            Frames::Are(e) => {
-                if MOST_ROWS < s.len() {
-                    return Frames::Refused(ROWS_OVER, 0);
-                }
-                if MOST_ROWS < t.len() {
-                    return Frames::Refused(ROWS_OVER, 0);
-                }
-                if choice::is_past(d, e, MAX_U64) {
-                    return Frames::Refused(FRAMES_OVER, 0);
-                }
-                if !has_room(s.len() + t.len(), nu, ns) {
-                    return Frames::Refused(ROWS_OVER, 0);
-                }
-                Frames::Are(d)
-            }
-        },
+    let first = frames_of(u, s)?;
+    let second = frames_of(v, t)?;
+    if MOST_ROWS < s.len() {
+        return Err(Reason::RowsDontFit.at(0));
     }
+    if MOST_ROWS < t.len() {
+        return Err(Reason::RowsDontFit.at(0));
+    }
+    if choice::is_past(first, second, MAX_U64) {
+        return Err(Reason::JoinWraps.at(0));
+    }
+    if !has_room(s.len() + t.len(), nu, ns) {
+        return Err(Reason::RowsDontFit.at(0));
+    }
+    Ok(first)
 }
 
 // Two maps, the first of d frames, written over the first rows of what is lent. What isn't moved is copied as it lies, a slice at a time.
@@ -457,35 +417,41 @@ fn write_join(u: &[u64], s: &[i64], d: u64, v: &[u64], t: &[i64], ou: &mut [u64]
 }
 
 // Two maps into what is lent, the second after the first, its out firsts moved.
-pub fn join(u: &[u64], s: &[i64], v: &[u64], t: &[i64], ou: &mut [u64], os: &mut [i64]) -> Mapped
+#[tactic(auto, using(crate::proofs::Planned::planned))]
+pub fn join(
+    u: &[u64],
+    s: &[i64],
+    v: &[u64],
+    t: &[i64],
+    ou: &mut [u64],
+    os: &mut [i64],
+) -> Result<usize, Refusal>
     ensures { Join u.now s.now v.now t.now ou.old os.old result ou.new os.new }
 {
-    match plan_join(u, s, v, t, ou.len(), os.len()) {
-        Frames::Refused(n, i) => Mapped::Refused(n, i),
-        Frames::Are(d) => {
-            write_join(u, s, d, v, t, ou, os);
-            Mapped::Rows(s.len() + t.len())
-        }
-    }
+    let first = plan_join(u, s, v, t, ou.len(), os.len())?;
+    write_join(u, s, first, v, t, ou, os);
+    Ok(s.len() + t.len())
 }
 
 // Where a frame comes from.
-pub fn origin(u: &[u64], s: &[i64], frame: u64) -> Traced
+#[tactic(auto, using(crate::proofs::Planned::planned), unfolding(choice::specs::Choice::when, crate::specs::Answers::origin_refusal))]
+pub fn origin(u: &[u64], s: &[i64], frame: u64) -> Result<Origin, Refusal>
     ensures { Trace u.now s.now frame result }
 {
-    match frames_of(u, s) {
-        Frames::Refused(n, i) => Traced::Refused(n, i),
-        Frames::Are(t) => {
-            if MOST_ROWS < s.len() {
-                return Traced::Refused(ROWS_OVER, 0);
-            }
-            if t <= frame {
-                return Traced::Refused(PAST_MAP, 0);
-            }
-            let r = row_at(u, s, row_of(u, s, frame));
-            Traced::From(r.source, r.first + (frame - r.out), r.flag, r.shift)
-        }
+    let frames = frames_of(u, s)?;
+    if MOST_ROWS < s.len() {
+        return Err(Reason::RowsDontFit.at(0));
     }
+    if frames <= frame {
+        return Err(Reason::PastMap.at(0));
+    }
+    let r = row_at(u, s, row_of(u, s, frame));
+    Ok(Origin {
+        source: r.source,
+        frame: r.first + (frame - r.out),
+        flag: r.flag,
+        shift: r.shift,
+    })
 }
 
 // What the calls give together: when they accept, that what they write is a map again, with the origins that it must have, and what they

@@ -1,5 +1,5 @@
 -- Cuts: origins, cuts of cuts, tiling, frames and rows. Assumes nothing.
-use Rattle.std.specs.Prelude.{if◌then◌else◌}
+use Rattle.std.specs.Prelude.{if◌then◌else◌, Some}
 use Prim.Native.Nat.{ℕ, ◌+◌, ◌-◌, ◌≤◌, ◌<◌, min, max}
 use native.Mathlib.Omega.{arith}
 use native.Mathlib.Nat.{add_assoc}
@@ -12,7 +12,7 @@ use lib.ListN.{length}
 use borrow.Author.Tests.{lt-ltb, le-ltb, ltb-true, ltb-false}
 use Rattle.choice.proofs.Tests.{Test, was, wasnt, test, le-or-lt, same-ltb}
 use Rattle.rows.specs.declared.Row.{Row}
-use Rattle.rows.specs.Rows.{from, row_end, holds, origin_in, origin, total, overlaps, clip, cut}
+use Rattle.rows.specs.Rows.{row_end, holds, origin_in, origin, total, overlaps, clip, cut}
 use Rattle.rows.specs.Demands.{Tiles}
 use Rattle.rows.proofs.Origins.{row-eq, holds-in, holds-before, holds_after, holds-lo, Place, inside, before, after, place}
 
@@ -26,7 +26,7 @@ clip-holds a b r k h o = go (place r (a + k))
     go (after l) = holds_after (clip a b r) k (omega arith) ∙ sym (holds_after r (a + k) l)
 
 clip-origin : (a b : ℕ) (r : Row) (k : ℕ) → r.out ≤ a + k → origin_in (clip a b r) k ≡ origin_in r (a + k)
-clip-origin a b r k h = let e : r.first + (a - r.out) + (k - (r.out - a)) ≡ r.first + (a + k - r.out) = omega arith in ap (λ (x : ℕ). from r.source x r.flag r.shift) e
+clip-origin a b r k h = let e : r.first + (a - r.out) + (k - (r.out - a)) ≡ r.first + (a + k - r.out) = omega arith in cc
 
 skip-holds : (a b : ℕ) (r : Row) (k : ℕ) → k < b - a → min b (row_end r) ≤ max a r.out → holds r (a + k) ≡ false
 skip-holds a b r k h o = go (place r (a + k))
@@ -41,8 +41,8 @@ cut-origin [] a b k h = refl
 cut-origin (r ∷ m) a b k h = go (test (overlaps a b r)) (cut-origin m a b k h)
   where
     in_row : Test (holds r (a + k)) → max a r.out < min b (row_end r) → origin (cut a b m) k ≡ origin m (a + k)
-        → (if holds (clip a b r) k then origin_in (clip a b r) k else origin (cut a b m) k) ≡ (if holds r (a + k) then origin_in r (a + k) else origin m (a + k))
-    in_row (was e) o ih = rw (clip-holds a b r k h o, e) (clip-origin a b r k (holds-lo r (a + k) e))
+        → (if holds (clip a b r) k then Some (origin_in (clip a b r) k) else origin (cut a b m) k) ≡ (if holds r (a + k) then Some (origin_in r (a + k)) else origin m (a + k))
+    in_row (was e) o ih = rw (clip-holds a b r k h o, e, clip-origin a b r k (holds-lo r (a + k) e))
     in_row (wasnt e) o ih = rw (clip-holds a b r k h o, e) ih
 
     go : Test (overlaps a b r) → origin (cut a b m) k ≡ origin m (a + k) → origin (cut a b (r ∷ m)) k ≡ origin (r ∷ m) (a + k)

@@ -9,10 +9,12 @@ use mathlib.Core.Path.{◌≡◌, refl, sym, ◌∙◌, ap}
 use lib.Dec.{eqb}
 use lib.ListN.{length}
 use borrow.Author.Tests.{eq-eqb, eqb-true}
+use Rattle.std.specs.Prelude.{Some}
 use Rattle.choice.proofs.Tests.{Test, was, wasnt, test, le-or-lt, and_left, and_right}
 use Rattle.signed.specs.Signed.{eq_z}
 use Rattle.signed.proofs.Order.{eq_z-true, eq_z-refl}
 use Rattle.rows.specs.declared.Row.{Row}
+use Rattle.rows.specs.declared.Origin.{Origin}
 use Rattle.rows.specs.Rows.{origin_in, origin, total, runs_on, glue, merge_into, merge}
 use Rattle.rows.specs.Demands.{Tiles}
 use Rattle.rows.proofs.Origins.{row-eq, holds-in, holds-before, holds_after, Place, inside, before, after, place, origin-first, origin-rest}
@@ -55,7 +57,7 @@ glue-origin c r m p k t o = go (place c k) (place r k)
     go (before u) (inside a b) = absurd (omega (arith, t.0, t.2.0))
     go (before u) (before v) = rw (holds-before (glue c r) k u, holds-before c k u, holds-before r k v)
     go (before u) (after v) = absurd (omega (arith, t.0, t.2.0))
-    go (after u) (inside a b) = rw (holds-in (glue c r) k (omega arith) (omega (arith, t.0, t.2.0)), holds_after c k u, holds-in r k a b) (same (omega arith) u)
+    go (after u) (inside a b) = rw (holds-in (glue c r) k (omega arith) (omega (arith, t.0, t.2.0)), holds_after c k u, holds-in r k a b, same (omega arith) u)
     go (after u) (before v) = absurd (omega (arith, t.0, t.2.0))
     go (after u) (after v) = rw (holds_after (glue c r) k (omega (arith, t.0, t.2.0)), holds_after c k u, holds_after r k v)
 
@@ -131,8 +133,8 @@ record Alike (c d : Row) (k : ℕ) : Type 0 where
   flag : c.flag ≡ d.flag
   shift : c.shift ≡ d.shift
 
-alike : (c d : Row) (k : ℕ) → origin_in c k ≡ origin_in d k → Alike c d k
-alike c d k e = record { source = cc; first = cc; flag = cc; shift = cc }
+alike : (c d : Row) (k : ℕ) → Some (origin_in c k) ≡ Some (origin_in d k) → Alike c d k
+alike c d k e = record { source = grind arith; first = grind arith; flag = grind arith; shift = grind arith }
 
 SameFrom : ℕ → List Row → List Row → Type 0
 SameFrom p m l = (k : ℕ) → p ≤ k → k < p + total m → origin m k ≡ origin l k
@@ -144,7 +146,7 @@ unfolding SameFrom
 shorter [] l c d p t v a e f s h = omega arith
 shorter (r ∷ m) l c d p t v a e f s h =
     let k = p + c.count in
-    let o : origin_in r k ≡ origin_in d k =
+    let o : Some (origin_in r k) ≡ Some (origin_in d k) =
     sym (origin-first r m k k t.2 (omega arith) (omega (arith, t.2.1)))
     ∙ sym (origin-rest c (r ∷ m) k (omega (arith, t.0)))
     ∙ f k (omega arith) (omega (arith, t.2.1))
@@ -252,7 +254,7 @@ merge-total (c ∷ m) = merge_into-total m c
 -- rows whose flags differ give different origins, and neither continues the other
 pub flags-differ : (r s : Row) (j k : ℕ) → (r.flag ≡ s.flag → ⊥) → (origin_in r j ≡ origin_in s k → ⊥) × (runs_on r s ≡ false) × (runs_on s r ≡ false)
 flags-differ r s j k d = (
-  λ e. d (cc (e)),
+  λ e. d (ap (λ (o : Origin). o.flag) e),
   go r s d (test (runs_on r s)),
   go s r (λ e. d (sym e)) (test (runs_on s r)),
 )

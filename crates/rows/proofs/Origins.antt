@@ -8,9 +8,10 @@ use mathlib.Core.Path.{◌≡◌, refl, ap}
 use lib.Dec.{leb, ltb}
 use lib.ListN.{length, get_or}
 use borrow.Author.Tests.{lt-ltb, le-ltb, le-leb, lt-leb, ltb-true, leb-true}
+use Rattle.std.specs.Prelude.{None, Some}
 use Rattle.choice.proofs.Tests.{le-or-lt, and-false, and_left, and_right}
 use Rattle.rows.specs.declared.Row.{Row}
-use Rattle.rows.specs.Rows.{nowhere, row_end, holds, origin_in, origin, total}
+use Rattle.rows.specs.Rows.{row_end, holds, origin_in, origin, total}
 use Rattle.rows.specs.Demands.{no_row, Tiles, OneRow}
 
 -- rows are equal where their fields are
@@ -46,13 +47,13 @@ place r k =
     (le-or-lt r.out k)
 
 -- the origin by where the frame lies
-pub origin-first : (r : Row) (m : List Row) (p k : ℕ) → Tiles p (r ∷ m) → p ≤ k → k < p + r.count → origin (r ∷ m) k ≡ origin_in r k
+pub origin-first : (r : Row) (m : List Row) (p k : ℕ) → Tiles p (r ∷ m) → p ≤ k → k < p + r.count → origin (r ∷ m) k ≡ Some (origin_in r k)
 origin-first r m p k t l u = rw (holds-in r k (omega (arith, t.0)) (omega (arith, t.0)))
 
 pub origin-rest : (r : Row) (m : List Row) (k : ℕ) → row_end r ≤ k → origin (r ∷ m) k ≡ origin m k
 origin-rest r m k l = rw (holds_after r k l)
 
-pub origin-past : (m : List Row) (p k : ℕ) → Tiles p m → p + total m ≤ k → origin m k ≡ nowhere
+pub origin-past : (m : List Row) (p k : ℕ) → Tiles p m → p + total m ≤ k → origin m k ≡ None
 origin-past [] p k t h = refl
 origin-past (r ∷ m) p k t h = rw (holds_after r k (omega (arith, t.0))) (origin-past m (p + r.count) k t.2 (omega arith))
 

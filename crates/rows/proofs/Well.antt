@@ -9,7 +9,7 @@ use mathlib.Core.Logic.{◌⊎◌, inl, inr}
 use lib.Dec.{ltb, eqb}
 use borrow.Author.Tests.{lt-ltb, le-ltb, eq-eqb, ltb-true, ltb-false, eqb-true, not-true}
 use Rattle.choice.specs.Choice.{past, max_u64}
-use Rattle.choice.proofs.Chains.{past-not}
+use Rattle.choice.proofs.Sums.{past-not}
 use Rattle.choice.proofs.Tests.{Test, was, wasnt, test, le-or-lt, and_left, and_right}
 use Rattle.rows.specs.declared.Row.{Row}
 use Rattle.rows.specs.Rows.{row_end, total, ok_shift, ok_row, WellFrom, WellFormed, overlaps, clip, cut, moved, join, runs_on, glue, merge_into, merge}
@@ -18,7 +18,7 @@ use Rattle.rows.proofs.Cuts.{Over, over, cut-none}
 use Rattle.rows.proofs.Merging.{RunsOn, runs_on-true}
 
 -- a well-formed row but for its flag and shift, in numbers
-pub record Ok (p : ℕ) (r : Row) : Type 0 where
+pub record OkRow (p : ℕ) (r : Row) : Type 0 where
   pub some : 0 < r.count
   pub source : r.first + r.count ≤ max_u64
   pub last : row_end r ≤ max_u64
@@ -28,7 +28,7 @@ not-past : (a b m : ℕ) → a + b ≤ m → not (past a b m) ≡ true
 unfolding past
 not-past a b m h = ap not (le-ltb m (a + b) h)
 
-pub ok-shift : (p : ℕ) (r : Row) → Ok p r → ok_row p r ≡ ok_shift r
+pub ok-shift : (p : ℕ) (r : Row) → OkRow p r → ok_row p r ≡ ok_shift r
 ok-shift p r o =
     simp (
       lt-ltb 0 r.count o.some,
@@ -37,7 +37,7 @@ ok-shift p r o =
       eq-eqb r.out p o.out,
     )
 
-pub ok-facts : (p : ℕ) (r : Row) → ok_row p r ≡ true → Ok p r
+pub ok-facts : (p : ℕ) (r : Row) → ok_row p r ≡ true → OkRow p r
 ok-facts p r e =
     let a = ltb 0 r.count in
     let b = not (past r.first r.count max_u64) in
@@ -69,7 +69,7 @@ well-total (r ∷ m) p w h = let o = ok-facts p r w.0 in let i = well-total m (p
 clip-ok : (p a b : ℕ) (r : Row) → ok_row p r ≡ true → Over a b r.out (row_end r) → ok_row (p - a) (clip a b r) ≡ true
 clip-ok p a b r e v =
     let o = ok-facts p r e in
-    let k : Ok (p - a) (clip a b r) = record {
+    let k : OkRow (p - a) (clip a b r) = record {
       out = ap (λ (x : ℕ). x - a) o.out;
       some = omega (arith, v.ab, v.ae, v.ob, v.oe);
       source = omega (arith, v.ab, v.ae, v.ob, v.oe, o.source);
@@ -81,7 +81,7 @@ pub cut-well : (m : List Row) (p a b : ℕ) → WellFrom p m → WellFrom (p - a
 cut-well [] p a b w = tt
 cut-well (r ∷ m) p a b w = go (test (overlaps a b r)) (le-or-lt (row_end r) b) (cut-well m (p + r.count) a b w.1)
   where
-    o : Ok p r
+    o : OkRow p r
     o = ok-facts p r w.0
 
     none : b ≤ row_end r → cut a b m ≡ []
@@ -105,7 +105,7 @@ glue-ok : (p : ℕ) (c r : Row) → ok_row p c ≡ true → ok_row (p + c.count)
 glue-ok p c r e f v =
     let o = ok-facts p c e in
     let q = ok-facts (p + c.count) r f in
-    let k : Ok p (glue c r) = record { out = o.out; some = omega (arith, o.some); source = omega (arith, q.source, v.first); last = omega (arith, q.last, q.out, o.out) } in
+    let k : OkRow p (glue c r) = record { out = o.out; some = omega (arith, o.some); source = omega (arith, q.source, v.first); last = omega (arith, q.last, q.out, o.out) } in
     ok-shift p (glue c r) k ∙ ok-shifted p c e
 
 pub merge_into-well : (m : List Row) (c : Row) (p : ℕ) → WellFrom p (c ∷ m) → WellFrom p (merge_into c m)
@@ -125,7 +125,7 @@ merge-well (c ∷ m) w = merge_into-well m c 0 w
 moved_ok : (d p : ℕ) (r : Row) → ok_row p r ≡ true → d + row_end r ≤ max_u64 → ok_row (d + p) (moved d r) ≡ true
 moved_ok d p r e h =
     let o = ok-facts p r e in
-    let k : Ok (d + p) (moved d r) = record { out = ap (λ (x : ℕ). d + x) o.out; some = o.some; source = o.source; last = omega arith } in
+    let k : OkRow (d + p) (moved d r) = record { out = ap (λ (x : ℕ). d + x) o.out; some = o.some; source = o.source; last = omega arith } in
     ok-shift (d + p) (moved d r) k ∙ ok-shifted p r e
 
 moved-well : (y : List Row) (d q : ℕ) → WellFrom q y → d + (q + total y) ≤ max_u64 → WellFrom (d + q) (map (moved d) y)

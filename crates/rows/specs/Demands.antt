@@ -1,8 +1,8 @@
 -- WHAT IS PROVED OF FRAME MAPS (demand 3), over the definitions of Rows. Every line is in the contract of `maps_meet_the_demands`.
-use Rattle.std.specs.Prelude.{ℕ, ◌+◌, ◌-◌, ◌≤◌, ◌<◌, true, false, List, [], ◌∷◌, ◌↔◌, ◌≡◌, pos, length, get_or}
+use Rattle.std.specs.Prelude.{ℕ, ◌+◌, ◌-◌, ◌≤◌, ◌<◌, true, false, List, [], ◌∷◌, ◌↔◌, ◌≡◌, pos, length, get_or, None, Some}
 use Rattle.choice.specs.Choice.{max_u64}
 use Rattle.rows.specs.declared.Row.{Row}
-use Rattle.rows.specs.Rows.{total, WellFormed, nowhere, holds, origin_in, origin, cut, join, runs_on, merge}
+use Rattle.rows.specs.Rows.{total, WellFormed, holds, origin_in, origin, cut, join, runs_on, merge}
 
 -- what stands past the end of a map, which no row is
 abbrev pub no_row : Row
@@ -19,7 +19,7 @@ pub record OneRow (m : List Row) (k : ℕ) : Type 0 where
   pub within : index < length m
   pub here : holds (get_or m index no_row) k ≡ true
   pub only : (j : ℕ) → j < length m → holds (get_or m j no_row) k ≡ true → j ≡ index
-  pub gives : origin m k ≡ origin_in (get_or m index no_row) k
+  pub gives : origin m k ≡ Some (origin_in (get_or m index no_row) k)
 
 -- two maps give every frame the same origin
 abbrev pub SameOrigins : List Row → List Row → Type 0
@@ -30,7 +30,7 @@ pub record Demands : Type 0 where
   pub tiles : (m : List Row) → WellFormed m → Tiles 0 m × (total m ≤ max_u64)
   -- Each of its frames lies in exactly one row, which gives its one origin; a frame past the map has none.
   pub one-row : (m : List Row) (k : ℕ) → WellFormed m → k < total m → OneRow m k
-  pub past-map : (m : List Row) (k : ℕ) → WellFormed m → total m ≤ k → origin m k ≡ nowhere
+  pub past-map : (m : List Row) (k : ℕ) → WellFormed m → total m ≤ k → origin m k ≡ None
   -- Frame k of a cut has the origin of frame a + k; the cut is well formed and has b - a frames.
   pub cut-origin : (m : List Row) (a b k : ℕ) → k < b - a → origin (cut a b m) k ≡ origin m (a + k)
   pub cut-well : (m : List Row) (a b : ℕ) → WellFormed m → WellFormed (cut a b m)

@@ -1,8 +1,9 @@
 -- Frame maps (document 01, 'Frame maps'): which rows are well formed, the origin of a frame, cut, join and merge.
-use Rattle.std.specs.Prelude.{ℕ, ◌+◌, ◌-◌, min, max, Bool, true, not, ◌&&◌, ◌||◌, List, [], ◌∷◌, ◌++◌, map, ◌≡◌, ℤ, pos, leb, ltb, eqb, if◌then◌else◌}
+use Rattle.std.specs.Prelude.{ℕ, ◌+◌, ◌-◌, min, max, Bool, true, not, ◌&&◌, ◌||◌, List, [], ◌∷◌, ◌++◌, map, ◌≡◌, pos, leb, ltb, eqb, if◌then◌else◌, Option, None, Some}
 use Rattle.choice.specs.Choice.{past, max_u64}
 use Rattle.signed.specs.Signed.{eq_z}
 use Rattle.rows.specs.declared.Row.{Row}
+use Rattle.rows.specs.declared.Origin.{Origin}
 
 -- the output frame after a row's last
 abbrev pub row_end : Row → ℕ
@@ -29,23 +30,18 @@ WellFrom p (r ∷ m) = (ok_row p r ≡ true) × WellFrom (p + r.count) m
 abbrev pub WellFormed : List Row → Type 0
 WellFormed m = WellFrom 0 m
 
--- where a frame comes from: source, source frame, shift flag and shift; or from nowhere
-pub data Origin : Type 0 where
-  nowhere : Origin
-  from : (source frame flag : ℕ) (shift : ℤ) → Origin
-
 -- output frame k lies in a row
 abbrev pub holds : Row → ℕ → Bool
 holds r k = leb r.out k && ltb k (row_end r)
 
 -- the origin that a row gives to output frame k
 abbrev pub origin_in : Row → ℕ → Origin
-origin_in r k = from r.source (r.first + (k - r.out)) r.flag r.shift
+origin_in r k = record { source = r.source; frame = r.first + (k - r.out); flag = r.flag; shift = r.shift }
 
--- the origin of output frame k of a map
-abbrev pub origin : List Row → ℕ → Origin
-origin [] k = nowhere
-origin (r ∷ m) k = if holds r k then origin_in r k else origin m k
+-- the origin of output frame k of a map, if it has one
+abbrev pub origin : List Row → ℕ → Option Origin
+origin [] k = None
+origin (r ∷ m) k = if holds r k then Some (origin_in r k) else origin m k
 
 -- a row, d output frames later
 abbrev pub moved : ℕ → Row → Row

@@ -18,6 +18,15 @@ pub struct Row {
     pub shift: i64,
 }
 
+// Where a frame comes from: frame `frame` of a source, with a shift where the flag is 1.
+#[derive(Clone, Copy)]
+pub struct Origin {
+    pub source: u64,
+    pub frame: u64,
+    pub flag: u64,
+    pub shift: i64,
+}
+
 // The last of n rows in lent words that begins at or before a frame.
 pub fn last_begun(u: &[u64], n: usize, frame: u64) -> usize
     requires { OutsRise u.now n × (out_at u.now 0 ≤ frame) }

@@ -1,5 +1,6 @@
 use Rattle.std.proofs.Common.{◌≡◌, ◌-◌, ◌≤◌}
-use Rattle.choice.specs.Records.{run, first_refused}
+use Rattle.choice.specs.Records.{run}
+use Rattle.refusal.specs.Refusals.{first_refused}
 use Rattle.cuts.specs.Answers.{range_at, range_refusal, ranges_refusal}
 use Rattle.cuts.proofs.refuse_ranges.Given as goal
 

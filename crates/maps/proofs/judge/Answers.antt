@@ -1,11 +1,7 @@
 use Rattle.std.proofs.Common.{◌≡◌, ◌+◌, sym, ◌∙◌, arith}
 use Rattle.rows.proofs.Well.{ok-facts}
-use Rattle.maps.proofs.Written.{judge-bad, judge-ok, judge-end}
+use Rattle.maps.proofs.Written.{judge-ok}
 use Rattle.maps.proofs.judge.Goals as goal
-
-pub returns-then-not-ok_row : goal.returns-then-not-ok_row
-returns-then-not-ok_row c =
-    sym (judge-bad _ c.loop-i.p c.loop-i.i _ c.row_at-r.result c.row_at-r.ensures c.loop-i-test.true _ (sym c.if-not-ok_row.ensures)) ∙ c.loop-i.invariant.left
 
 pub loop-i-preserved : goal.loop-i-preserved
 loop-i-preserved c =
@@ -16,6 +12,3 @@ loop-i-preserved c =
       within = omega arith;
       left = rw e (sym (judge-ok _ c.loop-i.p c.loop-i.i _ c.row_at-r.result c.row_at-r.ensures c.loop-i-test.true ok) ∙ c.loop-i.invariant.left);
     }
-
-pub returns : goal.returns
-returns c = sym (judge-end _ c.loop-i.p c.loop-i.i _ c.loop-i-test.false) ∙ c.loop-i.invariant.left

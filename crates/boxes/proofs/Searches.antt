@@ -1,17 +1,21 @@
 -- The first box of a type, with text types or without, and all boxes of a type, from `at` on, by the header at `at`. Assumes nothing.
-use mathlib.Core.Path.{◌≡◌, refl, sym, ap, ◌∙◌}
+use mathlib.Core.Path.{◌≡◌, refl, sym}
 use mathlib.Core.Bool.{Bool, true, false, not, ◌&&◌}
 use mathlib.Core.List.{List, [], ◌∷◌}
+use Rattle.std.specs.Prelude.{Option, None, Some, Result}
+use Rattle.std.specs.Option.{is_some, ok_or}
 use Prim.Native.Nat.{ℕ}
 use borrow.Author.Tests.{eq-eqb, ne_eqb, not-true, not-false}
 use Rattle.choice.proofs.Tests.{tf}
 use Rattle.boxes.specs.Boxes.{Boxes, bad, box, header_at, after_header, boxes_at, is_text, textual, searched, first_such, first_of}
-use Rattle.boxes.specs.Places.{all_of, only_of}
+use Rattle.boxes.specs.Places.{place, all_of, only_of}
 use Rattle.boxes.specs.declared.Header.{Header}
 use Rattle.boxes.specs.declared.Header.TheVariants.{Whole, Short, Bad}
 use Rattle.boxes.specs.declared.Walk.TheVariants.{Found, Bad as BadAt}
 use Rattle.boxes.specs.declared.Place.{Place}
-use Rattle.boxes.specs.declared.Place.TheVariants.{At, Refused}
+use Rattle.refusal.specs.declared.Reason.TheVariants as reason
+use Rattle.refusal.specs.declared.Refusal.{Refusal}
+use Rattle.refusal.specs.Refusals.{refused, refusal_at}
 use Rattle.boxes.specs.Steps.{stop_at}
 use Rattle.boxes.proofs.Walks.{Stops, at-header}
 
@@ -62,7 +66,7 @@ module _ (kind : ℕ) (s : List ℕ) (at : ℕ) where
         unfolding first_such
         search-passes z = rw (at-header s at e, goes_on text t at k a n (boxes_at s next) i x, ne_eqb _ _ z)
 
-    all-finds : k ≡ kind → all_of kind (boxes_at s at) ≡ At a n ∷ all_of kind (boxes_at s next)
+    all-finds : k ≡ kind → all_of kind (boxes_at s at) ≡ place a n ∷ all_of kind (boxes_at s next)
     unfolding all_of
     all-finds t = rw (at-header s at e, eq-eqb _ _ t)
 
@@ -70,30 +74,25 @@ module _ (kind : ℕ) (s : List ℕ) (at : ℕ) where
     unfolding all_of
     all-passes t = rw (at-header s at e, ne_eqb _ _ t)
 
--- the only one of what was found so far and of what is left
-unfoldable pub only_after : Place → List Place → Place
-only_after (Refused n i) l = only_of l
-only_after (At a n) [] = At a n
-only_after (At a n) (q ∷ l) = Refused 41 0
-
-one_more : (a n : ℕ) (l : List Place) → only_of (At a n ∷ l) ≡ only_after (At a n) l
-unfolding only_after
-one_more a n [] = refl
-one_more a n (q ∷ l) = refl
+-- what was found so far, with what is left
+abbrev pub with_found : Option Place → List Place → List Place
+with_found None l = l
+with_found (Some p) l = p ∷ l
 
 -- a turn of a walk for the only box of a type: it ends, finds the first, finds the second, passes another
-module _ (kind : ℕ) (s : List ℕ) (at : ℕ) (found : Place) {answer : Place} (i : only_after found (all_of kind (boxes_at s at)) ≡ answer) where
-  pub no_more : {h : Header} → h ≡ header_at s at → Stops h → only_after found [] ≡ found → found ≡ answer
-  no_more e t f = sym f ∙ ap (only_after found) (sym (all-stops kind s at e t)) ∙ i
+module _ (kind : ℕ) (s : List ℕ) (at : ℕ) {answer : Result Place Refusal} where
+  pub no_more : (found : Option Place) → only_of (with_found found (all_of kind (boxes_at s at))) ≡ answer → {h : Header} → h ≡ header_at s at → Stops h → ok_or found (refusal_at reason.NoTable 0) ≡ answer
+  no_more None i e t = rw (all-stops kind s at e t) at i
+  no_more (Some p) i e t = rw (all-stops kind s at e t) at i
 
   module _ {k a n next : ℕ} (e : Whole k a n next ≡ header_at s at) where
-    pub first_one : {m j : ℕ} → found ≡ Refused m j → k ≡ kind → only_after (At a n) (all_of kind (boxes_at s next)) ≡ answer
-    unfolding only_after
-    first_one f t = sym (one_more a n (all_of kind (boxes_at s next))) ∙ (rw (f, all-finds kind s at e t) at i)
+    pub first_one : (found : Option Place) → only_of (with_found found (all_of kind (boxes_at s at))) ≡ answer → is_some found ≡ false → k ≡ kind → only_of (place a n ∷ all_of kind (boxes_at s next)) ≡ answer
+    first_one None i f t = rw (all-finds kind s at e t) at i
+    first_one (Some p) i f t = tf f
 
-    pub second-one : {b m : ℕ} → found ≡ At b m → k ≡ kind → Refused 41 0 ≡ answer
-    unfolding only_after
-    second-one f t = rw (f, all-finds kind s at e t) at i
+    pub second-one : (found : Option Place) → only_of (with_found found (all_of kind (boxes_at s at))) ≡ answer → is_some found ≡ true → k ≡ kind → refused reason.SeveralTables 0 ≡ answer
+    second-one None i f t = tf (sym f)
+    second-one (Some p) i f t = rw (all-finds kind s at e t) at i
 
-    pub not-one : (k ≡ kind → ⊥) → only_after found (all_of kind (boxes_at s next)) ≡ answer
-    not-one t = ap (only_after found) (sym (all-passes kind s at e t)) ∙ i
+    pub not-one : (found : Option Place) → only_of (with_found found (all_of kind (boxes_at s at))) ≡ answer → (k ≡ kind → ⊥) → only_of (with_found found (all_of kind (boxes_at s next))) ≡ answer
+    not-one found i t = rw (all-passes kind s at e t) at i

@@ -1,6 +1,7 @@
 -- What a size and a header say, wherever they stand. Assumes nothing.
 use mathlib.Core.Path.{◌≡◌, sym, subst}
 use mathlib.Core.List.{List}
+use Rattle.std.specs.Prelude.{Option, None, Some}
 use Prim.Native.Nat.{ℕ, ◌+◌, ◌-◌, ◌≤◌, ◌<◌}
 use native.Mathlib.Nat.{add-zero}
 use native.Mathlib.Omega.{arith}
@@ -11,16 +12,15 @@ use borrow.Author.Tests.{lt-ltb, le-ltb, ltb-false, ne_eqb}
 use Rattle.choice.proofs.Tests.{either}
 use Rattle.boxes.specs.Bytes.{be32_at, be64_at}
 use Rattle.boxes.specs.Boxes.{fitting_in, size_of, header_by, header_at}
-use Rattle.boxes.specs.declared.Sized.{Sized}
-use Rattle.boxes.specs.declared.Sized.TheVariants.{Box, Refused}
+use Rattle.boxes.specs.declared.BoxSize.{BoxSize}
 use Rattle.boxes.specs.declared.Header.{Header}
 use Rattle.boxes.specs.declared.Header.TheVariants.{Whole, Short, Bad}
 use Rattle.boxes.proofs.Parts.{from}
 
 -- a header has 8 bytes at least, and its box no fewer and no more than remain
-abbrev pub Fitting : ℕ → Sized → Type 0
-Fitting remaining (Box size header) = (8 ≤ header) × (header ≤ size) × (size ≤ remaining)
-Fitting remaining (Refused n i) = Unit {0}
+abbrev pub Fitting : ℕ → Option BoxSize → Type 0
+Fitting remaining None = Unit {0}
+Fitting remaining (Some box) = (8 ≤ box.header) × (box.header ≤ box.size) × (box.size ≤ remaining)
 
 fitting-in : (remaining header size : ℕ) → 8 ≤ header → Fitting remaining (fitting_in remaining header size)
 unfolding fitting_in
@@ -40,11 +40,11 @@ size-fitting s remaining =
     (λ b. fitting-in remaining 8 (be32_at s 0) (omega arith))))
 
 -- the same from the equation that the code has of a size
-pub fits : (s : List ℕ) (remaining : ℕ) {z : Sized} → z ≡ size_of s remaining → Fitting remaining z
+pub fits : (s : List ℕ) (remaining : ℕ) {z : Option BoxSize} → z ≡ size_of s remaining → Fitting remaining z
 fits s remaining e = subst (Fitting remaining) (sym e) (size-fitting s remaining)
 
 -- a size of 32 bits
-small : (s : List ℕ) (remaining : ℕ) → 4 ≤ length s → {n : ℕ} {r : Sized} → 2 ≤ be32_at s 0 → n ≡ be32_at s 0 → r ≡ fitting_in remaining 8 n → r ≡ size_of s remaining
+small : (s : List ℕ) (remaining : ℕ) → 4 ≤ length s → {n : ℕ} {r : Option BoxSize} → 2 ≤ be32_at s 0 → n ≡ be32_at s 0 → r ≡ fitting_in remaining 8 n → r ≡ size_of s remaining
 unfolding size_of
 small s remaining h z n r = simp (le-ltb _ _ h, ne_eqb (be32_at s 0) 0 (omega arith), ne_eqb (be32_at s 0) 1 (omega arith), r, n)
 
@@ -54,7 +54,7 @@ module _ (s : List ℕ) (at : ℕ) where
   short h = rw (lt-ltb _ _ h)
 
   -- the code has the bytes from `at` on as `&s[at..]`
-  pub by_size : {k : ℕ} {z : Sized} → 8 ≤ length s - at → k ≡ be32_at s (at + 4) → z ≡ size_of (take (length s - at) (drop at s)) (length s - at) → header_by at k z ≡ header_at s at
+  pub by_size : {k : ℕ} {z : Option BoxSize} → 8 ≤ length s - at → k ≡ be32_at s (at + 4) → z ≡ size_of (take (length s - at) (drop at s)) (length s - at) → header_by at k z ≡ header_at s at
   unfolding header_at
   by_size h k z = rw (le-ltb _ _ h, k, z, from at s)
 
@@ -63,7 +63,7 @@ module _ (s : List ℕ) (at : ℕ) where
   unfolding header_at fitting_in
   plain {n} h e b l k =
       let there : be32_at (drop at s) 0 ≡ n = rw (get_or-drop at s 0 0, get_or-drop at s 1 0, get_or-drop at s 2 0, get_or-drop at s 3 0, add-zero) (sym e) in
-      let size : Box n 8 ≡ size_of (drop at s) (length s - at) =
+      let size : Some (record { size = n; header = 8 }) ≡ size_of (drop at s) (length s - at) =
       small (drop at s) (length s - at) (rw length-drop (omega arith)) (rw there (omega arith)) (sym there) (rw (le-ltb n 8 b, le-ltb (length s - at) n l)) in
       rw (le-ltb _ _ h, sym size, k)
 
@@ -74,9 +74,9 @@ Lies at l Short = Unit {0}
 Lies at l Bad = at + 8 ≤ l
 Lies at l (Whole kind start len next) = (at + 8 ≤ start) × (start + len ≡ next) × (next ≤ l)
 
-by-lies : (l at kind : ℕ) (z : Sized) → at + 8 ≤ l → Fitting (l - at) z → Lies at l (header_by at kind z)
-by-lies l at kind (Box size header) h f = (omega arith, omega arith, omega arith)
-by-lies l at kind (Refused n i) h f = h
+by-lies : (l at kind : ℕ) (z : Option BoxSize) → at + 8 ≤ l → Fitting (l - at) z → Lies at l (header_by at kind z)
+by-lies l at kind None h f = h
+by-lies l at kind (Some box) h f = (omega arith, omega arith, omega arith)
 
 pub header-lies : (s : List ℕ) (at : ℕ) → Lies at (length s) (header_at s at)
 unfolding header_at

@@ -1,7 +1,8 @@
 -- Every box of a list lies within the list, and so does what a search finds. Assumes nothing.
-use mathlib.Core.Path.{◌≡◌, refl, sym, subst}
+use mathlib.Core.Path.{◌≡◌, refl, sym, subst, ◌∙◌}
 use mathlib.Core.Bool.{Bool, true, false}
 use mathlib.Core.List.{List, [], ◌∷◌}
+use Rattle.std.specs.Prelude.{Result, Ok, Err}
 use Prim.Native.Nat.{ℕ, zero, suc, ◌+◌, ◌-◌, ◌≤◌}
 use native.Mathlib.Omega.{arith}
 use lib.ListN.{length, take, drop}
@@ -16,7 +17,9 @@ use Rattle.boxes.specs.declared.Header.TheVariants.{Whole, Short, Bad}
 use Rattle.boxes.specs.declared.Walk.{Walk}
 use Rattle.boxes.specs.declared.Walk.TheVariants.{Found, End, Bad as BadAt}
 use Rattle.boxes.specs.declared.Place.{Place}
-use Rattle.boxes.specs.declared.Place.TheVariants.{At, Refused}
+use Rattle.refusal.specs.declared.Reason.{Reason}
+use Rattle.refusal.specs.declared.Reason.TheVariants as reason
+use Rattle.refusal.specs.declared.Refusal.{Refusal}
 use Rattle.boxes.specs.Steps.{offset_in, Within}
 use Rattle.boxes.proofs.Sizes.{Lies, header-lies}
 use Rattle.boxes.proofs.Parts.{length_part}
@@ -81,10 +84,10 @@ offset-within l (Found start len) h = omega arith
 offset-within l End h = omega arith
 offset-within l (BadAt at) h = omega arith
 
-place-within : (l number : ℕ) (w : Walk) → Walked l w → Within l (place_or number w)
-place-within l number (Found start len) h = h
-place-within l number End h = tt
-place-within l number (BadAt at) h = tt
+place-within : (l : ℕ) (why : Reason) (w : Walk) → Walked l w → Within l (place_or why w)
+place-within l why (Found start len) h = h
+place-within l why End h = tt
+place-within l why (BadAt at) h = tt
 
 place-of-within : (l : ℕ) (w : Walk) → Walked l w → Within l (place_of w)
 place-of-within l (Found start len) h = h
@@ -97,41 +100,47 @@ moved-stays by l m (Found start len) h k = omega arith
 moved-stays by l m End h k = tt
 moved-stays by l m (BadAt at) h k = omega arith
 
+pub offset_moves : (s : List ℕ) (start end kind : ℕ) (text : Bool) {w : Walk} → start ≤ end → end ≤ length s → w ≡ first_of kind (searched text (boxes_of (take (end - start) (drop start s)))) → start + offset_in w ≤ length s
+offset_moves s start end kind text {w} h k e =
+    let part = take (end - start) (drop start s) in
+    omega (arith, offset-within (length part) w (search-stays kind text part e), length_part s start (end - start) (omega arith))
+
 -- what is found lies within the list
-pub found_within : (number : ℕ) (test : ℕ → ℕ → ℕ → Bool) (s : List ℕ) {w : Walk} → w ≡ first_such test (boxes_of s) → Within (length s) (place_or number w)
-found_within number test s {w} e = place-within (length s) number w (walk-stays test s e)
+pub found_within : (why : Reason) (test : ℕ → ℕ → ℕ → Bool) (s : List ℕ) {w : Walk} → w ≡ first_such test (boxes_of s) → Within (length s) (place_or why w)
+found_within why test s {w} e = place-within (length s) why w (walk-stays test s e)
 
 -- the same for a search, with text types or without
-pub search-within : (number kind : ℕ) (text : Bool) (s : List ℕ) {w : Walk} → w ≡ first_of kind (searched text (boxes_of s)) → Within (length s) (place_or number w)
-search-within number kind text s {w} e = place-within (length s) number w (search-stays kind text s e)
+pub search-within : (why : Reason) (kind : ℕ) (text : Bool) (s : List ℕ) {w : Walk} → w ≡ first_of kind (searched text (boxes_of s)) → Within (length s) (place_or why w)
+search-within why kind text s {w} e = place-within (length s) why w (search-stays kind text s e)
 
--- what a walk found, as the code has it
-pub fits_in : (number : ℕ) {l a n : ℕ} {w : Walk} → Within l (place_or number w) → w ≡ Found a n → a + n ≤ l
-fits_in number {l} h e = subst (λ (w : Walk). Within l (place_or number w)) e h
+-- a place that is answered, as the code has it
+pub fits_in : (why : Reason) (kind : ℕ) (text : Bool) (s : List ℕ) {w : Walk} {r : Result Place Refusal} {p : Place}
+    → w ≡ first_of kind (searched text (boxes_of s)) → r ≡ place_or why w → r ≡ Ok p → p.start + p.len ≤ length s
+fits_in why kind text s e f g = subst (Within (length s)) (sym f ∙ g) (search-within why kind text s e)
 
 -- a place in a part, moved to its place in the whole
-moved-within : (a l m : ℕ) (p : Place) → Within m p → a + m ≤ l → Within l (moved_place a p)
-moved-within a l m (At start len) w h = omega arith
-moved-within a l m (Refused n i) w h = tt
+moved-within : (a l m : ℕ) (p : Result Place Refusal) → Within m p → a + m ≤ l → Within l (moved_place a p)
+moved-within a l m (Ok p) w h = omega arith
+moved-within a l m (Err refusal) w h = tt
 
-in-part-within : (s : List ℕ) (p : Place) (search : List ℕ → Place) → Within (length s) p → ((t : List ℕ) → Within (length t) (search t)) → Within (length s) (in_part s p search)
-in-part-within s (At a n) search w f =
-    let t = take n (drop a s) in
-    moved-within a (length s) (length t) (search t) (f t) (omega (arith, length_part s a n w))
-in-part-within s (Refused n i) search w f = tt
+in-part-within : (s : List ℕ) (p : Result Place Refusal) (search : List ℕ → Result Place Refusal) → Within (length s) p → ((t : List ℕ) → Within (length t) (search t)) → Within (length s) (in_part s p search)
+in-part-within s (Ok p) search w f =
+    let t = take p.len (drop p.start s) in
+    moved-within p.start (length s) (length t) (search t) (f t) (omega (arith, length_part s p.start p.len w))
+in-part-within s (Err refusal) search w f = tt
 
-start-within : (l : ℕ) (p : Place) → Within l p → start_of p ≤ l
-start-within l (At a n) w = omega arith
-start-within l (Refused n i) w = omega arith
+start-within : (l : ℕ) (p : Result Place Refusal) → Within l p → start_of p ≤ l
+start-within l (Ok p) w = omega arith
+start-within l (Err refusal) w = omega arith
 
--- the move wraps nothing
-pub movable : (s : List ℕ) (a m : ℕ) (p : Place) → a + m ≤ length s → Within (length (take m (drop a s))) p → a + start_of p ≤ length s
-movable s a m p h w = omega (arith, start-within _ p w, length_part s a m h)
+-- the move wraps nothing; the code has the part as `&s[a..a + n]`
+pub movable : (s : List ℕ) (a n : ℕ) {p v : Result Place Refusal} → a + n ≤ length s → p ≡ v → Within (length (take (a + n - a) (drop a s))) v → a + start_of p ≤ length s
+movable s a n {p} h e w = omega (arith, start-within _ p (subst (Within _) (sym e) w), length_part s a (a + n - a) (omega arith))
 
 -- all boxes of a type, and the only one
 abbrev Each : ℕ → List Place → Type 0
 Each l [] = Unit {0}
-Each l (p ∷ ps) = Within l p × Each l ps
+Each l (p ∷ ps) = (p.start + p.len ≤ l) × Each l ps
 
 all-inside : (l kind : ℕ) (b : Boxes) → Inside l b → Each l (all_of kind b)
 unfolding all_of
@@ -151,16 +160,16 @@ only-within kind s = only-inside (length s) (all_of kind (boxes_of s)) (all-insi
 -- what each call answers lies within its bytes
 pub table-of-within : (m : List ℕ) → Within (length m) (table_in m)
 unfolding table_in
-table-of-within m = in-part-within m (place_or 40 (first_of udta (boxes_of m))) (λ u. only_of (all_of mtrm (boxes_of u))) (search-within 40 udta false m refl) (only-within mtrm)
+table-of-within m = in-part-within m (place_or reason.NoTable (first_of udta (boxes_of m))) (λ u. only_of (all_of mtrm (boxes_of u))) (search-within reason.NoTable udta false m refl) (only-within mtrm)
 
 module _ (s : List ℕ) where
-  pub child-within : (kind : ℕ) → Within (length s) (child_place s kind)
+  pub child_within : (kind : ℕ) → Within (length s) (child_place s kind)
   unfolding child_place
-  child-within kind = either (Within (length s)) (ltb most_bytes (length s)) (λ a. tt) (λ a. place-of-within (length s) (first_of kind (boxes_of s)) (search-stays kind false s refl))
+  child_within kind = either (Within (length s)) (ltb most_bytes (length s)) (λ a. tt) (λ a. place-of-within (length s) (first_of kind (boxes_of s)) (search-stays kind false s refl))
 
-  pub find-box-within : (start end kind : ℕ) (text : Bool) → Within (length s) (find_box_place s start end kind text)
+  pub find_box_within : (start end kind : ℕ) (text : Bool) → Within (length s) (find_box_place s start end kind text)
   unfolding find_box_place
-  find-box-within start end kind text =
+  find_box_within start end kind text =
       let W = Within (length s) in
       either W (ltb most_bytes (length s)) (λ a. tt)
       (λ a. either W (ltb (length s) end) (λ b. tt)
@@ -171,8 +180,12 @@ module _ (s : List ℕ) where
       place-of-within (length s) (moved_walk start w)
       (moved-stays start (length s) (length part) w (search-stays kind text part refl) (omega (arith, fits, length_part s start (end - start) fits))))))
 
-  pub table-text-within : Within (length s) (table_text_place s)
+  -- what find_box_place answered ends within the bytes, as a caller has it
+  pub found_ends : (start end kind : ℕ) (text : Bool) {r : Result Place Refusal} {p : Place} → r ≡ find_box_place s start end kind text → r ≡ Ok p → p.start + p.len ≤ length s
+  found_ends start end kind text e f = subst (Within (length s)) (sym e ∙ f) (find_box_within start end kind text)
+
+  pub table_text_within : Within (length s) (table_text_place s)
   unfolding table_text_place
-  table-text-within =
+  table_text_within =
       either (Within (length s)) (ltb most_bytes (length s)) (λ a. tt)
-      (λ a. in-part-within s (place_or 40 (first_of moov (textual (boxes_of s)))) table_in (search-within 40 moov true s refl) table-of-within)
+      (λ a. in-part-within s (place_or reason.NoTable (first_of moov (textual (boxes_of s)))) table_in (search-within reason.NoTable moov true s refl) table-of-within)

@@ -1,12 +1,14 @@
 -- The boxes of some bytes, by ISO/IEC 14496-12, 4.2, and how they end.
-use Rattle.std.specs.Prelude.{ℕ, zero, suc, ◌+◌, ◌-◌, ◌/◌, ◌%◌, List, Bool, true, false, ◌&&◌, length, drop, ltb, leb, eqb, if◌then◌else◌}
+use Rattle.std.specs.Prelude.{ℕ, zero, suc, ◌+◌, ◌-◌, ◌/◌, ◌%◌, List, Bool, true, false, ◌&&◌, length, drop, ltb, leb, eqb, if◌then◌else◌, Option, None, Some, Result, Ok}
+use Rattle.std.specs.Option.{ok_or}
+use Rattle.refusal.specs.declared.Reason.TheVariants as reason
+use Rattle.refusal.specs.declared.Refusal.{Refusal}
+use Rattle.refusal.specs.Refusals.{refusal_at, refused}
 use Rattle.boxes.specs.Bytes.{be32_at, be64_at}
-use Rattle.boxes.specs.declared.Sized.{Sized}
-use Rattle.boxes.specs.declared.Sized.TheVariants.{Box, Refused}
+use Rattle.boxes.specs.declared.BoxSize.{BoxSize}
 use Rattle.boxes.specs.declared.Header.{Header}
 use Rattle.boxes.specs.declared.Header.TheVariants.{Whole, Short, Bad}
-use Rattle.boxes.specs.declared.Reached.{Reached}
-use Rattle.boxes.specs.declared.Reached.TheVariants as reached
+use Rattle.boxes.specs.declared.BoxAt.{BoxAt}
 use Rattle.boxes.specs.declared.Walk.{Walk}
 use Rattle.boxes.specs.declared.Walk.TheVariants.{Found, End, Bad as BadAt}
 
@@ -14,30 +16,30 @@ use Rattle.boxes.specs.declared.Walk.TheVariants.{Found, End, Bad as BadAt}
 abbrev pub most_bytes : ℕ
 most_bytes = 16777216
 
--- a size is at least its header's and at most what remains (4.2: a box is within what it is in)
-unfoldable pub fitting_in : ℕ → ℕ → ℕ → Sized
+-- a size and its header's, where the size is at least that and at most what remains (4.2: a box is within what it is in)
+unfoldable pub fitting_in : ℕ → ℕ → ℕ → Option BoxSize
 fitting_in remaining header size =
-    if ltb size header then Refused 31 0
-    else if ltb remaining size then Refused 31 0
-    else Box size header
+    if ltb size header then None
+    else if ltb remaining size then None
+    else Some (record { size = size; header = header })
 
 -- The size of the box at the start of some bytes, and of its header, where so many bytes remain to the end of what it is in.
 -- 4.2: four bytes of size, then four of type; size 0 is what remains, and size 1 stands in the eight bytes after the type.
-unfoldable pub size_of : List ℕ → ℕ → Sized
+unfoldable pub size_of : List ℕ → ℕ → Option BoxSize
 size_of bytes remaining =
-    if ltb (length bytes) 4 then Refused 31 0
+    if ltb (length bytes) 4 then None
     else if eqb (be32_at bytes 0) 0 then fitting_in remaining 8 remaining
-    else if eqb (be32_at bytes 0) 1 then if ltb (length bytes) 16 then Refused 31 0 else fitting_in remaining 16 (be64_at bytes 8)
+    else if eqb (be32_at bytes 0) 1 then if ltb (length bytes) 16 then None else fitting_in remaining 16 (be64_at bytes 8)
     else fitting_in remaining 8 (be32_at bytes 0)
 
--- the same for a caller's bytes: 30 over the limit, then 31
-unfoldable pub box_size : List ℕ → ℕ → Sized
-box_size bytes remaining = if ltb most_bytes (length bytes) then Refused 30 0 else size_of bytes remaining
+-- the same for a caller's bytes, which may be too long
+unfoldable pub box_size : List ℕ → ℕ → Result BoxSize Refusal
+box_size bytes remaining = if ltb most_bytes (length bytes) then refused reason.TooLong 0 else ok_or (size_of bytes remaining) (refusal_at reason.Missing 0)
 
 -- where the payload and the next box are, for a box of a type at `at`
-abbrev pub header_by : ℕ → ℕ → Sized → Header
-header_by at kind (Box size header) = Whole kind (at + header) (size - header) (at + size)
-header_by at kind (Refused n i) = Bad
+abbrev pub header_by : ℕ → ℕ → Option BoxSize → Header
+header_by at kind None = Bad
+header_by at kind (Some box) = Whole kind (at + box.header) (box.size - box.header) (at + box.size)
 
 -- the header at `at`, where all that remains is at hand
 unfoldable pub header_at : List ℕ → ℕ → Header
@@ -45,17 +47,17 @@ header_at s at =
     if ltb (length s - at) 8 then Short
     else header_by at (be32_at s (at + 4)) (size_of (drop at s) (length s - at))
 
--- the box of a header at `at`; 31 where fewer than 8 bytes are left, 36 at a bad header, with its offset
-abbrev pub reached_by : Header → ℕ → Reached
-reached_by Short at = reached.Refused 31 0
-reached_by Bad at = reached.Refused 36 at
-reached_by (Whole kind start len next) at = reached.Box kind start len next
+-- the box of a header at `at`; missing where fewer than 8 bytes are left, broken at a bad header, with its offset
+abbrev pub reached_by : Header → ℕ → Result BoxAt Refusal
+reached_by Short at = refused reason.Missing 0
+reached_by Bad at = refused reason.Broken at
+reached_by (Whole kind start len next) at = Ok (record { kind = kind; start = start; len = len; next = next })
 
--- `children`, the box at an offset: 30, 42, 31 or 36
-unfoldable pub children_at : List ℕ → ℕ → Reached
+-- `children`, the box at an offset
+unfoldable pub children_at : List ℕ → ℕ → Result BoxAt Refusal
 children_at payload at =
-    if ltb most_bytes (length payload) then reached.Refused 30 0
-    else if ltb (length payload) at then reached.Refused 42 0
+    if ltb most_bytes (length payload) then refused reason.TooLong 0
+    else if ltb (length payload) at then refused reason.BadSearch 0
     else reached_by (header_at payload at) at
 
 -- The boxes of some bytes, in order, and how they end: fewer than 8 bytes are left, or at `at` stands a bad header.

@@ -1,13 +1,14 @@
 -- Worked examples of boxes and of the searches for them. They are the contract of `worked_examples_hold`.
-use Rattle.std.specs.Prelude.{ℕ, true, false, List, [], ◌∷◌, ◌++◌}
+use Rattle.std.specs.Prelude.{ℕ, true, false, List, [], ◌∷◌, ◌++◌, Result, Ok}
 use Rattle.choice.specs.Worked.{Worked, is, AllRight}
+use Rattle.refusal.specs.declared.Reason.TheVariants as reason
+use Rattle.refusal.specs.declared.Refusal.{Refusal}
+use Rattle.refusal.specs.Refusals.{refused}
 use Rattle.boxes.specs.Bytes.{mtrm}
 use Rattle.boxes.specs.Boxes.{Boxes, clean, bad, box, boxes_of, box_size}
-use Rattle.boxes.specs.Places.{child_place, find_box_place, table_text_place}
-use Rattle.boxes.specs.declared.Sized.{Sized}
-use Rattle.boxes.specs.declared.Sized.TheVariants.{Box, Refused as NoSize}
+use Rattle.boxes.specs.Places.{place, child_place, find_box_place, table_text_place}
+use Rattle.boxes.specs.declared.BoxSize.{BoxSize}
 use Rattle.boxes.specs.declared.Place.{Place}
-use Rattle.boxes.specs.declared.Place.TheVariants.{At, Refused}
 
 -- an MTRM with the payload `{}`, and the same with a 64-bit size
 abbrev pub table : List ℕ
@@ -42,31 +43,31 @@ walks =
     ∷ []
 
 -- four bytes are enough for a 32-bit size; size 0 is what remains, which is 8 at least
-abbrev pub sizes : List (Worked Sized)
+abbrev pub sizes : List (Worked (Result BoxSize Refusal))
 sizes =
-    is (box_size (0 ∷ 0 ∷ 0 ∷ 20 ∷ []) 20) (Box 20 8)
-    ∷ is (box_size (0 ∷ 0 ∷ 0 ∷ 0 ∷ []) 7) (NoSize 31 0)
+    is (box_size (0 ∷ 0 ∷ 0 ∷ 20 ∷ []) 20) (Ok (record { size = 20; header = 8 }))
+    ∷ is (box_size (0 ∷ 0 ∷ 0 ∷ 0 ∷ []) 7) (refused reason.Missing 0)
     ∷ []
 
-abbrev pub places : List (Worked Place)
+abbrev pub places : List (Worked (Result Place Refusal))
 places =
     -- a 64-bit size has a header of 16
-    is (child_place large mtrm) (At 16 2)
+    is (child_place large mtrm) (Ok (place 16 2))
     -- a child is missing where the boxes end cleanly, and can't be had where a bad header stands before it
-    ∷ is (child_place (free 8 ++ (9 ∷ 9 ∷ 9 ∷ [])) mtrm) (Refused 31 0)
-    ∷ is (child_place (free 8 ++ free 7 ++ table) mtrm) (Refused 36 8)
+    ∷ is (child_place (free 8 ++ (9 ∷ 9 ∷ 9 ∷ [])) mtrm) (refused reason.Missing 0)
+    ∷ is (child_place (free 8 ++ free 7 ++ table) mtrm) (refused reason.Broken 8)
     -- places are those in the whole; a range that ends past the bytes, or before it starts, is 42
-    ∷ is (find_box_place (free 8 ++ table) 8 18 mtrm true) (At 16 2)
-    ∷ is (find_box_place (free 8 ++ free 8 ++ free 7 ++ table) 8 34 mtrm true) (Refused 36 16)
-    ∷ is (find_box_place table 0 11 mtrm false) (Refused 42 0)
-    ∷ is (find_box_place table 9 8 mtrm false) (Refused 42 0)
+    ∷ is (find_box_place (free 8 ++ table) 8 18 mtrm true) (Ok (place 16 2))
+    ∷ is (find_box_place (free 8 ++ free 8 ++ free 7 ++ table) 8 34 mtrm true) (refused reason.Broken 16)
+    ∷ is (find_box_place table 0 11 mtrm false) (refused reason.BadSearch 0)
+    ∷ is (find_box_place table 9 8 mtrm false) (refused reason.BadSearch 0)
     -- with text types 7E hex is passed, and 7F ends the search
-    ∷ is (find_box_place (typed 0x7e ++ table) 0 18 mtrm true) (At 16 2)
-    ∷ is (find_box_place (typed 0x7f ++ table) 0 18 mtrm true) (Refused 36 0)
+    ∷ is (find_box_place (typed 0x7e ++ table) 0 18 mtrm true) (Ok (place 16 2))
+    ∷ is (find_box_place (typed 0x7f ++ table) 0 18 mtrm true) (refused reason.Broken 0)
     -- one MTRM is answered; none and two are refused
-    ∷ is (table_text_place (file table)) (At 32 2)
-    ∷ is (table_text_place (file (free 8))) (Refused 40 0)
-    ∷ is (table_text_place (file (large ++ table))) (Refused 41 0)
+    ∷ is (table_text_place (file table)) (Ok (place 32 2))
+    ∷ is (table_text_place (file (free 8))) (refused reason.NoTable 0)
+    ∷ is (table_text_place (file (large ++ table))) (refused reason.SeveralTables 0)
     ∷ []
 
 abbrev pub WorkedExamples : Type 0

@@ -14,8 +14,9 @@ ghost use Rattle.boxes.specs.Boxes.{box_size, children_at};
 ghost use Rattle.boxes.specs.Places.{PartAt, child_place, find_box_place, table_text_place};
 ghost use Rattle.boxes.specs.Examples.{WorkedExamples};
 
-use part::{moved, moved_walk, part, place_of};
+use part::{moved, moved_walk, part, place_of, place_or};
 use read::code;
+use refusal::{Reason, Refusal};
 use search::{find, find_child};
 use size::{header_at, size_of};
 use table::table_of;
@@ -23,11 +24,11 @@ use table::table_of;
 // The most bytes that a call takes; over them it answers 30.
 pub const MOST_BYTES: usize = 16_777_216;
 
-// A box's size and its header's, or a refusal: its number and its index. In this crate the index is 0, but with 36 the bad header's offset.
+// A box's size, and its header's.
 #[derive(Clone, Copy)]
-pub enum Sized {
-    Box { size: u64, header: u64 },
-    Refused(u64, usize),
+pub struct BoxSize {
+    pub size: u64,
+    pub header: u64,
 }
 
 // A box's header.
@@ -57,47 +58,44 @@ pub enum Walk {
     Bad { at: usize },
 }
 
-// Where a part of the caller's bytes lies, or a refusal.
+// Where a part of the caller's bytes lies.
 #[derive(Clone, Copy)]
-pub enum Place {
-    At { start: usize, len: usize },
-    Refused(u64, usize),
+pub struct Place {
+    pub start: usize,
+    pub len: usize,
 }
 
-// What stands at an offset of some boxes: a box's type, where its payload starts and how long that is, and where the next box is; or a refusal.
+// The box at an offset: its type, where its payload starts and how long that is, and where the next box is.
 #[derive(Clone, Copy)]
-pub enum Reached {
-    Box {
-        kind: u32,
-        start: usize,
-        len: usize,
-        next: usize,
-    },
-    Refused(u64, usize),
+pub struct BoxAt {
+    pub kind: u32,
+    pub start: usize,
+    pub len: usize,
+    pub next: usize,
 }
 
 // The size of the box at the start of data and of its header, where remaining bytes are left of what it is in: the Rust's box_size. 30, 31.
 #[tactic(auto, using(choice::proofs::Tests::tests), unfolding(crate::specs::Boxes::box_size))]
-pub fn box_size(data: &[u8], remaining: u64) -> Sized
+pub fn box_size(data: &[u8], remaining: u64) -> Result<BoxSize, Refusal>
     ensures { result ≡ box_size «data».now remaining }
 {
     if data.len() > MOST_BYTES {
-        return Sized::Refused(30, 0);
+        return Err(Reason::TooLong.at(0));
     }
-    size_of(data, remaining)
+    size_of(data, remaining).ok_or(Reason::Missing.at(0))
 }
 
 // The box at an offset: a turn of the Rust's children. From 0 on, and then from each answer's next, all boxes are met, in order,
 // until 31, where fewer than 8 bytes are left, or 36, where a bad header stands: both are the Rust's None. 30, 42, 31 or 36.
 #[tactic(auto, using(choice::proofs::Tests::tests), unfolding(crate::specs::Boxes::children_at))]
-pub fn children(payload: &[u8], at: usize) -> Reached
+pub fn children(payload: &[u8], at: usize) -> Result<BoxAt, Refusal>
     ensures { result ≡ children_at payload.now at }
 {
     if payload.len() > MOST_BYTES {
-        return Reached::Refused(30, 0);
+        return Err(Reason::TooLong.at(0));
     }
     if payload.len() < at {
-        return Reached::Refused(42, 0);
+        return Err(Reason::BadSearch.at(0));
     }
     match header_at(payload, at) {
         Header::Whole {
@@ -105,30 +103,31 @@ pub fn children(payload: &[u8], at: usize) -> Reached
             start,
             len,
             next,
-        } => Reached::Box {
+        } => Ok(BoxAt {
             kind,
             start,
             len,
             next,
-        },
-        Header::Short => Reached::Refused(31, 0),
-        Header::Bad => Reached::Refused(36, at),
+        }),
+        Header::Short => Err(Reason::Missing.at(0)),
+        Header::Bad => Err(Reason::Broken.at(at)),
     }
 }
 
 // Where the payload of the first child of a type lies: the Rust's child. 30, 31 where the boxes end without it, 36 where a bad header ends
 // them before, with its offset.
 #[tactic(auto, using(choice::proofs::Tests::tests), unfolding(crate::specs::Places::child_place))]
-pub fn child_place(payload: &[u8], kind: u32) -> Place
+pub fn child_place(payload: &[u8], kind: u32) -> Result<Place, Refusal>
     ensures { result ≡ child_place payload.now kind }
 {
     if payload.len() > MOST_BYTES {
-        return Place::Refused(30, 0);
+        return Err(Reason::TooLong.at(0));
     }
     place_of(find_child(payload, kind))
 }
 
 // That payload, as that part of the caller's bytes; empty on a refusal.
+#[tactic(auto, using(crate::proofs::Within::child_within))]
 pub fn child(payload: &[u8], kind: u32) -> &[u8]
     ensures { PartAt payload.entry (child_place payload.now kind) result }
 {
@@ -137,24 +136,31 @@ pub fn child(payload: &[u8], kind: u32) -> &[u8]
 
 // Where the payload of the first box of a type among those from start to end lies, in the whole of bytes: the Rust's find_box. 30, 42, 31
 // or 36; the bad header's offset is in the whole too.
-#[tactic(auto, using(choice::proofs::Tests::tests), unfolding(crate::specs::Places::find_box_place))]
-pub fn find_box_place(bytes: &[u8], start: usize, end: usize, kind: u32, text_types: bool) -> Place
+#[tactic(auto, using(choice::proofs::Tests::tests, crate::proofs::Within::offset_moves), unfolding(crate::specs::Places::find_box_place))]
+pub fn find_box_place(
+    bytes: &[u8],
+    start: usize,
+    end: usize,
+    kind: u32,
+    text_types: bool,
+) -> Result<Place, Refusal>
     ensures { result ≡ find_box_place bytes.now start end kind text_types }
 {
     if bytes.len() > MOST_BYTES {
-        return Place::Refused(30, 0);
+        return Err(Reason::TooLong.at(0));
     }
     if bytes.len() < end {
-        return Place::Refused(42, 0);
+        return Err(Reason::BadSearch.at(0));
     }
     if end < start {
-        return Place::Refused(42, 0);
+        return Err(Reason::BadSearch.at(0));
     }
     let found = find(&bytes[start..end], kind, text_types);
     place_of(moved_walk(start, found))
 }
 
 // That payload, as that part of the caller's bytes; empty on a refusal.
+#[tactic(auto, using(crate::proofs::Within::find_box_within))]
 pub fn find_box(bytes: &[u8], start: usize, end: usize, kind: u32, text_types: bool) -> &[u8]
     ensures { PartAt bytes.entry (find_box_place bytes.now start end kind text_types) result }
 {
@@ -162,19 +168,19 @@ pub fn find_box(bytes: &[u8], start: usize, end: usize, kind: u32, text_types: b
 }
 
 // Where a file's segment table has its text, the payload of the only moov/udta/MTRM: the search of the Rust's read_isobmff. 30, 40, 41.
-pub fn table_text_place(file: &[u8]) -> Place
+#[tactic(auto, using(choice::proofs::Tests::tests), unfolding(crate::specs::Places::table_text_place))]
+pub fn table_text_place(file: &[u8]) -> Result<Place, Refusal>
     ensures { result ≡ table_text_place file.now }
 {
     if file.len() > MOST_BYTES {
-        return Place::Refused(30, 0);
+        return Err(Reason::TooLong.at(0));
     }
-    let Walk::Found { start, len } = find(file, code(b"moov"), true) else {
-        return Place::Refused(40, 0);
-    };
+    let Place { start, len } = place_or(Reason::NoTable, find(file, code(b"moov"), true))?;
     moved(start, table_of(&file[start..start + len]))
 }
 
 // That text, as that part of the caller's bytes; empty on a refusal.
+#[tactic(auto, using(crate::proofs::Within::table_text_within))]
 pub fn table_text(file: &[u8]) -> &[u8]
     ensures { PartAt file.entry (table_text_place file.now) result }
 {

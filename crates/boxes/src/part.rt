@@ -1,35 +1,36 @@
 // Places in the caller's bytes, and the parts there.
 ghost use Rattle.std.specs.Prelude.{◌≡◌, ◌+◌, ◌<◌, ◌^◌, length};
+ghost use Rattle.refusal.specs.declared.Reason.TheVariants as reason;
 ghost use Rattle.boxes.specs.Places.{place_or, place_of, start_of, PartAt, child_in, moved_place, moved_walk};
 ghost use Rattle.boxes.specs.Steps.{offset_in, Within};
 
 use crate::search::find_child;
 use crate::{Place, Walk};
+use refusal::{Reason, Refusal};
 
-// The place of what a walk found, or a number.
-pub(crate) fn place_or(number: u64, w: Walk) -> Place
-    ensures { result ≡ place_or number w }
+// The place of what a walk found, or else a reason.
+pub(crate) fn place_or(reason: Reason, w: Walk) -> Result<Place, Refusal>
+    ensures { result ≡ place_or reason w }
 {
     match w {
-        Walk::Found { start, len } => Place::At { start, len },
-        Walk::End => Place::Refused(number, 0),
-        Walk::Bad { at: _ } => Place::Refused(number, 0),
+        Walk::Found { start, len } => Ok(Place { start, len }),
+        Walk::End | Walk::Bad { at: _ } => Err(reason.at(0)),
     }
 }
 
 // The place of what a walk found; 31 after a clean end, 36 after a bad header, with its offset.
-pub(crate) fn place_of(w: Walk) -> Place
+pub fn place_of(w: Walk) -> Result<Place, Refusal>
     ensures { result ≡ place_of w }
 {
     match w {
-        Walk::Found { start, len } => Place::At { start, len },
-        Walk::End => Place::Refused(31, 0),
-        Walk::Bad { at } => Place::Refused(36, at),
+        Walk::Found { start, len } => Ok(Place { start, len }),
+        Walk::End => Err(Reason::Missing.at(0)),
+        Walk::Bad { at } => Err(Reason::Broken.at(at)),
     }
 }
 
 // How a walk in a part ended, with offsets in the whole; the part starts at `by`.
-pub(crate) fn moved_walk(by: usize, w: Walk) -> Walk
+pub fn moved_walk(by: usize, w: Walk) -> Walk
     requires { by + offset_in w < 2 ^ 64 }
     ensures { result ≡ moved_walk by w }
 {
@@ -44,25 +45,23 @@ pub(crate) fn moved_walk(by: usize, w: Walk) -> Walk
 }
 
 // A place in a part, as a place in the whole; the part starts at `by`.
-pub(crate) fn moved(by: usize, p: Place) -> Place
+pub(crate) fn moved(by: usize, p: Result<Place, Refusal>) -> Result<Place, Refusal>
     requires { by + start_of p < 2 ^ 64 }
     ensures { result ≡ moved_place by p }
 {
-    match p {
-        Place::At { start, len } => Place::At {
-            start: by + start,
-            len,
-        },
-        Place::Refused(number, index) => Place::Refused(number, index),
-    }
+    let Place { start, len } = p?;
+    Ok(Place {
+        start: by + start,
+        len,
+    })
 }
 
 // The part of the caller's bytes at a place; empty where it is refused.
-pub(crate) fn part(s: &[u8], p: Place) -> &[u8]
+pub(crate) fn part(s: &[u8], p: Result<Place, Refusal>) -> &[u8]
     requires { Within (length s.now) p }
     ensures { PartAt s.entry p result }
 {
-    let Place::At { start, len } = p else {
+    let Ok(Place { start, len }) = p else {
         return &s[..0];
     };
     &s[start..start + len]
@@ -70,13 +69,14 @@ pub(crate) fn part(s: &[u8], p: Place) -> &[u8]
 
 // The part that a walk found; empty where it found none.
 pub fn payload(s: &[u8], w: Walk) -> &[u8]
-    requires { Within (length s.now) (place_or 31 w) }
-    ensures { PartAt s.entry (place_or 31 w) result }
+    requires { Within (length s.now) (place_or reason.Missing w) }
+    ensures { PartAt s.entry (place_or reason.Missing w) result }
 {
-    part(s, place_or(31, w))
+    part(s, place_or(Reason::Missing, w))
 }
 
 // The payload of the first child of a type, however many bytes there are; empty where there is none.
+#[tactic(auto, using(crate::proofs::Within::found_within))]
 pub fn inner_child(s: &[u8], kind: u32) -> &[u8]
     ensures { PartAt s.entry (child_in kind s.now) result }
 {

@@ -1,20 +1,13 @@
 // Big-endian numbers in lent bytes.
-ghost use Rattle.std.specs.Prelude.{◌≡◌, ◌+◌, ◌*◌, ◌≤◌, length};
+ghost use Rattle.std.specs.Prelude.{◌≡◌, ◌+◌, ◌≤◌, length};
 ghost use Rattle.boxes.specs.Bytes.{be32_at, be64_at};
-
-// The number of four bytes, the first the most significant.
-fn joined(a: u8, b: u8, c: u8, d: u8) -> u32
-    ensures { result ≡ ((a * 256 + b) * 256 + c) * 256 + d }
-{
-    (((a as u32) * 256 + (b as u32)) * 256 + (c as u32)) * 256 + (d as u32)
-}
 
 // The four bytes at an offset: the Rust's be_u32, where they are there.
 pub fn be32(s: &[u8], at: usize) -> u32
     requires { at + 4 ≤ length s.now }
     ensures { result ≡ be32_at s.now at }
 {
-    joined(s[at], s[at + 1], s[at + 2], s[at + 3])
+    u32::from_be_bytes([s[at], s[at + 1], s[at + 2], s[at + 3]])
 }
 
 // The eight bytes at an offset: the Rust's be_u64, where they are there.

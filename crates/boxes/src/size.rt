@@ -3,29 +3,29 @@ ghost use Rattle.std.specs.Prelude.{◌≡◌, ◌≤◌, length};
 ghost use Rattle.boxes.specs.Boxes.{fitting_in, size_of, header_at};
 
 use crate::read::{be32, be64};
-use crate::{Header, Sized};
+use crate::{BoxSize, Header};
 
 // A size and its header's, where the size is at least the header and at most what remains.
 #[tactic(auto, using(choice::proofs::Tests::tests), unfolding(crate::specs::Boxes::fitting_in))]
-fn fitting(remaining: u64, header: u64, size: u64) -> Sized
+fn fitting(remaining: u64, header: u64, size: u64) -> Option<BoxSize>
     ensures { result ≡ fitting_in remaining header size }
 {
     if size < header {
-        return Sized::Refused(31, 0);
+        return None;
     }
     if remaining < size {
-        return Sized::Refused(31, 0);
+        return None;
     }
-    Sized::Box { size, header }
+    Some(BoxSize { size, header })
 }
 
 // The size of the box at the start of data, and its header's: the Rust's box_size, with no limit.
 #[tactic(auto, using(choice::proofs::Tests::tests), unfolding(crate::specs::Boxes::size_of))]
-pub(crate) fn size_of(data: &[u8], remaining: u64) -> Sized
+pub(crate) fn size_of(data: &[u8], remaining: u64) -> Option<BoxSize>
     ensures { result ≡ size_of «data».now remaining }
 {
     if data.len() < 4 {
-        return Sized::Refused(31, 0);
+        return None;
     }
     let size = be32(data, 0) as u64;
     if size == 0 {
@@ -33,7 +33,7 @@ pub(crate) fn size_of(data: &[u8], remaining: u64) -> Sized
     }
     if size == 1 {
         if data.len() < 16 {
-            return Sized::Refused(31, 0);
+            return None;
         }
         return fitting(remaining, 16, be64(data, 8));
     }
@@ -49,15 +49,14 @@ fn any_header_at(s: &[u8], at: usize) -> Header
     if left < 8 {
         return Header::Short;
     }
-    let kind = be32(s, at + 4);
-    let Sized::Box { size, header } = size_of(&s[at..], left as u64) else {
+    let Some(BoxSize { size, header }) = size_of(&s[at..], left as u64) else {
         return Header::Bad;
     };
     let start = at + (header as usize);
     let len = (size - header) as usize;
     let next = at + (size as usize);
     Header::Whole {
-        kind,
+        kind: be32(s, at + 4),
         start,
         len,
         next,

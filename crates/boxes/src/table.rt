@@ -3,18 +3,19 @@ ghost use Rattle.std.specs.Prelude.{◌≡◌};
 ghost use Rattle.boxes.specs.Boxes.{boxes_of};
 ghost use Rattle.boxes.specs.Places.{all_of, only_of, table_in};
 
-use crate::part::moved;
+use crate::part::{moved, place_or};
 use crate::read::code;
 use crate::search::find_child;
 use crate::size::header_at;
-use crate::{Header, Place, Walk};
+use crate::{Header, Place};
+use refusal::{Reason, Refusal};
 
 // The only child of a type: 40 where there is none, 41 where there are more. The walk ends at the second.
-fn only_child(s: &[u8], kind: u32) -> Place
+fn only_child(s: &[u8], kind: u32) -> Result<Place, Refusal>
     ensures { result ≡ only_of (all_of kind (boxes_of s.now)) }
 {
     let mut at = 0;
-    let mut found = Place::Refused(40, 0);
+    let mut found = None;
     loop {
         let h = header_at(s, at);
         let Header::Whole {
@@ -24,24 +25,23 @@ fn only_child(s: &[u8], kind: u32) -> Place
             next,
         } = h
         else {
-            break found;
+            break found.ok_or(Reason::NoTable.at(0));
         };
         if k == kind {
-            let Place::Refused(_, _) = found else {
-                break Place::Refused(41, 0);
-            };
-            found = Place::At { start, len };
+            if found.is_some() {
+                break Err(Reason::SeveralTables.at(0));
+            }
+            found = Some(Place { start, len });
         }
         at = next;
     }
 }
 
 // Where the only MTRM box of a moov's first udta has its payload, in the moov.
-pub(crate) fn table_of(moov: &[u8]) -> Place
+#[tactic(auto, unfolding(crate::specs::Places::table_in))]
+pub(crate) fn table_of(moov: &[u8]) -> Result<Place, Refusal>
     ensures { result ≡ table_in moov.now }
 {
-    let Walk::Found { start, len } = find_child(moov, code(b"udta")) else {
-        return Place::Refused(40, 0);
-    };
+    let Place { start, len } = place_or(Reason::NoTable, find_child(moov, code(b"udta")))?;
     moved(start, only_child(&moov[start..start + len], code(b"MTRM")))
 }

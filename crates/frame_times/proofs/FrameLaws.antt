@@ -9,6 +9,7 @@ use lib.ListN.{length, get_or, drop}
 use lib.IntN.{ℤ, pos, ◌+ℤ◌}
 use lib.Signed.{le_z}
 use Rattle.choice.proofs.Tests.{decide, either, tf}
+use Rattle.refusal.specs.declared.Reason.TheVariants as reason
 use Rattle.signed.specs.Signed.{of_bits}
 use Rattle.signed.proofs.Order.{le_refl, le_trans, le_total, lt-le}
 use Rattle.slices.specs.Slices.{All}
@@ -19,7 +20,7 @@ use Rattle.order.specs.Order.{sorted, mode}
 use Rattle.order.proofs.Mode.{mode-sorted}
 use Rattle.frame_times.specs.Frames.{Frame, frames_from, in_edit, kept, cts_of, last_of, end_of}
 use Rattle.frame_times.specs.Steps.{Near, Good, Showable}
-use Rattle.frame_times.specs.Times.{refused, shown, of_kept}
+use Rattle.frame_times.specs.Times.{no_times, shown, of_kept}
 use Rattle.frame_times.proofs.Choices.{in-ending, out-before}
 use Rattle.frame_times.proofs.Nearness.{ended, le-plus}
 
@@ -109,29 +110,29 @@ showable e all (f ∷ fs) k h a s =
 
 -- ---- the answers
 module _ (scale : ℕ) (nominal : ℤ) (e : Edit) where
-  pub none_kept : (fs : List Frame) → length fs ≡ 0 → of_kept scale nominal e fs ≡ refused 31
+  pub none_kept : (fs : List Frame) → length fs ≡ 0 → of_kept scale nominal e fs ≡ no_times reason.Missing
   unfolding of_kept
   none_kept [] h = refl
   none_kept (f ∷ fs) h = absurd (omega arith)
 
-  pub low-nominal : (fs : List Frame) → le_z nominal (pos 0) ≡ true → of_kept scale nominal e fs ≡ refused 31
+  pub low-nominal : (fs : List Frame) → le_z nominal (pos 0) ≡ true → of_kept scale nominal e fs ≡ no_times reason.Missing
   unfolding of_kept
   low-nominal [] h = refl
-  low-nominal (f ∷ fs) h = λ i. if h i then refused 31 else shown scale nominal e (first_of (f ∷ fs)) (end-of (f ∷ fs)) (sorted (cts_of (f ∷ fs)))
+  low-nominal (f ∷ fs) h = λ i. if h i then no_times reason.Missing else shown scale nominal e (first_of (f ∷ fs)) (end-of (f ∷ fs)) (sorted (cts_of (f ∷ fs)))
 
   pub some-shown : (fs : List Frame) → 0 < length fs → le_z nominal (pos 0) ≡ false → of_kept scale nominal e fs ≡ shown scale nominal e (first_of fs) (end-of fs) (sorted (cts_of fs))
   unfolding of_kept
   some-shown [] h k = absurd (omega arith)
-  some-shown (f ∷ fs) h k = λ i. if k i then refused 31 else shown scale nominal e (first_of (f ∷ fs)) (end-of (f ∷ fs)) (sorted (cts_of (f ∷ fs)))
+  some-shown (f ∷ fs) h k = λ i. if k i then no_times reason.Missing else shown scale nominal e (first_of (f ∷ fs)) (end-of (f ∷ fs)) (sorted (cts_of (f ∷ fs)))
 
 pub showable-as : (e : Edit) {l l' : List ℤ} {f f' z z' : ℤ} → l ≡ l' → f ≡ f' → z ≡ z' → Showable l' f' z' e → Showable l f z e
 showable-as e p q r m = rw (p, q, r) m
 
 -- the most frequent of no durations, and of sorted ones
-pub mode-none : (l : List ℤ) → length l ≡ 0 → pos 0 ≡ mode l
+pub mode_none : (l : List ℤ) → length l ≡ 0 → pos 0 ≡ mode l
 unfolding mode
-mode-none [] h = refl
-mode-none (x ∷ l) h = absurd (omega arith)
+mode_none [] h = refl
+mode_none (x ∷ l) h = absurd (omega arith)
 
 pub mode-of-sorted : (l : List ℤ) → mode (sorted l) ≡ mode l
 unfolding sorted

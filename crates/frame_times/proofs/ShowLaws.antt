@@ -27,10 +27,13 @@ use Rattle.slices.proofs.Laid.{set-laid}
 use Rattle.order.specs.Order.{sorted}
 use Rattle.order.proofs.Sorted.{all-sorted, length-sorted}
 use Rattle.tracks.specs.declared.Edit.{Edit}
-use Rattle.frame_times.specs.declared.FrameTimes.TheVariants.{Presented}
+use Rattle.std.specs.Prelude.{Result, Ok}
+use Rattle.ticks.specs.declared.FrameTimes.{FrameTimes}
+use Rattle.refusal.specs.declared.Reason.TheVariants as reason
+use Rattle.refusal.specs.declared.Refusal.{Refusal}
 use Rattle.frame_times.specs.Frames.{capped, time_origin, moved_time, max_z}
 use Rattle.frame_times.specs.Steps.{Near, Ended, Showable, Movable, OutcomeAnswered}
-use Rattle.frame_times.specs.Times.{Outcome, placed, shown, refused}
+use Rattle.frame_times.specs.Times.{Outcome, placed, shown, no_times}
 use Rattle.frame_times.proofs.Choices.{held, not-held, cap-endless, cap-under, cap-past, origin-edited, origin-none, max-first, max-second}
 
 -- at most 2^61 from 0
@@ -104,17 +107,20 @@ unfolding any
 none_out [] h = refl
 none_out (z ∷ l) h = (λ i. lt-leb 9223372036854775808 (mag z) h.0 i || any is_outside l) ∙ none_out l h.1
 
+abbrev pub presented : ℕ → ℕ → ℤ → ℤ → Result FrameTimes Refusal
+presented frames scale nominal end = Ok (record { frames = frames; scale = scale; nominal = nominal; end = end })
+
 module _ (scale : ℕ) (nominal end : ℤ) (starts : List ℤ) where
   abbrev told : Outcome
-  told = record { answer = Presented (length starts) scale nominal end; starts = starts }
+  told = record { answer = presented (length starts) scale nominal end; starts = starts }
 
-  placed-out : 2 ^ 63 ≤ mag end → placed scale nominal end starts ≡ refused 33
+  placed-out : 2 ^ 63 ≤ mag end → placed scale nominal end starts ≡ no_times reason.Outside
   unfolding placed
-  placed-out h = λ i. if some_out starts end h i then refused 33 else told
+  placed-out h = λ i. if some_out starts end h i then no_times reason.Outside else told
 
   placed-in : I64 end → All I64 starts → placed scale nominal end starts ≡ told
   unfolding placed
-  placed-in h all = λ i. if none_out (end ∷ starts) (h, all) i then refused 33 else told
+  placed-in h all = λ i. if none_out (end ∷ starts) (h, all) i then no_times reason.Outside else told
 
 pub showable-sorted : (l : List ℤ) (first last : ℤ) (e : Edit) → Showable l first last e → Showable (sorted l) first last e
 showable-sorted l first last e s = record {
@@ -143,7 +149,7 @@ module _ (times : List ℤ) (first last : ℤ) (e : Edit) (s : Showable times fi
   pub end-apart : Difference (capped e last) (from-0 e first times) (capped e last -ℤ from-0 e first times)
   end-apart = apart (capped e last) (from-0 e first times) cap-mid o-mid
 
-  pub shown-out : (scale : ℕ) (nominal : ℤ) → 2 ^ 63 ≤ mag (moved_time (from-0 e first times) e.empty (capped e last)) → shown scale nominal e first last times ≡ refused 33
+  pub shown-out : (scale : ℕ) (nominal : ℤ) → 2 ^ 63 ≤ mag (moved_time (from-0 e first times) e.empty (capped e last)) → shown scale nominal e first last times ≡ no_times reason.Outside
   unfolding shown
   shown-out scale nominal h = placed-out scale nominal (moved_time (from-0 e first times) e.empty (capped e last)) (map (moved_time (from-0 e first times) e.empty) times) h
 
@@ -159,13 +165,13 @@ module _ (times : List ℤ) (first last : ℤ) (e : Edit) (s : Showable times fi
 
     pub shown-in : (scale : ℕ) (nominal : ℤ)
         → shown scale nominal e first last times
-        ≡ record { answer = Presented (length times) scale nominal (moved_time (from-0 e first times) e.empty (capped e last)); starts = map (moved_time (from-0 e first times) e.empty) times }
+        ≡ record { answer = presented (length times) scale nominal (moved_time (from-0 e first times) e.empty (capped e last)); starts = map (moved_time (from-0 e first times) e.empty) times }
     unfolding shown
     shown-in scale nominal =
         let f = moved_time (from-0 e first times) e.empty in
         placed-in scale nominal (f (capped e last)) (map f times) fits
         (all_map I64 f times (all-weaken (Movable (from-0 e first times) e.empty) (λ x. I64 (f x)) times (λ x m. m.1) times-move))
-        ∙ ap (λ n. record { answer = Presented n scale nominal (f (capped e last)); starts = map f times }) (length-map times f)
+        ∙ ap (λ n. record { answer = presented n scale nominal (f (capped e last)); starts = map f times }) (length-map times f)
 
 pub movable-as : (o o' d d' : ℤ) (l l' : List ℤ) → o' ≡ o → d' ≡ d → l' ≡ l → All (Movable o d) l → All (Movable o' d') l'
 movable-as o o' d d' l l' p q r m = rw (p, q, r) m
@@ -234,7 +240,7 @@ module _ {times new : List ℤ} {first last : ℤ} {e : Edit} {o cap : ℤ} (h :
   pub summed : {r : Held} → r ≡ within (read (read cap -ℤ read o) +ℤ read e.empty) → r ≡ within end_is
   summed q = q ∙ (λ i. within (((λ j. read (cap-read j -ℤ org-read j)) ∙ back (top -ℤ org) top-apart) i +ℤ empty-read i))
 
-  pub refused_is : (scale : ℕ) (nominal : ℤ) → Outside ≡ within end_is → shown scale nominal e first last (sorted times) ≡ refused 33
+  pub refused_is : (scale : ℕ) (nominal : ℤ) → Outside ≡ within end_is → shown scale nominal e first last (sorted times) ≡ no_times reason.Outside
   refused_is scale nominal q = shown-out (sorted times) first last e able some scale nominal (not-held end_is q)
 
   module _ {z : ℤ} (q : Is z ≡ within end_is) where
@@ -248,10 +254,10 @@ module _ {times new : List ℤ} {first last : ℤ} {e : Edit} {o cap : ℤ} (h :
     placeable = movable-as org (read o) e.empty (read e.empty) (sorted times) new org-read empty-read h.order (times-move (sorted times) first last e able some end-fits)
 
     pub answers : (scale : ℕ) (nominal : ℤ) {l l' : List ℤ} → SFits w64 nominal → l' ≡ laid (map (moved_time (read o) (read e.empty)) new) l
-        → OutcomeAnswered (shown scale nominal e first last (sorted times)) (Presented (length new) scale (read nominal) (read z)) l l'
+        → OutcomeAnswered (shown scale nominal e first last (sorted times)) (presented (length new) scale (read nominal) (read z)) l l'
     answers scale nominal {l} {l'} f p =
         let s = shown-in (sorted times) first last e able some end-fits scale nominal in
         record {
-          answer = (λ i. Presented (length (h.order i)) scale (reads f i) (end-read i)) ∙ ap (λ (o : Outcome). o.answer) (sym s);
+          answer = (λ i. presented (length (h.order i)) scale (reads f i) (end-read i)) ∙ ap (λ (o : Outcome). o.answer) (sym s);
           starts = p ∙ (λ i. laid (map (moved_time (org-read i) (empty-read i)) (h.order i)) l) ∙ ap (λ (o : Outcome). laid o.starts l) (sym s);
         }

@@ -1,11 +1,12 @@
 -- What the inner functions promise each other: what the pass over the frames tells, and how far from 0 its numbers lie.
-use Rattle.std.specs.Prelude.{ℕ, ◌+◌, ◌≤◌, ◌<◌, ◌^◌, ◌≡◌, true, false, List, [], ◌∷◌, length, take, ℤ, ◌-ℤ◌, eqb, if◌then◌else◌}
+use Rattle.std.specs.Prelude.{ℕ, ◌+◌, ◌≤◌, ◌<◌, ◌^◌, ◌≡◌, true, false, List, [], ◌∷◌, length, take, ℤ, ◌-ℤ◌, eqb, if◌then◌else◌, Result}
 use Rattle.std.specs.Int.Signed.{le_z, mag}
 use Rattle.signed.specs.Steps.{I64}
 use Rattle.slices.specs.Slices.{laid, All}
 use Rattle.tracks.specs.declared.Edit.{Edit}
 use Rattle.tracks.specs.Steps.{Sound}
-use Rattle.frame_times.specs.declared.FrameTimes.{FrameTimes}
+use Rattle.ticks.specs.declared.FrameTimes.{FrameTimes}
+use Rattle.refusal.specs.declared.Refusal.{Refusal}
 use Rattle.frame_times.specs.declared.Kept.{Kept}
 use Rattle.frame_times.specs.Times.{Outcome}
 use Rattle.frame_times.specs.Frames.{Frame, cts_of, last_of, moved_time}
@@ -56,6 +57,6 @@ pub record Showable (times : List ℤ) (first last : ℤ) (e : Edit) : Type 0 wh
   pub to_end : e.endless ≡ false → All (λ x. le_z x e.end ≡ true) times
 
 -- an outcome was answered: r is its answer, and its starts are laid over what was lent
-pub record OutcomeAnswered (o : Outcome) (r : FrameTimes) (before after : List ℤ) : Type 0 where
+pub record OutcomeAnswered (o : Outcome) (r : Result FrameTimes Refusal) (before after : List ℤ) : Type 0 where
   pub answer : r ≡ o.answer
   pub starts : after ≡ laid o.starts before

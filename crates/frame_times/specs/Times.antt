@@ -1,9 +1,12 @@
 -- The frame times of a moov: what is answered, from its bytes down to its frames. With `standard` composition offsets are read by the standard, else by the Rust
 -- (`offsets` of tracks/specs/Tables.antt); nothing else goes by it.
-use Rattle.std.specs.Prelude.{ℕ, ◌+◌, min, ◌≡◌, Bool, ◌||◌, List, [], ◌∷◌, map, length, get_or, ℤ, pos, ltb, eqb, if◌then◌else◌}
+use Rattle.std.specs.Prelude.{ℕ, ◌+◌, min, ◌≡◌, Bool, ◌||◌, List, [], ◌∷◌, map, length, get_or, ℤ, pos, ltb, eqb, if◌then◌else◌, Result, Ok, Err}
 use Rattle.std.specs.Int.Signed.{le_z}
 use Rattle.choice.specs.Records.{any}
-use Rattle.choice.specs.Numbers.{too_long, no_times, no_room, outside, bad_header}
+use Rattle.refusal.specs.declared.Reason.{Reason}
+use Rattle.refusal.specs.declared.Reason.TheVariants as reason
+use Rattle.refusal.specs.declared.Refusal.{Refusal}
+use Rattle.refusal.specs.Refusals.{refusal_at}
 use Rattle.signed.specs.Signed.{is_outside}
 use Rattle.slices.specs.Slices.{laid, zeros}
 use Rattle.order.specs.Order.{sorted, mode}
@@ -20,8 +23,7 @@ use Rattle.tracks.specs.declared.Edited.{Edited}
 use Rattle.tracks.specs.declared.Edited.TheVariants.{By, Bad}
 use Rattle.tracks.specs.Tables.{scale_of, has_scale, table_rows, optional_rows, entries_of, entry_total, durations, offsets}
 use Rattle.tracks.specs.Edits.{edit_of}
-use Rattle.frame_times.specs.declared.FrameTimes.{FrameTimes}
-use Rattle.frame_times.specs.declared.FrameTimes.TheVariants.{Presented, Refused}
+use Rattle.ticks.specs.declared.FrameTimes.{FrameTimes}
 use Rattle.frame_times.specs.Frames.{Frame, frames_from, kept, cts_of, last_of, end_of, capped, time_origin, moved_time}
 
 -- `mvhd`, `mdhd`, `minf`, `stbl`, `stts`, `ctts` and `edts`, their four letters as a number
@@ -48,20 +50,22 @@ edts = 0x65647473
 
 -- an answer, and the starts that go with it: none with a refusal
 pub record Outcome : Type 0 where
-  pub answer : FrameTimes
+  pub answer : Result FrameTimes Refusal
   pub starts : List ℤ
 
-abbrev pub refused_at : ℕ → ℕ → Outcome
-refused_at n i = record { answer = Refused n i; starts = [] }
+-- a refusal at an index: no starts go with it
+abbrev pub no_times_at : Reason → ℕ → Outcome
+no_times_at why index = record { answer = Err (refusal_at why index); starts = [] }
 
-abbrev pub refused : ℕ → Outcome
-refused n = refused_at n 0
+-- the same at 0
+abbrev pub no_times : Reason → Outcome
+no_times why = no_times_at why 0
 
 -- the answer of an end and starts, where an i64 holds each
 unfoldable pub placed : ℕ → ℤ → ℤ → List ℤ → Outcome
 placed scale nominal end starts =
-    if any is_outside (end ∷ starts) then refused outside
-    else record { answer = Presented (length starts) scale nominal end; starts = starts }
+    if any is_outside (end ∷ starts) then no_times reason.Outside
+    else record { answer = Ok (record { frames = length starts; scale = scale; nominal = nominal; end = end }); starts = starts }
 
 -- the answer of kept frames: the first one's decode time, where the last one ends, and the composition times, ascending
 abbrev pub shown_from : ℕ → ℤ → Edit → ℤ → List ℤ → ℤ → Outcome
@@ -72,9 +76,9 @@ shown scale nominal e first last times = shown_from scale nominal e last times (
 
 -- none kept is refused, and so is a nominal duration that isn't above 0
 unfoldable pub of_kept : ℕ → ℤ → Edit → List Frame → Outcome
-of_kept scale nominal e [] = refused no_times
+of_kept scale nominal e [] = no_times reason.Missing
 of_kept scale nominal e (f ∷ fs) =
-    if le_z nominal (pos 0) then refused no_times
+    if le_z nominal (pos 0) then no_times reason.Missing
     else shown scale nominal e (pos f.decode) (end_of (last_of f fs)) (sorted (cts_of (f ∷ fs)))
 
 -- of durations, offsets and an edit; nominal is the most frequent duration of all frames, of several the smallest
@@ -83,33 +87,28 @@ of_frames scale e ds os = of_kept scale (mode (map pos ds)) e (kept e (frames_fr
 
 -- of durations, offsets and an edit list that may be refused
 abbrev pub of_edit : Edited → ℕ → List ℕ → List ℤ → Outcome
-of_edit Bad scale ds os = refused no_times
+of_edit Bad scale ds os = no_times reason.Missing
 of_edit (By e) scale ds os = of_frames scale e ds os
 
 -- past the room test: of a ctts that may be torn, and then of the edit list
 abbrev pub of_offsets : Bool → Rows → List ℕ → List ℕ → ℕ → ℕ → List ℕ → Outcome
-of_offsets standard Torn ctts edts scale movie ds = refused no_times
+of_offsets standard Torn ctts edts scale movie ds = no_times reason.Missing
 of_offsets standard (Whole n) ctts edts scale movie ds = of_edit (edit_of edts scale movie) scale ds (offsets standard n ctts)
 
 -- of a stts that may be torn: more frames than the moov has bytes are refused, and then more than there is room for
 abbrev pub of_durations : Bool → Rows → ℕ → ℕ → ℕ → ℕ → List ℕ → List ℕ → List ℕ → Outcome
-of_durations standard Torn bytes room movie scale edts ctts stts = refused no_times
+of_durations standard Torn bytes room movie scale edts ctts stts = no_times reason.Missing
 of_durations standard (Whole n) bytes room movie scale edts ctts stts =
-    if ltb bytes (entry_total (entries_of n stts)) then refused no_times
-    else if ltb room (entry_total (entries_of n stts)) then refused no_room
+    if ltb bytes (entry_total (entries_of n stts)) then no_times reason.Missing
+    else if ltb room (entry_total (entries_of n stts)) then no_times reason.NoRoom
     else of_offsets standard (optional_rows ctts) ctts edts scale movie (durations n stts)
 
--- a box that has to be there and wasn't found in the part that starts at `base` of the moov: no times after a clean end; after a bad header that is said, with its offset in the moov
-abbrev pub not_found : ℕ → Walk → Outcome
-not_found base (Found start len) = refused no_times
-not_found base End = refused no_times
-not_found base (BadAt at) = refused_at bad_header (base + at)
-
--- a box that has to be there: its payload goes on, with where that starts in the moov
+-- a box that has to be there, in the part that starts at `base` of the moov: its payload goes on, with where that starts in the moov.
+-- Where it isn't, 31 after a clean end; after a bad header 36, with the header's offset in the moov
 abbrev pub required : ℕ → Walk → List ℕ → (ℕ → List ℕ → Outcome) → Outcome
-required base (Found start len) s next = next (base + start) (part_of s (place_or no_times (Found start len)))
-required base End s next = not_found base End
-required base (BadAt at) s next = not_found base (BadAt at)
+required base (Found start len) s next = next (base + start) (part_of s (place_or reason.Missing (Found start len)))
+required base End s next = no_times reason.Missing
+required base (BadAt at) s next = no_times_at reason.Broken (base + at)
 
 -- the same for the first child of a type
 abbrev pub in_child : ℕ → ℕ → List ℕ → (ℕ → List ℕ → Outcome) → Outcome
@@ -122,7 +121,7 @@ of_tables standard bytes room movie scale edts base tables = in_child stts base 
 -- of a mdia, which has the timescale and, two boxes below, the stbl; neither timescale may be 0
 abbrev pub of_scale : Bool → ℕ → ℕ → ℕ → ℕ → List ℕ → ℕ → List ℕ → Outcome
 of_scale standard bytes room movie scale edts base media =
-    if eqb scale 0 || eqb movie 0 then refused no_times
+    if eqb scale 0 || eqb movie 0 then no_times reason.Missing
     else in_child minf base media (λ at i. in_child stbl at i (of_tables standard bytes room movie scale edts))
 
 unfoldable pub of_media : Bool → ℕ → ℕ → ℕ → List ℕ → ℕ → List ℕ → Outcome
@@ -136,12 +135,12 @@ of_track standard bytes room movie base track = in_child mdia base track (of_med
 abbrev pub of_movie : Bool → List ℕ → ℕ → List ℕ → Outcome
 of_movie standard moov room h =
     if has_scale h then required 0 (video_track moov) moov (of_track standard (length moov) room (scale_of h))
-    else refused no_times
+    else no_times reason.Missing
 
 -- of a moov: its mvhd, then its first video track
 unfoldable pub times_of_moov : Bool → List ℕ → ℕ → Outcome
 times_of_moov standard moov room =
-    if ltb most_bytes (length moov) then refused too_long
+    if ltb most_bytes (length moov) then no_times reason.TooLong
     else in_child mvhd 0 moov (λ at h. of_movie standard moov room h)
 
 -- the room that three slices have
@@ -149,7 +148,7 @@ abbrev pub room : List ℤ → List ℤ → List ℤ → ℕ
 room x y z = min (min (length x) (length y)) (length z)
 
 -- what `video_frame_times_of_moov` leaves, of a mode, a moov, starts and two working slices: r is the answer, the starts are laid over what was lent, and both working slices are all zero
-pub record MoovAnswers (standard : Bool) (moov : List ℕ) (lent a b : List ℤ) (r : FrameTimes) (after a' b' : List ℤ) : Type 0 where
+pub record MoovAnswers (standard : Bool) (moov : List ℕ) (lent a b : List ℤ) (r : Result FrameTimes Refusal) (after a' b' : List ℤ) : Type 0 where
   pub answer : r ≡ (times_of_moov standard moov (room lent a b)).answer
   pub starts : after ≡ laid (times_of_moov standard moov (room lent a b)).starts lent
   pub first-clear : a' ≡ zeros a

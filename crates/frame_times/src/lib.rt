@@ -7,22 +7,9 @@ mod track;
 
 ghost use Rattle.frame_times.specs.Times.{MoovAnswers};
 
+use refusal::Refusal;
+use ticks::FrameTimes;
 use track::of_moov;
-
-// What is answered: how many frames are presented, in which timescale, with which most frequent duration, and where they end; or a refusal.
-#[derive(Clone, Copy)]
-pub enum FrameTimes {
-    Presented {
-        frames: usize,
-        timescale: u64,
-        nominal: i64,
-        end: i64,
-    },
-    Refused {
-        number: u64,
-        index: u64,
-    },
-}
 
 // The frames that are kept: how many, when the first is decoded, and of the last the composition time and the duration.
 #[derive(Clone, Copy)]
@@ -42,7 +29,7 @@ pub fn video_frame_times_of_moov(
     starts: &mut [i64],
     work_a: &mut [i64],
     work_b: &mut [i64],
-) -> FrameTimes
+) -> Result<FrameTimes, Refusal>
     ensures { MoovAnswers standard moov.now starts.old work_a.old work_b.old result starts.new work_a.new work_b.new }
 {
     let r = of_moov(moov, standard, starts, work_a, work_b);

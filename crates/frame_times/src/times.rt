@@ -8,18 +8,11 @@ ghost use Rattle.frame_times.specs.Frames.{time_origin, capped, moved_time, max_
 ghost use Rattle.frame_times.specs.Times.{shown, of_frames};
 ghost use Rattle.frame_times.specs.Steps.{Movable, Showable, OutcomeAnswered};
 
-use crate::FrameTimes;
 use crate::frames::keep;
-use choice::{NO_TIMES, OUTSIDE};
+use refusal::{Reason, Refusal};
 use signed::Held;
+use ticks::FrameTimes;
 use tracks::Edit;
-
-// A refusal.
-pub(crate) fn refused(number: u64) -> FrameTimes
-    ensures { result ≡ FrameTimes.Refused number 0 }
-{
-    FrameTimes::Refused { number, index: 0 }
-}
 
 // The larger of two.
 fn larger(a: i64, b: i64) -> i64
@@ -74,7 +67,7 @@ fn show(
     nominal: i64,
     scale: u64,
     starts: &mut [i64],
-) -> FrameTimes
+) -> Result<FrameTimes, Refusal>
     requires { Showable times.old first last e × (0 < length times.old) × (length times.old ≤ length scratch.old) × (length times.old ≤ length starts.old) }
     ensures { OutcomeAnswered (shown scale nominal e first last (sorted times.old)) result starts.old starts.new }
 {
@@ -82,18 +75,19 @@ fn show(
     let o = origin_of(e, times[0], first);
     let empty = e.empty;
     let Held::Is(end) = signed::sum(capped_at(e, last) - o, empty) else {
-        return refused(OUTSIDE);
+        return Err(Reason::Outside.at(0));
     };
     place(times, o, empty, starts);
-    FrameTimes::Presented {
+    Ok(FrameTimes {
         frames: times.len(),
-        timescale: scale,
+        scale,
         nominal,
         end,
-    }
+    })
 }
 
 // The most frequent of ascending durations, of several the smallest; 0 where there are none.
+#[tactic(auto, using(crate::proofs::FrameLaws::mode_none))]
 fn nominal_of(durations: &[i64]) -> i64
     requires { Asc durations.now }
     ensures { result ≡ mode durations.now }
@@ -116,7 +110,7 @@ pub(crate) fn present(
     starts: &mut [i64],
     a: &mut [i64],
     b: &mut [i64],
-) -> FrameTimes
+) -> Result<FrameTimes, Refusal>
     requires n_in_bounds { (n * 8 ≤ length stts.now - 8) × (m * 8 ≤ length ctts.now - 8) × (length a.old ≡ entry_total (entries_of n stts.now)) × (length a.old ≤ 16777216) × (length a.old ≤ length starts.old) }
     requires b_value { (b.old ≡ map pos (durations n stts.now)) × Sound e }
     ensures { OutcomeAnswered (of_frames scale e (durations n stts.now) (offsets standard m ctts.now)) result starts.old starts.new }
@@ -124,12 +118,12 @@ pub(crate) fn present(
     order::sort_any(b, a);
     let nominal = nominal_of(b);
     if nominal <= 0 {
-        return refused(NO_TIMES);
+        return Err(Reason::Missing.at(0));
     }
     let k = keep(stts, n, ctts, m, standard, e, a);
     let count = k.count;
     if count == 0 {
-        return refused(NO_TIMES);
+        return Err(Reason::Missing.at(0));
     }
     let last = k.last + (k.lasts as i64);
     show(

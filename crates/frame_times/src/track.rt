@@ -1,18 +1,19 @@
 // From the moov to the tables of its first video track, in the order of the Rust.
 ghost use Rattle.std.specs.Prelude.{◌≡◌, map, ◌+◌, ◌-◌, ◌*◌, ◌≤◌, ◌<◌, ◌^◌, min, length, pos};
+ghost use Rattle.boxes.specs.Places.{place_of, moved_walk};
 ghost use Rattle.boxes.specs.Steps.{offset_in};
 ghost use Rattle.tracks.specs.Tables.{table_rows, optional_rows, entries_of, entry_total, durations};
-ghost use Rattle.frame_times.specs.Times.{stbl, room, not_found, in_child, of_offsets, of_durations, of_tables, of_media, of_track, times_of_moov};
+ghost use Rattle.frame_times.specs.Times.{stbl, room, in_child, of_offsets, of_durations, of_tables, of_media, of_track, times_of_moov};
 ghost use Rattle.frame_times.specs.Steps.{OutcomeAnswered};
 
-use crate::FrameTimes;
-use crate::times::{present, refused};
-use boxes::part::{inner_child, payload};
+use crate::times::present;
+use boxes::part::{inner_child, moved_walk, payload, place_of};
 use boxes::read::code;
 use boxes::search::find_child;
 use boxes::track::find_video_track;
-use boxes::{MOST_BYTES, Walk};
-use choice::{BAD_HEADER, NO_ROOM, NO_TIMES, TOO_LONG};
+use boxes::{MOST_BYTES, Place, Walk};
+use refusal::{Reason, Refusal};
+use ticks::FrameTimes;
 use tracks::edits::edit_of;
 use tracks::tables::{count_rows, has_scale, lay, optional_rows, scale};
 use tracks::{Edited, Rows};
@@ -32,22 +33,16 @@ fn least_length(x: &[i64], y: &[i64], z: &[i64]) -> usize
     smaller(n, z.len())
 }
 
-// A box that has to be there and that a walk didn't find, in the part that starts at base of the moov.
-fn not_found(base: usize, w: Walk) -> FrameTimes
+// Where in the moov a box lies that has to be there, by the walk for it in the part that starts at base.
+fn place_in_moov(base: usize, w: Walk) -> Result<Place, Refusal>
     requires { base + offset_in w < 2 ^ 64 }
-    ensures { result ≡ (not_found base w).answer }
+    ensures { result ≡ place_of (moved_walk base w) }
 {
-    match w {
-        Walk::Found { start: _, len: _ } => refused(NO_TIMES),
-        Walk::End => refused(NO_TIMES),
-        Walk::Bad { at } => FrameTimes::Refused {
-            number: BAD_HEADER,
-            index: (base + at) as u64,
-        },
-    }
+    place_of(moved_walk(base, w))
 }
 
 // Answers past the room test: the offsets, then the edit. b has the durations.
+#[tactic(auto, using(tracks::proofs::EntryLaws::optional_there))]
 fn past_room(
     standard: bool,
     stts: &[u8],
@@ -59,16 +54,16 @@ fn past_room(
     starts: &mut [i64],
     a: &mut [i64],
     b: &mut [i64],
-) -> FrameTimes
+) -> Result<FrameTimes, Refusal>
     requires n_in_bounds { (n * 8 ≤ length stts.now - 8) × (length a.old ≡ entry_total (entries_of n stts.now)) × (length a.old ≤ 16777216) × (length a.old ≤ length starts.old) }
     requires b_value { (b.old ≡ map pos (durations n stts.now)) × (scale < 2 ^ 32) × (0 < movie) × (movie < 2 ^ 32) }
     ensures { OutcomeAnswered (of_offsets standard (optional_rows ctts.now) ctts.now edts.now scale movie (durations n stts.now)) result starts.old starts.new }
 {
     let Rows::Whole(m) = optional_rows(ctts) else {
-        return refused(NO_TIMES);
+        return Err(Reason::Missing.at(0));
     };
     let Edited::By(e) = edit_of(edts, scale, movie) else {
-        return refused(NO_TIMES);
+        return Err(Reason::Missing.at(0));
     };
     present(stts, n, ctts, m, standard, e, scale, starts, a, b)
 }
@@ -85,19 +80,19 @@ fn of_durations(
     starts: &mut [i64],
     a: &mut [i64],
     b: &mut [i64],
-) -> FrameTimes
+) -> Result<FrameTimes, Refusal>
     requires { (bytes ≤ 16777216) × (scale < 2 ^ 32) × (0 < movie) × (movie < 2 ^ 32) }
     ensures { OutcomeAnswered (of_durations standard (table_rows stts.now) bytes (room starts.old a.old b.old) movie scale edts.now ctts.now stts.now) result starts.old starts.new }
 {
     let Rows::Whole(n) = count_rows(stts) else {
-        return refused(NO_TIMES);
+        return Err(Reason::Missing.at(0));
     };
     let f = lay(stts, n, bytes, b);
     if bytes < f {
-        return refused(NO_TIMES);
+        return Err(Reason::Missing.at(0));
     }
     if least_length(starts, a, b) < f {
-        return refused(NO_ROOM);
+        return Err(Reason::NoRoom.at(0));
     }
     past_room(
         standard,
@@ -114,7 +109,7 @@ fn of_durations(
 }
 
 // Answers with the edts of such a track, and with its stbl, which starts at base of the moov.
-#[tactic(auto, using(choice::proofs::Tests::tests), unfolding(crate::specs::Times::of_tables))]
+#[tactic(auto, using(boxes::proofs::Within::found_within), unfolding(crate::specs::Times::of_tables))]
 fn of_tables(
     standard: bool,
     bytes: usize,
@@ -126,14 +121,12 @@ fn of_tables(
     starts: &mut [i64],
     a: &mut [i64],
     b: &mut [i64],
-) -> FrameTimes
+) -> Result<FrameTimes, Refusal>
     requires { (bytes ≤ 16777216) × (scale < 2 ^ 32) × (0 < movie) × (movie < 2 ^ 32) × (base + length stbl.now ≤ 16777216) }
     ensures { OutcomeAnswered (of_tables standard bytes (room starts.old a.old b.old) movie scale edts.now base stbl.now) result starts.old starts.new }
 {
     let w = find_child(stbl, code(b"stts"));
-    let Walk::Found { start: _, len: _ } = w else {
-        return not_found(base, w);
-    };
+    place_in_moov(base, w)?;
     let ctts = inner_child(stbl, code(b"ctts"));
     of_durations(
         standard,
@@ -150,6 +143,7 @@ fn of_tables(
 }
 
 // Answers with the minf of such a track, at base of the moov, which has its stbl.
+#[tactic(auto, using(boxes::proofs::Within::found_within, crate::proofs::TrackLaws::deeper))]
 fn of_info(
     standard: bool,
     bytes: usize,
@@ -161,21 +155,19 @@ fn of_info(
     starts: &mut [i64],
     a: &mut [i64],
     b: &mut [i64],
-) -> FrameTimes
+) -> Result<FrameTimes, Refusal>
     requires { (bytes ≤ 16777216) × (scale < 2 ^ 32) × (0 < movie) × (movie < 2 ^ 32) × (base + length minf.now ≤ 16777216) }
     ensures { OutcomeAnswered (in_child stbl base minf.now (of_tables standard bytes (room starts.old a.old b.old) movie scale edts.now)) result starts.old starts.new }
 {
     let w = find_child(minf, code(b"stbl"));
-    let Walk::Found { start, len: _ } = w else {
-        return not_found(base, w);
-    };
+    let at = place_in_moov(base, w)?.start;
     of_tables(
         standard,
         bytes,
         movie,
         scale,
         edts,
-        base + start,
+        at,
         payload(minf, w),
         starts,
         a,
@@ -184,7 +176,7 @@ fn of_info(
 }
 
 // Answers with the mdia of a video track, at base of the moov, which has its timescale and its minf.
-#[tactic(auto, using(choice::proofs::Tests::tests), unfolding(crate::specs::Times::of_media))]
+#[tactic(auto, using(choice::proofs::Tests::tests, boxes::proofs::Within::found_within, crate::proofs::TrackLaws::deeper, crate::proofs::TrackLaws::above_zero), unfolding(crate::specs::Times::of_media))]
 fn of_media(
     standard: bool,
     bytes: usize,
@@ -195,29 +187,25 @@ fn of_media(
     starts: &mut [i64],
     a: &mut [i64],
     b: &mut [i64],
-) -> FrameTimes
+) -> Result<FrameTimes, Refusal>
     requires { (bytes ≤ 16777216) × (movie < 2 ^ 32) × (base + length mdia.now ≤ 16777216) }
     ensures { OutcomeAnswered (of_media standard bytes (room starts.old a.old b.old) movie edts.now base mdia.now) result starts.old starts.new }
 {
     let h = find_child(mdia, code(b"mdhd"));
-    let Walk::Found { start: _, len: _ } = h else {
-        return not_found(base, h);
-    };
+    place_in_moov(base, h)?;
     let s = scale(payload(mdia, h)) as u64;
     if (s == 0) | (movie == 0) {
-        return refused(NO_TIMES);
+        return Err(Reason::Missing.at(0));
     }
     let i = find_child(mdia, code(b"minf"));
-    let Walk::Found { start, len: _ } = i else {
-        return not_found(base, i);
-    };
+    let at = place_in_moov(base, i)?.start;
     of_info(
         standard,
         bytes,
         movie,
         s,
         edts,
-        base + start,
+        at,
         payload(mdia, i),
         starts,
         a,
@@ -226,7 +214,7 @@ fn of_media(
 }
 
 // Answers with a video track, which starts at base of the moov.
-#[tactic(auto, using(choice::proofs::Tests::tests), unfolding(crate::specs::Times::of_track))]
+#[tactic(auto, using(boxes::proofs::Within::found_within, crate::proofs::TrackLaws::deeper), unfolding(crate::specs::Times::of_track))]
 fn of_track(
     standard: bool,
     bytes: usize,
@@ -236,21 +224,19 @@ fn of_track(
     starts: &mut [i64],
     a: &mut [i64],
     b: &mut [i64],
-) -> FrameTimes
+) -> Result<FrameTimes, Refusal>
     requires { (bytes ≤ 16777216) × (movie < 2 ^ 32) × (base + length trak.now ≤ 16777216) }
     ensures { OutcomeAnswered (of_track standard bytes (room starts.old a.old b.old) movie base trak.now) result starts.old starts.new }
 {
     let w = find_child(trak, code(b"mdia"));
-    let Walk::Found { start, len: _ } = w else {
-        return not_found(base, w);
-    };
+    let at = place_in_moov(base, w)?.start;
     let edts = inner_child(trak, code(b"edts"));
     of_media(
         standard,
         bytes,
         movie,
         edts,
-        base + start,
+        at,
         payload(trak, w),
         starts,
         a,
@@ -259,41 +245,28 @@ fn of_track(
 }
 
 // Answers with a moov, and leaves the working slices as they happen to be.
-#[tactic(auto, using(choice::proofs::Tests::tests), unfolding(crate::specs::Times::times_of_moov))]
+#[tactic(auto, using(choice::proofs::Tests::tests, boxes::proofs::Within::found_within, crate::proofs::TrackLaws::deeper), unfolding(crate::specs::Times::times_of_moov))]
 pub(crate) fn of_moov(
     moov: &[u8],
     standard: bool,
     starts: &mut [i64],
     a: &mut [i64],
     b: &mut [i64],
-) -> FrameTimes
+) -> Result<FrameTimes, Refusal>
     ensures { OutcomeAnswered (times_of_moov standard moov.now (room starts.old a.old b.old)) result starts.old starts.new }
 {
     let bytes = moov.len();
     if MOST_BYTES < bytes {
-        return refused(TOO_LONG);
+        return Err(Reason::TooLong.at(0));
     }
     let h = find_child(moov, code(b"mvhd"));
-    let Walk::Found { start: _, len: _ } = h else {
-        return not_found(0, h);
-    };
+    place_in_moov(0, h)?;
     let mvhd = payload(moov, h);
     if !has_scale(mvhd) {
-        return refused(NO_TIMES);
+        return Err(Reason::Missing.at(0));
     }
     let movie = scale(mvhd) as u64;
     let w = find_video_track(moov);
-    let Walk::Found { start, len: _ } = w else {
-        return not_found(0, w);
-    };
-    of_track(
-        standard,
-        bytes,
-        movie,
-        start,
-        payload(moov, w),
-        starts,
-        a,
-        b,
-    )
+    let at = place_in_moov(0, w)?.start;
+    of_track(standard, bytes, movie, at, payload(moov, w), starts, a, b)
 }

@@ -12,16 +12,18 @@ use lib.IntN.{ℤ, pos, negsuc, ◌-ℤ◌}
 use lib.ListN.{length, get_or, drop, drop_of_length-le}
 use lib.Seq.{drop-cons}
 use lib.Signed.{le_z, lt_z}
-use Rattle.choice.specs.declared.Refusal.{Refusal}
-use Rattle.choice.specs.declared.Refusal.TheVariants.{Never, At}
+use Rattle.std.specs.Prelude.{Result, Ok}
 use Rattle.choice.specs.Choice.{when}
-use Rattle.choice.specs.Records.{first_refused}
+use Rattle.refusal.specs.declared.Reason.TheVariants as reason
+use Rattle.refusal.specs.declared.Refusal.{Refusal}
+use Rattle.refusal.specs.Refusals.{refused, first_refused}
 use Rattle.choice.proofs.Tests.{decide}
+use Rattle.signed.proofs.Bits.{lt-read}
 use Rattle.signed.proofs.Order.{not-lt-le}
 use Rattle.order.specs.Order.{Asc, count_by}
 use Rattle.order.specs.Steps.{count_lt}
 use Rattle.order.proofs.Sorted.{least-lower}
-use Rattle.mcraw.specs.Mcraw.{falling, falls, gaps}
+use Rattle.mcraw.specs.Mcraw.{falls, gaps}
 
 pub length-gaps : (l : List ℤ) → length (gaps l) ≡ length l - 1
 unfolding gaps
@@ -68,7 +70,7 @@ pub falls_at : (l : List ℤ) (i : ℕ) → 0 < i → i < length l → lt_z (get
 falls_at l i from h = ap (λ (g : ℤ). lt_z g (pos 0)) (gap_at l i from h) ∙ less-below (get_or l i (pos 0)) (get_or l (i - 1) (pos 0))
 
 -- where none is, nothing is refused
-pub none-falls : (l : List ℤ) (i : ℕ) → 0 ≡ count_lt (pos 0) l → Never ≡ first_refused falls i l
+pub none-falls : (l : List ℤ) (i : ℕ) → 0 ≡ count_lt (pos 0) l → Ok tt ≡ first_refused falls i l
 unfolding count_by first_refused when
 none-falls [] i e = refl
 none-falls (g ∷ l) i e =
@@ -77,8 +79,8 @@ none-falls (g ∷ l) i e =
     (λ t. rw t (none-falls l (suc i) (rw t at e)))
 
 -- ---- a loop over the timestamps: `first_refused falls i (drop (i - 1) (gaps ts)) ≡ r`, with r the whole answer
-module _ (ts : List ℤ) (i : ℕ) (r : Refusal) where
-  pub fall-end : length ts ≤ i → first_refused falls i (drop (i - 1) (gaps ts)) ≡ r → Never ≡ r
+module _ (ts : List ℤ) (i : ℕ) (r : Result (Unit {0}) Refusal) where
+  pub fall-end : length ts ≤ i → first_refused falls i (drop (i - 1) (gaps ts)) ≡ r → Ok tt ≡ r
   unfolding first_refused
   fall-end h e = sym (ap (first_refused falls i) (drop_of_length-le (gaps ts) {i = i - 1} (omega (arith, length-gaps ts)))) ∙ e
 
@@ -98,19 +100,22 @@ module _ (ts : List ℤ) (i : ℕ) (r : Refusal) where
         ap (λ n. first_refused falls n (drop (i + 1 - 1) (gaps ts))) (add-one i)
         ∙ sym (rest ∙ rw (less-below (get_or ts i (pos 0)) (get_or ts (i - 1) (pos 0)), t)) ∙ e
 
-    pub fall-hit : lt_z (get_or ts i (pos 0)) (get_or ts (i - 1) (pos 0)) ≡ true → first_refused falls i (drop (i - 1) (gaps ts)) ≡ r → At falling i ≡ r
+    pub fall-hit : lt_z (get_or ts i (pos 0)) (get_or ts (i - 1) (pos 0)) ≡ true → first_refused falls i (drop (i - 1) (gaps ts)) ≡ r → refused reason.Falling i ≡ r
     unfolding first_refused when
     fall-hit t e = sym (rest ∙ rw (less-below (get_or ts i (pos 0)) (get_or ts (i - 1) (pos 0)), t)) ∙ e
 
 -- timestamps of which none falls ascend
-pub no-fall : (ts : List ℤ) (i : ℕ) → first_refused falls i (gaps ts) ≡ Never → Asc ts
+pub no-fall : (ts : List ℤ) (i : ℕ) → first_refused falls i (gaps ts) ≡ Ok tt → Asc ts
 unfolding gaps first_refused when
 no-fall [] i e = tt
 no-fall (x ∷ []) i e = (tt, tt)
 no-fall (x ∷ (y ∷ l)) i e =
     decide (lt_z (y -ℤ x) (pos 0))
-    (λ t. let z : At falling i ≡ Never = sym (rw t) ∙ e in let n : ◌≡◌ {A = ℕ} 0 1 = cc in absurd (omega arith))
+    (λ t. let z : ◌≡◌ {A = Result (Unit {0}) Refusal} (refused reason.Falling i) (Ok tt) = sym (rw t) ∙ e in absurd (grind arith))
     (λ t.
     let up : le_z x y ≡ true = not-lt-le y x (sym (less-below y x) ∙ t) in
     let tail : Asc (y ∷ l) = no-fall (y ∷ l) (suc i) (sym (rw t) ∙ e) in
     ((up, least-lower x y l up tail.0), tail))
+
+-- what the loop that looks for a fall takes from a turn
+pub ruleset falling = (none-falls, fall-turn, fall-hit, fall-end, lt-read)

@@ -40,10 +40,6 @@ pub span-held : (ts : List ℤ) (r : Held) (y : ℤ) → I64 (last ts) → I64 (
 unfolding span
 span-held ts r y p q e g = held (span ts) y (sym (rw (back (last ts) p, back (first ts) q) at e) ∙ g)
 
-pub span-lost : (ts : List ℤ) (r : Held) → I64 (last ts) → I64 (first ts) → r ≡ within (read (last ts) -ℤ read (first ts)) → r ≡ Outside → is_outside (span ts) ≡ true
-unfolding span
-span-lost ts r p q e g = lost (span ts) (sym (rw (back (last ts) p, back (first ts) q) at e) ∙ g)
-
 pub stands : (ts : List ℤ) (m : ℤ) (t v : Bool) → SFits w64 m → m ≡ nominal ts → t ≡ eq_z (read m) (pos 0) → t ≡ v → eq_z (nominal ts) (pos 0) ≡ v
 stands ts m t v f b e h = ap (λ (z : ℤ). eq_z z (pos 0)) (sym (reads f ∙ b)) ∙ called e h
 

@@ -8,28 +8,14 @@ ghost use Rattle.order.specs.Steps.{count_lt};
 ghost use Rattle.mcraw.specs.Mcraw.{gaps, starts_of, nominal, fall_of, mcraw_times, starts_written, McrawAnswers};
 ghost use Rattle.mcraw.specs.Examples.{WorkedExamples};
 
-use choice::{NO_ROOM, NO_TIMES, OUTSIDE, Refusal, TOO_LONG};
+use refusal::{Reason, Refusal};
 use signed::Held;
+use ticks::FrameTimes;
 
 // The most timestamps, and the timescale of a recording.
 pub const MOST_TIMESTAMPS: usize = 16_777_216;
 
 pub const NANOSECONDS: u64 = 1_000_000_000;
-
-// The refusal of timestamps that fall; the others are those of `choice`.
-pub const FALLING: u64 = 34;
-
-// The times of a recording's frames, or a refusal's number and index.
-#[derive(Clone, Copy)]
-pub enum RecordingTimes {
-    Timed {
-        frames: usize,
-        scale: u64,
-        nominal: i64,
-        end: i64,
-    },
-    Refused(u64, usize),
-}
 
 // How many timestamps lie below the one before them. It ends at none of them, so that several can be compared at a time.
 fn count_falls(ts: &[i64]) -> usize
@@ -49,11 +35,12 @@ fn count_falls(ts: &[i64]) -> usize
 }
 
 // The first timestamp that lies below the one before it.
-fn first_fall(ts: &[i64]) -> Refusal
+#[tactic(auto, using(crate::proofs::Gaps::falling), unfolding(crate::specs::Mcraw::fall_of))]
+fn first_fall(ts: &[i64]) -> Result<(), Refusal>
     ensures { result ≡ fall_of ts.now }
 {
     if count_falls(ts) == 0 {
-        return Refusal::Never;
+        return Ok(());
     }
     let mut i: usize = 1;
     while i < ts.len() {
@@ -61,11 +48,11 @@ fn first_fall(ts: &[i64]) -> Refusal
         let x = ts[i];
         let y = ts[before];
         if x < y {
-            return Refusal::At(FALLING, i);
+            return Err(Reason::Falling.at(i));
         }
         i += 1;
     }
-    Refusal::Never
+    Ok(())
 }
 
 // Writes each timestamp less the one before it.
@@ -81,6 +68,7 @@ fn write_intervals(ts: &[i64], out: &mut [i64])
 }
 
 // The lower middle one of the intervals, which are moved about in out.
+#[tactic(auto, using(signed::proofs::Bits::back), unfolding(crate::specs::Mcraw::nominal))]
 fn middle_interval(ts: &[i64], out: &mut [i64]) -> i64
     requires { (2 ≤ length ts.now) × (length out.old ≡ length ts.now - 1) × All I64 (gaps ts.now) }
     ensures { result ≡ nominal ts.now }
@@ -102,68 +90,65 @@ fn write_starts(ts: &[i64], starts: &mut [i64])
 }
 
 // Answers with so much room in starts. What work holds afterwards isn't said.
-fn times_of(ts: &[i64], room: usize, work: &mut [i64]) -> RecordingTimes
+#[tactic(auto, unfolding(crate::specs::Mcraw::mcraw_times, crate::specs::Mcraw::refusal_of, crate::specs::Mcraw::times_of, crate::specs::Mcraw::span, crate::specs::Mcraw::end, choice::specs::Choice::when))]
+fn times_of(ts: &[i64], room: usize, work: &mut [i64]) -> Result<FrameTimes, Refusal>
     ensures { result ≡ mcraw_times ts.now room (length work.old) }
 {
     let n = ts.len();
     if MOST_TIMESTAMPS < n {
-        return RecordingTimes::Refused(TOO_LONG, 0);
+        return Err(Reason::TooLong.at(0));
     }
     if n < 2 {
-        return RecordingTimes::Refused(NO_TIMES, 0);
+        return Err(Reason::Missing.at(0));
     }
-    if let Refusal::At(number, index) = first_fall(ts) {
-        return RecordingTimes::Refused(number, index);
-    }
+    first_fall(ts)?;
     let Held::Is(span) = signed::difference(ts[n - 1], ts[0]) else {
-        return RecordingTimes::Refused(OUTSIDE, 0);
+        return Err(Reason::Outside.at(0));
     };
     if (room < n) | (work.len() < n) {
-        return RecordingTimes::Refused(NO_ROOM, 0);
+        return Err(Reason::NoRoom.at(0));
     }
     let nominal = middle_interval(ts, &mut work[..n - 1]);
     if signed::same(nominal, 0) {
-        return RecordingTimes::Refused(NO_TIMES, 0);
+        return Err(Reason::Missing.at(0));
     }
     let Held::Is(end) = signed::sum(span, nominal) else {
-        return RecordingTimes::Refused(OUTSIDE, 0);
+        return Err(Reason::Outside.at(0));
     };
-    RecordingTimes::Timed {
+    Ok(FrameTimes {
         frames: n,
         scale: NANOSECONDS,
         nominal,
         end,
-    }
+    })
 }
 
 // The same, with the starts written where nothing is refused.
-fn write_times(ts: &[i64], starts: &mut [i64], work: &mut [i64]) -> RecordingTimes
+#[tactic(auto, unfolding(crate::specs::Mcraw::mcraw_times, crate::specs::Mcraw::starts_written))]
+fn write_times(ts: &[i64], starts: &mut [i64], work: &mut [i64]) -> Result<FrameTimes, Refusal>
     ensures { (result ≡ mcraw_times ts.now (length starts.old) (length work.old)) × (starts.new ≡ laid (starts_written result ts.now) starts.old) }
 {
-    let r = times_of(ts, starts.len(), work);
-    if let RecordingTimes::Timed {
-        frames: _,
-        scale: _,
-        nominal: _,
-        end: _,
-    } = r
-    {
-        write_starts(ts, starts);
-    }
-    r
+    let times = times_of(ts, starts.len(), work)?;
+    write_starts(ts, starts);
+    Ok(times)
 }
 
 // The times of a recording's frames, from `mcraw_times` of the Rust: over starts where each frame starts, counted from
 // the first. The working slice is all zero afterwards.
-pub fn mcraw_times(timestamps: &[i64], starts: &mut [i64], work: &mut [i64]) -> RecordingTimes
+pub fn mcraw_times(
+    timestamps: &[i64],
+    starts: &mut [i64],
+    work: &mut [i64],
+) -> Result<FrameTimes, Refusal>
     ensures { McrawAnswers timestamps.now starts.old work.old result starts.new work.new }
 {
-    let r = write_times(timestamps, starts, work);
+    let answer = write_times(timestamps, starts, work);
     slices::clear(work);
-    r
+    answer
 }
 
 // The definitions give the numbers of specs/Examples.antt.
+#[tactic(auto, unfolding(crate::specs::Mcraw::mcraw_times, crate::specs::Mcraw::refusal_of, crate::specs::Mcraw::times_of, crate::specs::Mcraw::fall_of, crate::specs::Mcraw::gaps, crate::specs::Mcraw::span, crate::specs::Mcraw::nominal, crate::specs::Mcraw::end, crate::specs::Mcraw::starts_of, crate::specs::Mcraw::starts_written, choice::specs::Choice::when, refusal::specs::Refusals::first_refused, order::specs::Order::sorted, order::specs::Order::insert))]
 pub fn worked_examples_hold()
     ensures { WorkedExamples }
 {}

@@ -8,8 +8,8 @@ use lib.ListN.{length, get_or}
 use lib.IntN.{ℤ}
 use lib.Dec.{ltb, eqb}
 use borrow.Author.Tests.{eqb-true}
-use Rattle.choice.specs.Numbers.{too_long, no_times, no_room}
 use Rattle.choice.proofs.Tests.{decide}
+use Rattle.refusal.specs.declared.Reason.TheVariants as reason
 use Rattle.slices.specs.Slices.{All}
 use Rattle.boxes.specs.Bytes.{mdia}
 use Rattle.boxes.specs.Boxes.{most_bytes, boxes_of, first_of}
@@ -23,7 +23,7 @@ use Rattle.tracks.specs.Tables.{scale_of, has_scale, table_rows, optional_rows, 
 use Rattle.tracks.specs.Edits.{edit_of}
 use Rattle.tracks.proofs.EntryLaws.{all-per-frame}
 use Rattle.tracks.proofs.OffsetLaws.{same-offset}
-use Rattle.frame_times.specs.Times.{Outcome, refused, required, mvhd, mdhd, minf, stbl, stts, ctts, edts, of_edit, of_offsets, of_durations, of_tables, of_scale, of_media, of_track, times_of_moov}
+use Rattle.frame_times.specs.Times.{Outcome, no_times, required, mvhd, mdhd, minf, stbl, stts, ctts, edts, of_edit, of_offsets, of_durations, of_tables, of_scale, of_media, of_track, times_of_moov}
 use Rattle.modes.specs.Modes.{ctts_of, TopClear, NoTopBit}
 
 same-offsets : (l : List ℕ) → All TopClear l → map (offset_of true) l ≡ map (offset_of false) l
@@ -42,7 +42,7 @@ same_of c h n e =
     (λ t. ap by t)
 
 -- from the tables up to the moov
-same_in : (base : ℕ) (w : Walk) (s : List ℕ) (f g : ℕ → List ℕ → Outcome) → ((at : ℕ) → f at (part_of s (place_or no_times w)) ≡ g at (part_of s (place_or no_times w))) → required base w s f ≡ required base w s g
+same_in : (base : ℕ) (w : Walk) (s : List ℕ) (f g : ℕ → List ℕ → Outcome) → ((at : ℕ) → f at (part_of s (place_or reason.Missing w)) ≡ g at (part_of s (place_or reason.Missing w))) → required base w s f ≡ required base w s g
 same_in base (Found a n) s f g h = h (base + a)
 same_in base End s f g h = refl
 same_in base (BadAt at) s f g h = refl
@@ -55,7 +55,7 @@ module _ (bytes room movie : ℕ) where
   by-durations : (r : Rows) (scale : ℕ) (ed c d : List ℕ) → Same c → of_durations true r bytes room movie scale ed c d ≡ of_durations false r bytes room movie scale ed c d
   by-durations Torn scale ed c d h = refl
   by-durations (Whole n) scale ed c d h =
-      ap (λ (o : Outcome). if ltb bytes (entry_total (entries_of n d)) then refused no_times else if ltb room (entry_total (entries_of n d)) then refused no_room else o)
+      ap (λ (o : Outcome). if ltb bytes (entry_total (entries_of n d)) then no_times reason.Missing else if ltb room (entry_total (entries_of n d)) then no_times reason.NoRoom else o)
       (by_rows (optional_rows c) c ed scale (durations n d) h)
 
   by-tables : (scale : ℕ) (ed : List ℕ) (base : ℕ) (t : List ℕ) → Same (child_of ctts t) → of_tables true bytes room movie scale ed base t ≡ of_tables false bytes room movie scale ed base t
@@ -64,7 +64,7 @@ module _ (bytes room movie : ℕ) where
 
   by-scale : (scale : ℕ) (ed : List ℕ) (base : ℕ) (m : List ℕ) → Same (child_of ctts (child_of stbl (child_of minf m))) → of_scale true bytes room movie scale ed base m ≡ of_scale false bytes room movie scale ed base m
   by-scale scale ed base m h =
-      ap (λ (o : Outcome). if eqb scale 0 || eqb movie 0 then refused no_times else o)
+      ap (λ (o : Outcome). if eqb scale 0 || eqb movie 0 then no_times reason.Missing else o)
       (same_in base (first_of minf (boxes_of m)) m _ _ (λ at. same_in at (first_of stbl (boxes_of (child_of minf m))) (child_of minf m) _ _ (λ at'. by-tables scale ed at' (child_of stbl (child_of minf m)) h)))
 
   by-media : (ed : List ℕ) (base : ℕ) (m : List ℕ) → Same (child_of ctts (child_of stbl (child_of minf m))) → of_media true bytes room movie ed base m ≡ of_media false bytes room movie ed base m
@@ -79,7 +79,7 @@ module _ (bytes room movie : ℕ) where
 pub modes_agree : (moov : List ℕ) (room : ℕ) → NoTopBit (ctts_of moov) → times_of_moov true moov room ≡ times_of_moov false moov room
 unfolding times_of_moov
 modes_agree moov room h =
-    ap (λ (o : Outcome). if ltb most_bytes (length moov) then refused too_long else o)
+    ap (λ (o : Outcome). if ltb most_bytes (length moov) then no_times reason.TooLong else o)
     (same_in 0 (first_of mvhd (boxes_of moov)) moov _ _
-    (λ at. ap (λ (o : Outcome). if has_scale (child_of mvhd moov) then o else refused no_times)
-    (same_in 0 (video_track moov) moov _ _ (λ at'. by-track (length moov) room (scale_of (child_of mvhd moov)) at' (part_of moov (place_or no_times (video_track moov))) (same_of _ h)))))
+    (λ at. ap (λ (o : Outcome). if has_scale (child_of mvhd moov) then o else no_times reason.Missing)
+    (same_in 0 (video_track moov) moov _ _ (λ at'. by-track (length moov) room (scale_of (child_of mvhd moov)) at' (part_of moov (place_or reason.Missing (video_track moov))) (same_of _ h)))))

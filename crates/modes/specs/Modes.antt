@@ -1,6 +1,6 @@
 -- Where the standard's reading of composition offsets and the Rust's are the same (document 02, d).
 use Rattle.std.specs.Prelude.{ℕ, ◌<◌, ◌^◌, ◌≡◌, List, get_or}
-use Rattle.choice.specs.Numbers.{no_times}
+use Rattle.refusal.specs.declared.Reason.TheVariants as reason
 use Rattle.slices.specs.Slices.{All}
 use Rattle.boxes.specs.Bytes.{mdia}
 use Rattle.boxes.specs.Places.{place_or, part_of, child_of}
@@ -11,7 +11,7 @@ use Rattle.frame_times.specs.Times.{minf, stbl, ctts}
 
 -- the ctts of a moov's first video track; empty where there is none
 abbrev pub ctts_of : List ℕ → List ℕ
-ctts_of moov = child_of ctts (child_of stbl (child_of minf (child_of mdia (part_of moov (place_or no_times (video_track moov))))))
+ctts_of moov = child_of ctts (child_of stbl (child_of minf (child_of mdia (part_of moov (place_or reason.Missing (video_track moov))))))
 
 -- four bytes whose top bit isn't set
 abbrev pub TopClear : ℕ → Type 0

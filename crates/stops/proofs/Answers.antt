@@ -2,56 +2,42 @@
 use mathlib.Core.Path.{◌≡◌, refl}
 use Prim.Native.Nat.{ℕ, ◌+◌}
 use native.Mathlib.Omega.{arith}
+use Rattle.std.specs.Prelude.{Result, Ok, Err}
+use Rattle.refusal.specs.declared.Reason.{Reason}
+use Rattle.refusal.specs.declared.Reason.TheVariants as reason
+use Rattle.refusal.specs.declared.Refusal.{Refusal}
 use Rattle.boxes.specs.Places.{place_of, moved_walk}
-use Rattle.boxes.specs.declared.Place.{Place}
-use Rattle.boxes.specs.declared.Place.TheVariants as place
-use Rattle.boxes.specs.declared.Reached.{Reached}
-use Rattle.boxes.specs.declared.Reached.TheVariants as reached
 use Rattle.boxes.specs.declared.Walk.{Walk}
 use Rattle.boxes.specs.declared.Walk.TheVariants.{Found, End, Bad as BadAt}
-use Rattle.frame_times.specs.declared.FrameTimes.{FrameTimes}
-use Rattle.frame_times.specs.declared.FrameTimes.TheVariants as times
 
--- P holds of the index, where an answer is 36
-abbrev pub PlaceTold : (ℕ → Type 0) → Place → Type 0
-PlaceTold P (place.At start len) = Unit {0}
-PlaceTold P (place.Refused n i) = n ≡ 36 → P i
-
-abbrev pub ReachedTold : (ℕ → Type 0) → Reached → Type 0
-ReachedTold P (reached.Box kind start len next) = Unit {0}
-ReachedTold P (reached.Refused n i) = n ≡ 36 → P i
-
-abbrev pub TimesTold : (ℕ → Type 0) → FrameTimes → Type 0
-TimesTold P (times.Presented frames scale nominal end) = Unit {0}
-TimesTold P (times.Refused n i) = n ≡ 36 → P i
+-- P holds of the index, where an answer is a refusal for a reason
+abbrev pub Told : {A : Type 0} → Reason → (ℕ → Type 0) → Result A Refusal → Type 0
+Told why P (Ok a) = Unit {0}
+Told why P (Err refusal) = refusal.reason ≡ why → P refusal.index
 
 -- the place of a walk is 36 where it stopped at a bad header; the same of a walk over a part
-pub place-told : (P : ℕ → Type 0) (w : Walk) → ((at : ℕ) → w ≡ BadAt at → P at) → PlaceTold P (place_of w)
+pub place-told : (P : ℕ → Type 0) (w : Walk) → ((at : ℕ) → w ≡ BadAt at → P at) → Told reason.Broken P (place_of w)
 place-told P (Found start len) f = tt
-place-told P End f = λ e. absurd (omega arith)
+place-told P End f = λ e. absurd (grind arith)
 place-told P (BadAt at) f = λ e. f at refl
 
-pub moved_told : (P : ℕ → Type 0) (by : ℕ) (w : Walk) → ((at : ℕ) → w ≡ BadAt at → P (by + at)) → PlaceTold P (place_of (moved_walk by w))
+pub moved_told : (P : ℕ → Type 0) (by : ℕ) (w : Walk) → ((at : ℕ) → w ≡ BadAt at → P (by + at)) → Told reason.Broken P (place_of (moved_walk by w))
 moved_told P by (Found start len) f = tt
-moved_told P by End f = λ e. absurd (omega arith)
+moved_told P by End f = λ e. absurd (grind arith)
 moved_told P by (BadAt at) f = λ e. f at refl
 
--- X holds, where an answer is 31: the place of a walk is 31 where it came to a clean end
-abbrev pub PlaceEnded : Type 0 → Place → Type 0
-PlaceEnded X (place.At start len) = Unit {0}
-PlaceEnded X (place.Refused n i) = n ≡ 31 → X
-
-pub place-ended : (X : Type 0) (w : Walk) → (w ≡ End → X) → PlaceEnded X (place_of w)
+-- and it is 31 where it came to a clean end
+pub place-ended : (X : Type 0) (w : Walk) → (w ≡ End → X) → Told reason.Missing (λ i. X) (place_of w)
 place-ended X (Found start len) f = tt
 place-ended X End f = λ e. f refl
-place-ended X (BadAt at) f = λ e. absurd (omega arith)
+place-ended X (BadAt at) f = λ e. absurd (grind arith)
 
-pub moved-ended : (X : Type 0) (by : ℕ) (w : Walk) → (w ≡ End → X) → PlaceEnded X (place_of (moved_walk by w))
+pub moved-ended : (X : Type 0) (by : ℕ) (w : Walk) → (w ≡ End → X) → Told reason.Missing (λ i. X) (place_of (moved_walk by w))
 moved-ended X by (Found start len) f = tt
 moved-ended X by End f = λ e. f refl
-moved-ended X by (BadAt at) f = λ e. absurd (omega arith)
+moved-ended X by (BadAt at) f = λ e. absurd (grind arith)
 
--- of 36, what follows from P is told too
-pub times-weaker : {P Q : ℕ → Type 0} (r : FrameTimes) → ((i : ℕ) → P i → Q i) → TimesTold P r → TimesTold Q r
-times-weaker (times.Presented frames scale nominal end) f h = tt
-times-weaker (times.Refused n i) f h = λ e. f i (h e)
+-- what follows from P is told too
+pub told-weaker : {A : Type 0} (why : Reason) {P Q : ℕ → Type 0} (r : Result A Refusal) → ((i : ℕ) → P i → Q i) → Told why P r → Told why Q r
+told-weaker why (Ok a) f h = tt
+told-weaker why (Err refusal) f h = λ e. f refusal.index (h e)

@@ -10,6 +10,7 @@ use lib.ListN.{length, take, drop}
 use lib.Seq.{take-take, take-length, drop-drop}
 use lib.Dec.{ltb, eqb}
 use Rattle.choice.proofs.Tests.{either}
+use Rattle.refusal.specs.declared.Reason.TheVariants as reason
 use Rattle.boxes.specs.Bytes.{mdia}
 use Rattle.boxes.specs.Boxes.{most_bytes, boxes_of, first_such}
 use Rattle.boxes.specs.Places.{child_of}
@@ -22,8 +23,8 @@ use Rattle.tracks.specs.Tables.{scale_of, has_scale, table_rows}
 use Rattle.frame_times.specs.Times.{Outcome, mvhd, mdhd, minf, stbl, stts, ctts, edts, required, of_durations, of_tables, of_scale, of_media, of_track, of_movie, times_of_moov}
 use Rattle.stops.specs.Stops.{StopsAt, Part, whole_part, inner_part, Search, search_for, search_for_video, and_in, in_tables, in_info, in_media, in_track, searches, StopsIn, OfOne}
 use Rattle.stops.proofs.Ends.{stopped-at-bad}
-use Rattle.stops.proofs.Answers.{TimesTold, times-weaker}
-use Rattle.stops.proofs.Plain.{other-told, plain-durations}
+use Rattle.stops.proofs.Answers.{Told, told-weaker}
+use Rattle.stops.proofs.Plain.{plain-durations}
 
 -- a part of a part is a part of the whole
 part-of-part : (a m n : ℕ) (l : List ℕ) → a + m ≤ n → take m (drop a (take n l)) ≡ take m (drop a l)
@@ -54,8 +55,8 @@ module _ (moov : List ℕ) where
       }
 
   -- where an outcome is 36, the walk of one of these searches stopped there
-  abbrev Told : List Search → Outcome → Type 0
-  Told l o = TimesTold (λ i. OfOne (StopsIn moov i) l) o.answer
+  abbrev Stopped : List Search → Outcome → Type 0
+  Stopped l o = Told reason.Broken (λ i. OfOne (StopsIn moov i) l) o.answer
 
   stops-in : (p : Part) (test : ℕ → ℕ → ℕ → Bool) (at : ℕ) → Lying p → first_such test (boxes_of p.bytes) ≡ BadAt at
       → StopsIn moov (p.base + at) (record { part = p; walk = BadAt at })
@@ -71,54 +72,54 @@ module _ (moov : List ℕ) where
 
   -- a box that has to be there is looked for in a part, and what is next doesn't go on in what was found
   beside : (p : Part) (others : List Search) (test : ℕ → ℕ → ℕ → Bool) (next : ℕ → List ℕ → Outcome) → Lying p → (w : Walk) → first_such test (boxes_of p.bytes) ≡ w
-      → ((at : ℕ) (s : List ℕ) → Told others (next at s)) → Told (record { part = p; walk = w } ∷ others) (required p.base w p.bytes next)
+      → ((at : ℕ) (s : List ℕ) → Stopped others (next at s)) → Stopped (record { part = p; walk = w } ∷ others) (required p.base w p.bytes next)
   beside p others test next l (Found start len) e f =
       let s = take len (drop start p.bytes) in
-      times-weaker (next (p.base + start) s).answer (λ i. inr) (f (p.base + start) s)
-  beside p others test next l End e f = λ n. absurd (omega arith)
+      told-weaker reason.Broken (next (p.base + start) s).answer (λ i. inr) (f (p.base + start) s)
+  beside p others test next l End e f = λ n. absurd (grind arith)
   beside p others test next l (BadAt at) e f = λ n. inl (stops-in p test at l e)
 
   -- the same, and what is next goes on in the part that was found
   inward : (p : Part) (inner : Part → List Search) (test : ℕ → ℕ → ℕ → Bool) (next : ℕ → List ℕ → Outcome) → Lying p → (w : Walk) → first_such test (boxes_of p.bytes) ≡ w
-      → ((q : Part) → Lying q → Told (inner q) (next q.base q.bytes)) → Told (and_in (record { part = p; walk = w }) inner) (required p.base w p.bytes next)
+      → ((q : Part) → Lying q → Stopped (inner q) (next q.base q.bytes)) → Stopped (and_in (record { part = p; walk = w }) inner) (required p.base w p.bytes next)
   inward p inner test next l (Found start len) e f =
-      times-weaker (next (p.base + start) (take len (drop start p.bytes))).answer (λ i. inr)
+      told-weaker reason.Broken (next (p.base + start) (take len (drop start p.bytes))).answer (λ i. inr)
       (f (inner_part p start len) (inner-lies p start len l (walk-stays test p.bytes (sym e))))
-  inward p inner test next l End e f = λ n. absurd (omega arith)
+  inward p inner test next l End e f = λ n. absurd (grind arith)
   inward p inner test next l (BadAt at) e f = λ n. inl (stops-in p test at l e)
 
   -- of each definition, from the stbl up
   module _ (standard : Bool) (bytes room movie : ℕ) where
-    tables-told : (scale : ℕ) (edts : List ℕ) (p : Part) → Lying p → Told (in_tables p) (of_tables standard bytes room movie scale edts p.base p.bytes)
+    tables-told : (scale : ℕ) (edts : List ℕ) (p : Part) → Lying p → Stopped (in_tables p) (of_tables standard bytes room movie scale edts p.base p.bytes)
     unfolding of_tables
     tables-told scale edts p l =
         let offsets = child_of ctts p.bytes in
         beside p [] (λ k start len. eqb k stts) _ l _ refl
-        (λ at d. other-told (λ i. OfOne (StopsIn moov i) []) (of_durations standard (table_rows d) bytes room movie scale edts offsets d).answer
+        (λ at d. told-weaker reason.Broken (of_durations standard (table_rows d) bytes room movie scale edts offsets d).answer (λ i. absurd)
         (plain-durations standard (table_rows d) bytes room movie scale edts offsets d))
 
-    scale-told : (scale : ℕ) (edts : List ℕ) (p : Part) → Lying p → Told (and_in (search_for minf p) in_info) (of_scale standard bytes room movie scale edts p.base p.bytes)
+    scale-told : (scale : ℕ) (edts : List ℕ) (p : Part) → Lying p → Stopped (and_in (search_for minf p) in_info) (of_scale standard bytes room movie scale edts p.base p.bytes)
     scale-told scale edts p l =
-        either (Told (and_in (search_for minf p) in_info)) (eqb scale 0 || eqb movie 0) (λ t n. absurd (omega arith))
+        either (Stopped (and_in (search_for minf p) in_info)) (eqb scale 0 || eqb movie 0) (λ t n. absurd (grind arith))
         (λ t. inward p in_info (λ k start len. eqb k minf) _ l _ refl
         (λ q m. inward q in_tables (λ k start len. eqb k stbl) _ m _ refl (tables-told scale edts)))
 
-    media-told : (edts : List ℕ) (p : Part) → Lying p → Told (in_media p) (of_media standard bytes room movie edts p.base p.bytes)
+    media-told : (edts : List ℕ) (p : Part) → Lying p → Stopped (in_media p) (of_media standard bytes room movie edts p.base p.bytes)
     unfolding of_media
     media-told edts p l = beside p (and_in (search_for minf p) in_info) (λ k start len. eqb k mdhd) _ l _ refl (λ at h. scale-told (scale_of h) edts p l)
 
-    track-told : (p : Part) → Lying p → Told (in_track p) (of_track standard bytes room movie p.base p.bytes)
+    track-told : (p : Part) → Lying p → Stopped (in_track p) (of_track standard bytes room movie p.base p.bytes)
     unfolding of_track
     track-told p l = inward p in_media (λ k start len. eqb k mdia) _ l _ refl (media-told (child_of edts p.bytes))
 
-  movie-told : (standard : Bool) (room : ℕ) (h : List ℕ) → Told (and_in (search_for_video moov) in_track) (of_movie standard moov room h)
+  movie-told : (standard : Bool) (room : ℕ) (h : List ℕ) → Stopped (and_in (search_for_video moov) in_track) (of_movie standard moov room h)
   movie-told standard room h =
-      either (Told (and_in (search_for_video moov) in_track)) (has_scale h)
+      either (Stopped (and_in (search_for_video moov) in_track)) (has_scale h)
       (λ t. inward (whole_part moov) in_track (is_video_track moov) _ whole-lies _ refl (track-told standard (length moov) room (scale_of h)))
-      (λ t n. absurd (omega arith))
+      (λ t n. absurd (grind arith))
 
-  pub moov-told : (standard : Bool) (room : ℕ) → Told (searches moov) (times_of_moov standard moov room)
+  pub moov-told : (standard : Bool) (room : ℕ) → Stopped (searches moov) (times_of_moov standard moov room)
   unfolding times_of_moov
   moov-told standard room =
-      either (Told (searches moov)) (ltb most_bytes (length moov)) (λ t n. absurd (omega arith))
+      either (Stopped (searches moov)) (ltb most_bytes (length moov)) (λ t n. absurd (grind arith))
       (λ t. beside (whole_part moov) (and_in (search_for_video moov) in_track) (λ k start len. eqb k mvhd) _ whole-lies _ refl (λ at h. movie-told standard room h))

@@ -14,9 +14,10 @@ use Rattle.boxes.specs.declared.Header.{Header}
 use Rattle.boxes.specs.declared.Header.TheVariants.{Whole, Short, Bad}
 use Rattle.boxes.specs.declared.Walk.{Walk}
 use Rattle.boxes.specs.declared.Walk.TheVariants.{Found, End, Bad as BadAt}
+use Rattle.refusal.specs.declared.Reason.TheVariants as reason
 use Rattle.frame_times.specs.Times.{room}
 use Rattle.stops.specs.Stops.{Dividing}
-use Rattle.stops.specs.Undivided.{place_taken_back, reached_taken_back, times_taken_back, reached_undivided, child_undivided, find_box_undivided, children_undivided}
+use Rattle.stops.specs.Undivided.{taken_back, reached_undivided, child_undivided, find_box_undivided, children_undivided}
 use Rattle.stops.specs.Promises.{ChildPlace, FindBoxPlace, Children, FrameTimesOf}
 use Rattle.stops.proofs.TakenBack.{moov-back}
 
@@ -26,45 +27,45 @@ chosen f true x y x' y' e g = e
 chosen f false x y x' y' e g = g
 
 -- `child`
-place-back : (w : Walk) → place_taken_back (place_of w) ≡ place_or 31 w
+place-back : (w : Walk) → taken_back (place_of w) ≡ place_or reason.Missing w
 place-back (Found start len) = refl
 place-back End = refl
 place-back (BadAt at) = refl
 
-child-back : (b : List ℕ) (kind : ℕ) → place_taken_back (child_place b kind) ≡ child_undivided b kind
+child-back : (b : List ℕ) (kind : ℕ) → taken_back (child_place b kind) ≡ child_undivided b kind
 unfolding child_place child_undivided
-child-back b kind = chosen place_taken_back (ltb most_bytes (length b)) _ _ _ _ refl (place-back (first_of kind (boxes_of b)))
+child-back b kind = chosen taken_back (ltb most_bytes (length b)) _ _ _ _ refl (place-back (first_of kind (boxes_of b)))
 
 -- `find_box`
-moved_back : (by : ℕ) (w : Walk) → place_taken_back (place_of (moved_walk by w)) ≡ moved_place by (place_or 31 w)
+moved_back : (by : ℕ) (w : Walk) → taken_back (place_of (moved_walk by w)) ≡ moved_place by (place_or reason.Missing w)
 moved_back by (Found start len) = refl
 moved_back by End = refl
 moved_back by (BadAt at) = refl
 
-find-box-back : (b : List ℕ) (start end kind : ℕ) (text : Bool) → place_taken_back (find_box_place b start end kind text) ≡ find_box_undivided b start end kind text
+find-box-back : (b : List ℕ) (start end kind : ℕ) (text : Bool) → taken_back (find_box_place b start end kind text) ≡ find_box_undivided b start end kind text
 unfolding find_box_place find_box_undivided
 find-box-back b start end kind text =
-    chosen place_taken_back (ltb most_bytes (length b)) _ _ _ _ refl
-    (chosen place_taken_back (ltb (length b) end) _ _ _ _ refl
-    (chosen place_taken_back (ltb end start) _ _ _ _ refl (moved_back start (first_of kind (searched text (boxes_of (take (end - start) (drop start b))))))))
+    chosen taken_back (ltb most_bytes (length b)) _ _ _ _ refl
+    (chosen taken_back (ltb (length b) end) _ _ _ _ refl
+    (chosen taken_back (ltb end start) _ _ _ _ refl (moved_back start (first_of kind (searched text (boxes_of (take (end - start) (drop start b))))))))
 
 -- `children`
-reached-back : (h : Header) (at : ℕ) → reached_taken_back (reached_by h at) ≡ reached_undivided h
+reached-back : (h : Header) (at : ℕ) → taken_back (reached_by h at) ≡ reached_undivided h
 reached-back Short at = refl
 reached-back Bad at = refl
 reached-back (Whole kind start len next) at = refl
 
-children-back : (b : List ℕ) (at : ℕ) → reached_taken_back (children_at b at) ≡ children_undivided b at
+children-back : (b : List ℕ) (at : ℕ) → taken_back (children_at b at) ≡ children_undivided b at
 unfolding children_at children_undivided
 children-back b at =
-    chosen reached_taken_back (ltb most_bytes (length b)) _ _ _ _ refl
-    (chosen reached_taken_back (ltb (length b) at) _ _ _ _ refl (reached-back (header_at b at) at))
+    chosen taken_back (ltb most_bytes (length b)) _ _ _ _ refl
+    (chosen taken_back (ltb (length b) at) _ _ _ _ refl (reached-back (header_at b at) at))
 
 pub dividing : Dividing ChildPlace FindBoxPlace Children FrameTimesOf
 dividing = record {
-  child = λ b kind r p. ap place_taken_back p ∙ child-back b kind;
-  find-box = λ b start end kind text r p. ap place_taken_back p ∙ find-box-back b start end kind text;
-  children = λ b at r p. ap reached_taken_back p ∙ children-back b at;
+  child = λ b kind r p. ap taken_back p ∙ child-back b kind;
+  find-box = λ b start end kind text r p. ap taken_back p ∙ find-box-back b start end kind text;
+  children = λ b at r p. ap taken_back p ∙ children-back b at;
   frame-times = λ moov standard starts a b starts' a' b' r p.
-      (ap times_taken_back p.answer ∙ (moov-back standard moov (room starts a b)).answer, p.starts ∙ ap (λ (l : List ℤ). laid l starts) (moov-back standard moov (room starts a b)).starts);
+      (ap taken_back p.answer ∙ (moov-back standard moov (room starts a b)).answer, p.starts ∙ ap (λ (l : List ℤ). laid l starts) (moov-back standard moov (room starts a b)).starts);
 }

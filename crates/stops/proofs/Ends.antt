@@ -7,11 +7,11 @@ use Prim.Native.Nat.{ℕ, zero, suc, ◌+◌, ◌-◌, ◌≤◌}
 use native.Mathlib.Omega.{arith}
 use lib.ListN.{length, drop}
 use lib.Dec.{ltb}
+use Rattle.std.specs.Prelude.{Option, None, Some}
 use Rattle.choice.proofs.Tests.{either}
 use Rattle.boxes.specs.Bytes.{be32_at}
 use Rattle.boxes.specs.Boxes.{Boxes, clean, bad, box, size_of, header_by, header_at, after_header, boxes_from, boxes_at, boxes_of, is_text, textual, searched, first_such}
-use Rattle.boxes.specs.declared.Sized.{Sized}
-use Rattle.boxes.specs.declared.Sized.TheVariants.{Box, Refused}
+use Rattle.boxes.specs.declared.BoxSize.{BoxSize}
 use Rattle.boxes.specs.declared.Header.{Header}
 use Rattle.boxes.specs.declared.Header.TheVariants.{Whole, Short, Bad}
 use Rattle.boxes.specs.declared.Walk.{Walk}
@@ -25,9 +25,9 @@ Typed k Short = Unit {0}
 Typed k Bad = Unit {0}
 Typed k (Whole kind start len next) = kind ≡ k
 
-by-typed : (at k : ℕ) (z : Sized) → Typed k (header_by at k z)
-by-typed at k (Box size header) = refl
-by-typed at k (Refused n i) = tt
+by-typed : (at k : ℕ) (z : Option BoxSize) → Typed k (header_by at k z)
+by-typed at k None = tt
+by-typed at k (Some b) = refl
 
 header-typed : (s : List ℕ) (at : ℕ) → Typed (be32_at s (at + 4)) (header_at s at)
 unfolding header_at

@@ -1,15 +1,13 @@
 -- Below the stts no answer is 36. Assumes nothing.
-use mathlib.Core.Path.{◌≡◌, refl, sym, ◌∙◌}
-use mathlib.Core.Bool.{Bool, false}
+use mathlib.Core.Bool.{Bool}
 use mathlib.Core.List.{List, [], ◌∷◌}
 use Prim.Native.Nat.{ℕ}
+use native.Mathlib.Omega.{arith}
 use lib.IntN.{ℤ, pos}
 use lib.Signed.{le_z}
-use lib.Dec.{ltb, eqb}
-use borrow.Author.Tests.{eq-eqb}
+use lib.Dec.{ltb}
 use Rattle.choice.specs.Records.{any}
-use Rattle.choice.specs.Numbers.{bad_header}
-use Rattle.choice.proofs.Tests.{either, tf}
+use Rattle.choice.proofs.Tests.{either}
 use Rattle.signed.specs.Signed.{is_outside}
 use Rattle.tracks.specs.declared.Rows.{Rows}
 use Rattle.tracks.specs.declared.Rows.TheVariants.{Whole, Torn}
@@ -18,47 +16,37 @@ use Rattle.tracks.specs.declared.Edited.{Edited}
 use Rattle.tracks.specs.declared.Edited.TheVariants.{By, Bad}
 use Rattle.tracks.specs.Tables.{optional_rows, entries_of, entry_total, durations, offsets}
 use Rattle.tracks.specs.Edits.{edit_of}
-use Rattle.frame_times.specs.declared.FrameTimes.{FrameTimes}
-use Rattle.frame_times.specs.declared.FrameTimes.TheVariants.{Presented, Refused}
+use Rattle.refusal.specs.declared.Reason.TheVariants as reason
 use Rattle.frame_times.specs.Frames.{Frame}
 use Rattle.frame_times.specs.Times.{Outcome, placed, shown, of_kept, of_edit, of_offsets, of_durations}
-use Rattle.stops.proofs.Answers.{TimesTold}
+use Rattle.stops.proofs.Answers.{Told}
 
--- an answer that isn't 36
-abbrev pub Other : FrameTimes → Type 0
-Other (Presented frames scale nominal end) = Unit {0}
-Other (Refused n i) = eqb n bad_header ≡ false
-
+-- an outcome that isn't 36
 abbrev pub Plain : Outcome → Type 0
-Plain o = Other o.answer
-
--- says nothing of an index
-pub other-told : (P : ℕ → Type 0) (r : FrameTimes) → Other r → TimesTold P r
-other-told P (Presented frames scale nominal end) h = tt
-other-told P (Refused n i) h = λ e. tf (sym (eq-eqb n bad_header e) ∙ h)
+Plain o = Told reason.Broken (λ i. ⊥) o.answer
 
 -- from the kept frames on
 plain-placed : (scale : ℕ) (nominal end : ℤ) (starts : List ℤ) → Plain (placed scale nominal end starts)
 unfolding placed
-plain-placed scale nominal end starts = either Plain (any is_outside (end ∷ starts)) (λ t. refl) (λ t. tt)
+plain-placed scale nominal end starts = either Plain (any is_outside (end ∷ starts)) (λ t e. grind arith) (λ t. tt)
 
 plain-kept : (scale : ℕ) (nominal : ℤ) (e : Edit) (l : List Frame) → Plain (of_kept scale nominal e l)
 unfolding of_kept shown
-plain-kept scale nominal e [] = refl
-plain-kept scale nominal e (f ∷ fs) = either Plain (le_z nominal (pos 0)) (λ t. refl) (λ t. plain-placed scale nominal _ _)
+plain-kept scale nominal e [] = λ e. grind arith
+plain-kept scale nominal e (f ∷ fs) = either Plain (le_z nominal (pos 0)) (λ t e. grind arith) (λ t. plain-placed scale nominal _ _)
 
 -- from the edit list on, the ctts, and the stts
 plain-edit : (e : Edited) (scale : ℕ) (ds : List ℕ) (os : List ℤ) → Plain (of_edit e scale ds os)
-plain-edit Bad scale ds os = refl
+plain-edit Bad scale ds os = λ e. grind arith
 plain-edit (By e) scale ds os = plain-kept scale _ e _
 
 plain-offsets : (standard : Bool) (r : Rows) (ctts edts : List ℕ) (scale movie : ℕ) (ds : List ℕ) → Plain (of_offsets standard r ctts edts scale movie ds)
-plain-offsets standard Torn ctts edts scale movie ds = refl
+plain-offsets standard Torn ctts edts scale movie ds = λ e. grind arith
 plain-offsets standard (Whole n) ctts edts scale movie ds = plain-edit (edit_of edts scale movie) scale ds (offsets standard n ctts)
 
 pub plain-durations : (standard : Bool) (r : Rows) (bytes room movie scale : ℕ) (edts ctts stts : List ℕ) → Plain (of_durations standard r bytes room movie scale edts ctts stts)
-plain-durations standard Torn bytes room movie scale edts ctts stts = refl
+plain-durations standard Torn bytes room movie scale edts ctts stts = λ e. grind arith
 plain-durations standard (Whole n) bytes room movie scale edts ctts stts =
-    either Plain (ltb bytes (entry_total (entries_of n stts))) (λ t. refl)
-    (λ t. either Plain (ltb room (entry_total (entries_of n stts))) (λ t. refl)
+    either Plain (ltb bytes (entry_total (entries_of n stts))) (λ t e. grind arith)
+    (λ t. either Plain (ltb room (entry_total (entries_of n stts))) (λ t e. grind arith)
     (λ t. plain-offsets standard (optional_rows ctts) ctts edts scale movie (durations n stts)))

@@ -8,7 +8,6 @@ use native.Mathlib.Omega.{arith}
 use lib.ListN.{length, get_or}
 use lib.Dec.{ltb, eqb}
 use borrow.Author.Tests.{lt-ltb, ltb-true, leb-false}
-use Rattle.choice.specs.Numbers.{too_long, no_times}
 use Rattle.choice.proofs.Tests.{either, tf}
 use Rattle.boxes.specs.Bytes.{mdia, be32_at}
 use Rattle.boxes.specs.Boxes.{most_bytes, boxes_of, first_of}
@@ -17,21 +16,29 @@ use Rattle.boxes.specs.Tracks.{video_track}
 use Rattle.boxes.specs.declared.Walk.{Walk}
 use Rattle.boxes.specs.declared.Walk.TheVariants.{Found, End, Bad as BadAt}
 use Rattle.tracks.specs.Tables.{scale_at, scale_of, has_scale, table_rows}
-use Rattle.frame_times.specs.declared.FrameTimes.{FrameTimes}
-use Rattle.frame_times.specs.declared.FrameTimes.TheVariants.{Presented, Refused}
-use Rattle.frame_times.specs.Times.{Outcome, mvhd, mdhd, minf, stbl, stts, ctts, edts, refused, required, of_durations, of_tables, of_scale, of_media, of_track, of_movie, times_of_moov}
-use Rattle.stops.specs.Undivided.{times_taken_back, required_undivided, tables_undivided, scale_undivided, media_undivided, track_undivided, times_undivided}
-use Rattle.stops.proofs.Plain.{Other, Plain, plain-durations}
+use Rattle.std.specs.Prelude.{Result, Ok, Err}
+use Rattle.refusal.specs.declared.Reason.{Reason}
+use Rattle.refusal.specs.declared.Reason.TheVariants as reason
+use Rattle.refusal.specs.declared.Refusal.{Refusal}
+use Rattle.refusal.specs.Refusals.{refusal_at}
+use Rattle.frame_times.specs.Times.{Outcome, mvhd, mdhd, minf, stbl, stts, ctts, edts, no_times, required, of_durations, of_tables, of_scale, of_media, of_track, of_movie, times_of_moov}
+use Rattle.stops.specs.Undivided.{undivided, taken_back, required_undivided, tables_undivided, scale_undivided, media_undivided, track_undivided, times_undivided}
+use Rattle.stops.proofs.Answers.{Told}
+use Rattle.stops.proofs.Plain.{Plain, plain-durations}
 
 -- what document 01 has where there is an outcome: its answer with 36 taken back, and its starts
 pub record Back (o o' : Outcome) : Type 0 where
-  pub answer : times_taken_back o.answer ≡ o'.answer
+  pub answer : taken_back o.answer ≡ o'.answer
   pub starts : o.starts ≡ o'.starts
 
 -- an outcome that isn't 36 stays
-other-stays : (r : FrameTimes) → Other r → times_taken_back r ≡ r
-other-stays (Presented frames scale nominal end) h = refl
-other-stays (Refused n i) h = λ j. if h j then Refused no_times 0 else Refused n i
+stays : (why : Reason) (i : ℕ) → (why ≡ reason.Broken → ⊥) → undivided why i ≡ refusal_at why i
+stays reason.Broken i h = absurd (h refl)
+stays why i h = refl
+
+other-stays : {A : Type 0} (r : Result A Refusal) → Told reason.Broken (λ i. ⊥) r → taken_back r ≡ r
+other-stays (Ok a) h = refl
+other-stays (Err refusal) h = ap Err (stays refusal.reason refusal.index h)
 
 plain-stays : (o : Outcome) → Plain o → Back o o
 plain-stays o h = record { answer = other-stays o.answer h; starts = refl }
@@ -57,7 +64,7 @@ module _ (standard : Bool) (bytes room movie : ℕ) where
 
   scale_back : (scale : ℕ) (edts : List ℕ) (base : ℕ) (s : List ℕ) → Back (of_scale standard bytes room movie scale edts base s) (scale_undivided standard bytes room movie scale edts s)
   scale_back scale edts base s =
-      choice-back (eqb scale 0 || eqb movie 0) (plain-stays (refused no_times) refl)
+      choice-back (eqb scale 0 || eqb movie 0) (record { answer = refl; starts = refl })
       (required-back base (first_of minf (boxes_of s)) s _ _ (λ at i. required-back at (first_of stbl (boxes_of i)) i _ _ (tables-back scale edts)))
 
   media-back : (edts : List ℕ) (base : ℕ) (s : List ℕ) → Back (of_media standard bytes room movie edts base s) (media_undivided standard bytes room movie edts s)
@@ -87,7 +94,7 @@ no-scale h =
     (λ t. either P (eqb (get_or h 0 0) 1) (λ u e. scale-short h (λ v. leb-false 24 (length h) e) (λ v. tf (sym u ∙ v))) (λ u e. tf e))
 
 -- with which every track is refused
-missed : (w : Walk) (s : List ℕ) (next : List ℕ → Outcome) → ((t : List ℕ) → next t ≡ refused no_times) → required_undivided w s next ≡ refused no_times
+missed : (w : Walk) (s : List ℕ) (next : List ℕ → Outcome) → ((t : List ℕ) → next t ≡ no_times reason.Missing) → required_undivided w s next ≡ no_times reason.Missing
 missed (Found start len) s next f = f _
 missed End s next f = refl
 missed (BadAt at) s next f = refl
@@ -96,10 +103,10 @@ or-true : (b : Bool) → b || true ≡ true
 or-true true = refl
 or-true false = refl
 
-scale-none : (standard : Bool) (bytes room scale : ℕ) (edts media : List ℕ) → scale_undivided standard bytes room 0 scale edts media ≡ refused no_times
+scale-none : (standard : Bool) (bytes room scale : ℕ) (edts media : List ℕ) → scale_undivided standard bytes room 0 scale edts media ≡ no_times reason.Missing
 scale-none standard bytes room scale edts media = rw (or-true (eqb scale 0))
 
-track-none : (standard : Bool) (bytes room : ℕ) (s : List ℕ) → track_undivided standard bytes room 0 s ≡ refused no_times
+track-none : (standard : Bool) (bytes room : ℕ) (s : List ℕ) → track_undivided standard bytes room 0 s ≡ no_times reason.Missing
 unfolding track_undivided media_undivided
 track-none standard bytes room s =
     missed (first_of mdia (boxes_of s)) s _ (λ media. missed (first_of mdhd (boxes_of media)) media _ (λ h. scale-none standard bytes room (scale_of h) (child_of edts s) media))
@@ -110,12 +117,12 @@ movie-back standard moov room h =
     let track = track_undivided standard (length moov) room (scale_of h) in
     either (λ (o : Outcome). Back o (required_undivided (video_track moov) moov track)) (has_scale h)
     (λ t. required-back 0 (video_track moov) moov _ _ (track-back standard (length moov) room (scale_of h)))
-    (λ t. subst (Back (refused no_times))
+    (λ t. subst (Back (no_times reason.Missing))
     (sym (missed (video_track moov) moov track (λ s. ap (λ (n : ℕ). track_undivided standard (length moov) room n s) (no-scale h t) ∙ track-none standard (length moov) room s)))
-    (plain-stays (refused no_times) refl))
+    (record { answer = refl; starts = refl }))
 
 pub moov-back : (standard : Bool) (moov : List ℕ) (room : ℕ) → Back (times_of_moov standard moov room) (times_undivided standard moov room)
 unfolding times_of_moov times_undivided
 moov-back standard moov room =
-    choice-back (ltb most_bytes (length moov)) (plain-stays (refused too_long) refl)
+    choice-back (ltb most_bytes (length moov)) (record { answer = refl; starts = refl })
     (required-back 0 (first_of mvhd (boxes_of moov)) moov _ _ (λ at h. movie-back standard moov room h))

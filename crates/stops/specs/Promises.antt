@@ -1,20 +1,21 @@
 -- What the calls on boxes and frame times promise of an answer: their own clauses, as the theorems take them.
-use Rattle.std.specs.Prelude.{ℕ, Bool, List, ◌≡◌, ℤ}
+use Rattle.std.specs.Prelude.{ℕ, Bool, List, ◌≡◌, ℤ, Result}
 use Rattle.boxes.specs.Boxes.{children_at}
 use Rattle.boxes.specs.Places.{child_place, find_box_place}
 use Rattle.boxes.specs.declared.Place.{Place}
-use Rattle.boxes.specs.declared.Reached.{Reached}
-use Rattle.frame_times.specs.declared.FrameTimes.{FrameTimes}
+use Rattle.boxes.specs.declared.BoxAt.{BoxAt}
+use Rattle.ticks.specs.declared.FrameTimes.{FrameTimes}
+use Rattle.refusal.specs.declared.Refusal.{Refusal}
 use Rattle.frame_times.specs.Times.{MoovAnswers}
 
-abbrev pub ChildPlace : List ℕ → ℕ → Place → Type 0
+abbrev pub ChildPlace : List ℕ → ℕ → Result Place Refusal → Type 0
 ChildPlace b kind r = r ≡ child_place b kind
 
-abbrev pub FindBoxPlace : List ℕ → ℕ → ℕ → ℕ → Bool → Place → Type 0
+abbrev pub FindBoxPlace : List ℕ → ℕ → ℕ → ℕ → Bool → Result Place Refusal → Type 0
 FindBoxPlace b start end kind text r = r ≡ find_box_place b start end kind text
 
-abbrev pub Children : List ℕ → ℕ → Reached → Type 0
+abbrev pub Children : List ℕ → ℕ → Result BoxAt Refusal → Type 0
 Children b at r = r ≡ children_at b at
 
-abbrev pub FrameTimesOf : List ℕ → Bool → List ℤ → List ℤ → List ℤ → FrameTimes → List ℤ → List ℤ → List ℤ → Type 0
+abbrev pub FrameTimesOf : List ℕ → Bool → List ℤ → List ℤ → List ℤ → Result FrameTimes Refusal → List ℤ → List ℤ → List ℤ → Type 0
 FrameTimesOf moov standard starts a b r starts' a' b' = MoovAnswers standard moov starts a b r starts' a' b'

@@ -1,21 +1,21 @@
 -- WHAT 36 SAYS, AND THAT IT ONLY DIVIDES 31 (document 02, g), of any calls that answer by boxes/specs and frame_times/specs. `Child`, `FindBox`, `Children` and `FrameTimesOf`
 -- say which answers the calls allow. Every line is proved of the calls' promises, as the contracts of `stops_at_a_bad_header` and `only_divides`, and the audit claims it of the promises in the source.
-use Rattle.std.specs.Prelude.{ℕ, ◌+◌, ◌-◌, ◌≤◌, Bool, true, false, List, [], ◌∷◌, ◌⊎◌, ◌≡◌, ℤ, length, take, drop}
+use Rattle.std.specs.Prelude.{ℕ, ◌+◌, ◌-◌, ◌≤◌, Bool, true, false, List, [], ◌∷◌, ◌⊎◌, ◌≡◌, ℤ, length, take, drop, Result}
 use Rattle.slices.specs.Slices.{laid}
 use Rattle.boxes.specs.Bytes.{be32_at, mdia}
 use Rattle.boxes.specs.Boxes.{Boxes, clean, bad, box, header_at, boxes_of, is_text, searched, first_of}
 use Rattle.boxes.specs.Tracks.{video_track}
 use Rattle.boxes.specs.declared.Header.TheVariants.{Bad}
 use Rattle.boxes.specs.declared.Place.{Place}
-use Rattle.boxes.specs.declared.Place.TheVariants as place
-use Rattle.boxes.specs.declared.Reached.{Reached}
-use Rattle.boxes.specs.declared.Reached.TheVariants as reached
+use Rattle.boxes.specs.declared.BoxAt.{BoxAt}
+use Rattle.refusal.specs.declared.Reason.TheVariants as reason
+use Rattle.refusal.specs.declared.Refusal.{Refusal}
+use Rattle.refusal.specs.Refusals.{refused}
 use Rattle.boxes.specs.declared.Walk.{Walk}
 use Rattle.boxes.specs.declared.Walk.TheVariants.{Found, End, Bad as BadAt}
-use Rattle.frame_times.specs.declared.FrameTimes.{FrameTimes}
-use Rattle.frame_times.specs.declared.FrameTimes.TheVariants as times
+use Rattle.ticks.specs.declared.FrameTimes.{FrameTimes}
 use Rattle.frame_times.specs.Times.{mvhd, mdhd, minf, stbl, stts, room}
-use Rattle.stops.specs.Undivided.{place_taken_back, reached_taken_back, times_taken_back, child_undivided, find_box_undivided, children_undivided, times_undivided}
+use Rattle.stops.specs.Undivided.{taken_back, child_undivided, find_box_undivided, children_undivided, times_undivided}
 
 -- how some boxes end
 unfoldable pub ending : Boxes → Walk
@@ -95,27 +95,27 @@ OfOne P (s ∷ l) = P s ⊎ OfOne P l
 
 -- 36'S INDEX IS THE OFFSET OF A HEADER THAT IS THERE AND BAD, and the walk for the box stopped at it; where `child` or `find_box` answers 31, all boxes were walked to a clean end
 pub record Stopping
-    (Child : List ℕ → ℕ → Place → Type 0) (FindBox : List ℕ → ℕ → ℕ → ℕ → Bool → Place → Type 0) (Children : List ℕ → ℕ → Reached → Type 0)
-    (FrameTimesOf : List ℕ → Bool → List ℤ → List ℤ → List ℤ → FrameTimes → List ℤ → List ℤ → List ℤ → Type 0) : Type 0 where
-  pub child : (b : List ℕ) (kind i : ℕ) → Child b kind (place.Refused 36 i) → StopsAt false b i
-  pub child-end : (b : List ℕ) (kind i : ℕ) → Child b kind (place.Refused 31 i) → ending (boxes_of b) ≡ End
+    (Child : List ℕ → ℕ → Result Place Refusal → Type 0) (FindBox : List ℕ → ℕ → ℕ → ℕ → Bool → Result Place Refusal → Type 0) (Children : List ℕ → ℕ → Result BoxAt Refusal → Type 0)
+    (FrameTimesOf : List ℕ → Bool → List ℤ → List ℤ → List ℤ → Result FrameTimes Refusal → List ℤ → List ℤ → List ℤ → Type 0) : Type 0 where
+  pub child : (b : List ℕ) (kind i : ℕ) → Child b kind (refused reason.Broken i) → StopsAt false b i
+  pub child-end : (b : List ℕ) (kind i : ℕ) → Child b kind (refused reason.Missing i) → ending (boxes_of b) ≡ End
   -- in the range from start to end, at i of the whole
-  pub find-box : (b : List ℕ) (start end kind : ℕ) (text : Bool) (i : ℕ) → FindBox b start end kind text (place.Refused 36 i)
+  pub find-box : (b : List ℕ) (start end kind : ℕ) (text : Bool) (i : ℕ) → FindBox b start end kind text (refused reason.Broken i)
       → (start ≤ i) × (i + 8 ≤ end) × StopsAt text (take (end - start) (drop start b)) (i - start)
-  pub find-box-end : (b : List ℕ) (start end kind : ℕ) (text : Bool) (i : ℕ) → FindBox b start end kind text (place.Refused 31 i)
+  pub find-box-end : (b : List ℕ) (start end kind : ℕ) (text : Bool) (i : ℕ) → FindBox b start end kind text (refused reason.Missing i)
       → ending (searched text (boxes_of (take (end - start) (drop start b)))) ≡ End
   -- at the offset that was asked for
-  pub children : (b : List ℕ) (at i : ℕ) → Children b at (reached.Refused 36 i) → (i ≡ at) × Broken false b at
-  pub frame-times : (moov : List ℕ) (standard : Bool) (starts a b starts' a' b' : List ℤ) (i : ℕ) → FrameTimesOf moov standard starts a b (times.Refused 36 i) starts' a' b'
+  pub children : (b : List ℕ) (at i : ℕ) → Children b at (refused reason.Broken i) → (i ≡ at) × Broken false b at
+  pub frame-times : (moov : List ℕ) (standard : Bool) (starts a b starts' a' b' : List ℤ) (i : ℕ) → FrameTimesOf moov standard starts a b (refused reason.Broken i) starts' a' b'
       → OfOne (StopsIn moov i) (searches moov)
 
 -- 31 IS DIVIDED, AND NOTHING ELSE: with 36 taken back to 31 every answer is the undivided one, which is document 01's, but for frame times with `standard`, and so are the starts. So 31
 -- or 36 is given exactly where the undivided answer is 31, and where frame times are given nothing changed
 pub record Dividing
-    (Child : List ℕ → ℕ → Place → Type 0) (FindBox : List ℕ → ℕ → ℕ → ℕ → Bool → Place → Type 0) (Children : List ℕ → ℕ → Reached → Type 0)
-    (FrameTimesOf : List ℕ → Bool → List ℤ → List ℤ → List ℤ → FrameTimes → List ℤ → List ℤ → List ℤ → Type 0) : Type 0 where
-  pub child : (b : List ℕ) (kind : ℕ) (r : Place) → Child b kind r → place_taken_back r ≡ child_undivided b kind
-  pub find-box : (b : List ℕ) (start end kind : ℕ) (text : Bool) (r : Place) → FindBox b start end kind text r → place_taken_back r ≡ find_box_undivided b start end kind text
-  pub children : (b : List ℕ) (at : ℕ) (r : Reached) → Children b at r → reached_taken_back r ≡ children_undivided b at
-  pub frame-times : (moov : List ℕ) (standard : Bool) (starts a b starts' a' b' : List ℤ) (r : FrameTimes) → FrameTimesOf moov standard starts a b r starts' a' b'
-      → (times_taken_back r ≡ (times_undivided standard moov (room starts a b)).answer) × (starts' ≡ laid (times_undivided standard moov (room starts a b)).starts starts)
+    (Child : List ℕ → ℕ → Result Place Refusal → Type 0) (FindBox : List ℕ → ℕ → ℕ → ℕ → Bool → Result Place Refusal → Type 0) (Children : List ℕ → ℕ → Result BoxAt Refusal → Type 0)
+    (FrameTimesOf : List ℕ → Bool → List ℤ → List ℤ → List ℤ → Result FrameTimes Refusal → List ℤ → List ℤ → List ℤ → Type 0) : Type 0 where
+  pub child : (b : List ℕ) (kind : ℕ) (r : Result Place Refusal) → Child b kind r → taken_back r ≡ child_undivided b kind
+  pub find-box : (b : List ℕ) (start end kind : ℕ) (text : Bool) (r : Result Place Refusal) → FindBox b start end kind text r → taken_back r ≡ find_box_undivided b start end kind text
+  pub children : (b : List ℕ) (at : ℕ) (r : Result BoxAt Refusal) → Children b at r → taken_back r ≡ children_undivided b at
+  pub frame-times : (moov : List ℕ) (standard : Bool) (starts a b starts' a' b' : List ℤ) (r : Result FrameTimes Refusal) → FrameTimesOf moov standard starts a b r starts' a' b'
+      → (taken_back r ≡ (times_undivided standard moov (room starts a b)).answer) × (starts' ≡ laid (times_undivided standard moov (room starts a b)).starts starts)

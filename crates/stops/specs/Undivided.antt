@@ -1,67 +1,60 @@
 -- The answers of document 01, where 31 isn't divided: however a walk ends without a box that has to be there, it is 31. And 36 taken back to it.
 -- Frame times have `standard` as in frame_times/specs/Times.antt: without it they are document 01's.
-use Rattle.std.specs.Prelude.{ℕ, ◌-◌, Bool, ◌||◌, List, length, take, drop, ltb, eqb, if◌then◌else◌}
-use Rattle.choice.specs.Numbers.{too_long, no_times, bad_header}
+use Rattle.std.specs.Prelude.{ℕ, ◌-◌, Bool, ◌||◌, List, length, take, drop, ltb, eqb, if◌then◌else◌, Result, Ok, Err}
+use Rattle.refusal.specs.declared.Reason.{Reason}
+use Rattle.refusal.specs.declared.Reason.TheVariants as reason
+use Rattle.refusal.specs.declared.Refusal.{Refusal}
+use Rattle.refusal.specs.Refusals.{refusal_at, refused}
 use Rattle.boxes.specs.Bytes.{mdia}
 use Rattle.boxes.specs.Boxes.{most_bytes, header_at, boxes_of, searched, first_of}
-use Rattle.boxes.specs.Places.{place_or, in_part, child_of}
+use Rattle.boxes.specs.Places.{place, place_or, in_part, child_of}
 use Rattle.boxes.specs.Tracks.{video_track}
 use Rattle.boxes.specs.declared.Header.{Header}
 use Rattle.boxes.specs.declared.Header.TheVariants.{Whole, Short, Bad}
 use Rattle.boxes.specs.declared.Place.{Place}
-use Rattle.boxes.specs.declared.Place.TheVariants as place
-use Rattle.boxes.specs.declared.Reached.{Reached}
-use Rattle.boxes.specs.declared.Reached.TheVariants as reached
+use Rattle.boxes.specs.declared.BoxAt.{BoxAt}
 use Rattle.boxes.specs.declared.Walk.{Walk}
 use Rattle.boxes.specs.declared.Walk.TheVariants.{Found, End, Bad as BadAt}
 use Rattle.tracks.specs.Tables.{scale_of, table_rows}
-use Rattle.frame_times.specs.declared.FrameTimes.{FrameTimes}
-use Rattle.frame_times.specs.declared.FrameTimes.TheVariants as times
-use Rattle.frame_times.specs.Times.{Outcome, mvhd, mdhd, minf, stbl, stts, ctts, edts, refused, of_durations}
+use Rattle.frame_times.specs.Times.{Outcome, mvhd, mdhd, minf, stbl, stts, ctts, edts, no_times, of_durations}
 
--- a refusal's number and index with 36 taken back to 31
-abbrev pub taken_back : {A : Type 0} → (ℕ → ℕ → A) → ℕ → ℕ → A
-taken_back refusal n i = if eqb n bad_header then refusal no_times 0 else refusal n i
+-- a refusal with 36 taken back to 31, whose index is 0
+abbrev pub undivided : Reason → ℕ → Refusal
+undivided reason.Broken index = refusal_at reason.Missing 0
+undivided why index = refusal_at why index
 
-abbrev pub place_taken_back : Place → Place
-place_taken_back (place.At start len) = place.At start len
-place_taken_back (place.Refused n i) = taken_back place.Refused n i
-
-abbrev pub reached_taken_back : Reached → Reached
-reached_taken_back (reached.Box kind start len next) = reached.Box kind start len next
-reached_taken_back (reached.Refused n i) = taken_back reached.Refused n i
-
-abbrev pub times_taken_back : FrameTimes → FrameTimes
-times_taken_back (times.Presented frames scale nominal end) = times.Presented frames scale nominal end
-times_taken_back (times.Refused n i) = taken_back times.Refused n i
+-- the same of an answer
+abbrev pub taken_back : {A : Type 0} → Result A Refusal → Result A Refusal
+taken_back (Ok a) = Ok a
+taken_back (Err refusal) = Err (undivided refusal.reason refusal.index)
 
 -- `child`, `find_box` and `children`
-unfoldable pub child_undivided : List ℕ → ℕ → Place
-child_undivided payload kind = if ltb most_bytes (length payload) then place.Refused 30 0 else place_or 31 (first_of kind (boxes_of payload))
+unfoldable pub child_undivided : List ℕ → ℕ → Result Place Refusal
+child_undivided payload kind = if ltb most_bytes (length payload) then refused reason.TooLong 0 else place_or reason.Missing (first_of kind (boxes_of payload))
 
-unfoldable pub find_box_undivided : List ℕ → ℕ → ℕ → ℕ → Bool → Place
+unfoldable pub find_box_undivided : List ℕ → ℕ → ℕ → ℕ → Bool → Result Place Refusal
 find_box_undivided bytes start end kind text =
-    if ltb most_bytes (length bytes) then place.Refused 30 0
-    else if ltb (length bytes) end then place.Refused 42 0
-    else if ltb end start then place.Refused 42 0
-    else in_part bytes (place.At start (end - start)) (λ s. place_or 31 (first_of kind (searched text (boxes_of s))))
+    if ltb most_bytes (length bytes) then refused reason.TooLong 0
+    else if ltb (length bytes) end then refused reason.BadSearch 0
+    else if ltb end start then refused reason.BadSearch 0
+    else in_part bytes (Ok (place start (end - start))) (λ s. place_or reason.Missing (first_of kind (searched text (boxes_of s))))
 
-abbrev pub reached_undivided : Header → Reached
-reached_undivided Short = reached.Refused 31 0
-reached_undivided Bad = reached.Refused 31 0
-reached_undivided (Whole kind start len next) = reached.Box kind start len next
+abbrev pub reached_undivided : Header → Result BoxAt Refusal
+reached_undivided Short = refused reason.Missing 0
+reached_undivided Bad = refused reason.Missing 0
+reached_undivided (Whole kind start len next) = Ok (record { kind = kind; start = start; len = len; next = next })
 
-unfoldable pub children_undivided : List ℕ → ℕ → Reached
+unfoldable pub children_undivided : List ℕ → ℕ → Result BoxAt Refusal
 children_undivided payload at =
-    if ltb most_bytes (length payload) then reached.Refused 30 0
-    else if ltb (length payload) at then reached.Refused 42 0
+    if ltb most_bytes (length payload) then refused reason.TooLong 0
+    else if ltb (length payload) at then refused reason.BadSearch 0
     else reached_undivided (header_at payload at)
 
 -- frame times: a box that has to be there goes on with its payload; without it there are no times
 abbrev pub required_undivided : Walk → List ℕ → (List ℕ → Outcome) → Outcome
 required_undivided (Found start len) s next = next (take len (drop start s))
-required_undivided End s next = refused no_times
-required_undivided (BadAt at) s next = refused no_times
+required_undivided End s next = no_times reason.Missing
+required_undivided (BadAt at) s next = no_times reason.Missing
 
 abbrev pub in_child_undivided : ℕ → List ℕ → (List ℕ → Outcome) → Outcome
 in_child_undivided kind s next = required_undivided (first_of kind (boxes_of s)) s next
@@ -71,7 +64,7 @@ tables_undivided standard bytes room movie scale edts tables = in_child_undivide
 
 abbrev pub scale_undivided : Bool → ℕ → ℕ → ℕ → ℕ → List ℕ → List ℕ → Outcome
 scale_undivided standard bytes room movie scale edts media =
-    if eqb scale 0 || eqb movie 0 then refused no_times
+    if eqb scale 0 || eqb movie 0 then no_times reason.Missing
     else in_child_undivided minf media (λ i. in_child_undivided stbl i (tables_undivided standard bytes room movie scale edts))
 
 unfoldable pub media_undivided : Bool → ℕ → ℕ → ℕ → List ℕ → List ℕ → Outcome
@@ -82,5 +75,5 @@ track_undivided standard bytes room movie track = in_child_undivided mdia track 
 
 unfoldable pub times_undivided : Bool → List ℕ → ℕ → Outcome
 times_undivided standard moov room =
-    if ltb most_bytes (length moov) then refused too_long
+    if ltb most_bytes (length moov) then no_times reason.TooLong
     else in_child_undivided mvhd moov (λ h. required_undivided (video_track moov) moov (track_undivided standard (length moov) room (scale_of h)))

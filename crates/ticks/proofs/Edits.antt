@@ -5,6 +5,7 @@ use Prim.Native.Nat.{ℕ, ◌+◌, ◌*◌, ◌/◌, ◌^◌, ◌≤◌, ◌<◌
 use native.Mathlib.Omega.{arith}
 use lib.Dec.{ltb}
 use borrow.Author.Tests.{lt-ltb, le-ltb}
+use Rattle.wide.proofs.Words.{low_word, high_word}
 use Rattle.ticks.specs.declared.MediaTicks.TheVariants.{Are, Beyond}
 use Rattle.ticks.specs.Ticks.{edit_ticks, media_ticks}
 
@@ -20,3 +21,6 @@ module _ (d s m : ℕ) {q : ℕ} (e : q ≡ edit_ticks d s m) where
   pub ticks-past : 2 ^ 63 ≤ q → Beyond ≡ media_ticks d s m
   unfolding media_ticks
   ticks-past h = (λ i. if sym (le-ltb q 9223372036854775808 h) i then Are q else Beyond) ∙ (λ i. if ltb (e i) 9223372036854775808 then Are (e i) else Beyond)
+
+-- what `edit_ticks` takes from its quotient
+pub ruleset quotients = (low_word, high_word, ticks-are, ticks-held, ticks-past)

@@ -1,26 +1,27 @@
 -- The numbers of document 01 on ticks and near ends, those that it marks and some at the limits. They are the contract of `worked_examples_hold`.
-use Rattle.std.specs.Prelude.{Bool, true, false, List, [], ◌∷◌, ◌*◌, pos, neg_ℤ}
+use Rattle.std.specs.Prelude.{Bool, true, false, List, [], ◌∷◌, ◌*◌, pos, neg_ℤ, ℤ, Result, Ok}
 use Rattle.choice.specs.Worked.{Worked, is, AllRight}
-use Rattle.ticks.specs.declared.Us.{Us}
-use Rattle.ticks.specs.declared.Us.TheVariants.{At, Refused}
+use Rattle.refusal.specs.declared.Reason.TheVariants as reason
+use Rattle.refusal.specs.declared.Refusal.{Refusal}
+use Rattle.refusal.specs.Refusals.{refused}
 use Rattle.ticks.specs.declared.MediaTicks.{MediaTicks}
 use Rattle.ticks.specs.declared.MediaTicks.TheVariants.{Are, Beyond}
 use Rattle.ticks.specs.Ticks.{ticks_to_us, ends_near, media_ticks}
 
-abbrev pub times : List (Worked Us)
+abbrev pub times : List (Worked (Result ℤ Refusal))
 times =
-    is (ticks_to_us (pos 1001) 30000) (At (pos 33367))
-    ∷ is (ticks_to_us (pos 1) 2000000) (At (pos 1))
-    ∷ is (ticks_to_us (neg_ℤ (pos 1)) 2000000) (At (neg_ℤ (pos 1)))
-    ∷ is (ticks_to_us (pos 1) 4000000) (At (pos 0))
-    ∷ is (ticks_to_us (pos 1) 0) (Refused 23 0)
-    ∷ is (ticks_to_us (pos 1) 4294967295) (At (pos 0))
-    ∷ is (ticks_to_us (pos 1) 4294967296) (Refused 20 0)
-    ∷ is (ticks_to_us (pos 9223372036854775807) 1) (Refused 23 0)
-    ∷ is (ticks_to_us (pos 9223372036854775807) 4294967295) (At (pos 2147483648500000))
-    ∷ is (ticks_to_us (pos 9223372036854) 1) (At (pos 9223372036854000000))
-    ∷ is (ticks_to_us (pos 9223372036855) 1) (Refused 23 0)
-    ∷ is (ticks_to_us (neg_ℤ (pos 9223372036854775808)) 1000000) (At (neg_ℤ (pos 9223372036854775808)))
+    is (ticks_to_us (pos 1001) 30000) (Ok (pos 33367))
+    ∷ is (ticks_to_us (pos 1) 2000000) (Ok (pos 1))
+    ∷ is (ticks_to_us (neg_ℤ (pos 1)) 2000000) (Ok (neg_ℤ (pos 1)))
+    ∷ is (ticks_to_us (pos 1) 4000000) (Ok (pos 0))
+    ∷ is (ticks_to_us (pos 1) 0) (refused reason.NoFrameTime 0)
+    ∷ is (ticks_to_us (pos 1) 4294967295) (Ok (pos 0))
+    ∷ is (ticks_to_us (pos 1) 4294967296) (refused reason.TooLarge 0)
+    ∷ is (ticks_to_us (pos 9223372036854775807) 1) (refused reason.NoFrameTime 0)
+    ∷ is (ticks_to_us (pos 9223372036854775807) 4294967295) (Ok (pos 2147483648500000))
+    ∷ is (ticks_to_us (pos 9223372036854) 1) (Ok (pos 9223372036854000000))
+    ∷ is (ticks_to_us (pos 9223372036855) 1) (refused reason.NoFrameTime 0)
+    ∷ is (ticks_to_us (neg_ℤ (pos 9223372036854775808)) 1000000) (Ok (neg_ℤ (pos 9223372036854775808)))
     ∷ []
 
 -- 30 frames at 30000/1001; the same below 0; on both sides of 0; a nominal below 0

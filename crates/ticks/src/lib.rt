@@ -8,24 +8,23 @@ ghost use Rattle.ticks.specs.Ticks.{micros_of, ticks_to_us, ends_near, media_tic
 ghost use Rattle.ticks.specs.Steps.{small_ticks, Allowed, Room, big_of};
 ghost use Rattle.ticks.specs.Examples.{WorkedExamples};
 
+use refusal::{Reason, Refusal};
 use signed::Held;
 use wide::{Big, Wide};
 
-// The largest scale, the refusal of a larger one, and that of a time that can't be had.
+// The largest scale.
 pub const LARGEST_SCALE: u64 = 4_294_967_295;
-
-pub const SCALE_OVER: u64 = 20;
-
-pub const NO_TIME: u64 = 23;
 
 // The most ticks whose product with 1,000,000 fits 63 bits with its sign.
 const SMALL_TICKS: u64 = 4_611_686_018_427;
 
-// A time in microseconds, or a refusal: its number and its index, which is 0.
+// The frame times of a video or a recording, beside the starts: how many frames, the ticks a second, how long a frame is as a rule, and where the last one ends.
 #[derive(Clone, Copy)]
-pub enum Us {
-    At(i64),
-    Refused(u64, usize),
+pub struct FrameTimes {
+    pub frames: usize,
+    pub scale: u64,
+    pub nominal: i64,
+    pub end: i64,
 }
 
 // Media ticks below 2^63, or none where an i64 doesn't hold them.
@@ -82,21 +81,22 @@ fn small_micros(ticks: i64, scale: u64) -> i64
 }
 
 // Ticks of a scale in microseconds, from `ticks_to_us` of the Rust: few ticks by signed division, the rest by two words.
-pub fn ticks_to_us(ticks: i64, scale: u64) -> Us
+#[tactic(auto, unfolding(crate::specs::Ticks::ticks_to_us, crate::specs::Ticks::us_of, crate::specs::Ticks::micros_of, choice::specs::Choice::when))]
+pub fn ticks_to_us(ticks: i64, scale: u64) -> Result<i64, Refusal>
     ensures { result ≡ ticks_to_us ticks scale }
 {
     if LARGEST_SCALE < scale {
-        return Us::Refused(SCALE_OVER, 0);
+        return Err(Reason::TooLarge.at(0));
     }
     if scale == 0 {
-        return Us::Refused(NO_TIME, 0);
+        return Err(Reason::NoFrameTime.at(0));
     }
     if signed::magnitude(ticks) <= SMALL_TICKS {
-        return Us::At(small_micros(ticks, scale));
+        return Ok(small_micros(ticks, scale));
     }
     match micros(big_of(ticks), scale) {
-        Held::Is(us) => Us::At(us),
-        Held::Outside => Us::Refused(NO_TIME, 0),
+        Held::Is(us) => Ok(us),
+        Held::Outside => Err(Reason::NoFrameTime.at(0)),
     }
 }
 
@@ -153,6 +153,7 @@ pub fn ends_near(us: i64, end: Big, nominal: i64, scale: u64) -> bool
 }
 
 // A duration of the movie in the media's ticks, from `video_frame_times_of_moov` of the Rust.
+#[tactic(auto, using(crate::proofs::Edits::quotients))]
 pub fn edit_ticks(duration: u64, scale: u64, movie: u64) -> MediaTicks
     requires { (scale < 2 ^ 32) × (0 < movie) × (movie < 2 ^ 32) }
     ensures { result ≡ media_ticks duration scale movie }

@@ -17,6 +17,7 @@ use Rattle.signed.proofs.Order.{eq_z-yes}
 use Rattle.ticks.specs.Ticks.{edit_ticks, media_ticks}
 use Rattle.ticks.specs.declared.MediaTicks.{MediaTicks}
 use Rattle.ticks.specs.declared.MediaTicks.TheVariants.{Are, Beyond}
+use Rattle.refusal.specs.declared.Reason.TheVariants as reason
 use Rattle.boxes.specs.Bytes.{be32_at}
 use Rattle.boxes.specs.Boxes.{boxes_of, first_of}
 use Rattle.boxes.specs.Places.{place_or, part_of}
@@ -106,7 +107,7 @@ unfolding elst_of
 elst-sound p scale movie = either SoundIf (ltb (length p) 8) (λ a. tt) (λ a. lines-sound (be32_at p 4) (eqb (get_or p 0 0) 1) p scale movie)
 
 found-sound : (w : Walk) (p : List ℕ) (scale movie : ℕ) → SoundIf (found_lines w p scale movie)
-found-sound (Found a n) p scale movie = elst-sound (part_of p (place_or 31 (Found a n))) scale movie
+found-sound (Found a n) p scale movie = elst-sound (part_of p (place_or reason.Missing (Found a n))) scale movie
 found-sound End p scale movie = no-sound
 found-sound (BadAt a) p scale movie = no-sound
 

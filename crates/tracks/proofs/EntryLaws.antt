@@ -159,8 +159,8 @@ optional p = either (Optional (length p)) (ltb (length p) 4) (λ h. omega arith)
 pub rows-there : (p : List ℕ) (n : ℕ) → table_rows p ≡ Whole n → n * 8 ≤ length p - 8
 rows-there p n e = subst (Optional (length p)) e (loosen (length p) (table_rows p) (there p))
 
-pub optional-there : (p : List ℕ) (n : ℕ) → optional_rows p ≡ Whole n → n * 8 ≤ length p - 8
-optional-there p n e = subst (Optional (length p)) e (optional p)
+pub optional_there : (p : List ℕ) (n : ℕ) → optional_rows p ≡ Whole n → n * 8 ≤ length p - 8
+optional_there p n e = subst (Optional (length p)) e (optional p)
 
 -- what holds of each entry's value holds of each frame's
 all_replicate : (P : ℕ → Type 0) (n x : ℕ) → P x → All P (replicate n x)

@@ -8,6 +8,7 @@ use Rattle.boxes.specs.Bytes.{be32_at, be64_at}
 use Rattle.boxes.specs.Boxes.{boxes_of, first_of}
 use Rattle.boxes.specs.declared.Walk.{Walk}
 use Rattle.boxes.specs.declared.Walk.TheVariants.{Found, End, Bad as BadAt}
+use Rattle.refusal.specs.declared.Reason.TheVariants as reason
 use Rattle.boxes.specs.Places.{place_or, part_of}
 use Rattle.tracks.specs.declared.Line.{Line}
 use Rattle.tracks.specs.declared.Edit.{Edit}
@@ -80,7 +81,7 @@ elst_of p scale movie = if ltb (length p) 8 then Bad else lines_of (be32_at p 4)
 
 -- what the walk for an elst found; no edit where it found none
 abbrev pub found_lines : Walk → List ℕ → ℕ → ℕ → Edited
-found_lines (Found start len) edts scale movie = elst_of (part_of edts (place_or 31 (Found start len))) scale movie
+found_lines (Found start len) edts scale movie = elst_of (part_of edts (place_or reason.Missing (Found start len))) scale movie
 found_lines End edts scale movie = By no_edit
 found_lines (BadAt at) edts scale movie = By no_edit
 

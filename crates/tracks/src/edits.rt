@@ -165,7 +165,7 @@ fn elst(p: &[u8], scale: u64, movie: u64) -> Edited
 }
 
 // The edit of an edts' payload, which is empty where a track has none: the edit list of video_frame_times_of_moov.
-#[tactic(auto, using(choice::proofs::Tests::tests), unfolding(crate::specs::Edits::edit_of))]
+#[tactic(auto, using(choice::proofs::Tests::tests, boxes::proofs::Within::found_within), unfolding(crate::specs::Edits::edit_of))]
 pub fn edit_of(edts: &[u8], scale: u64, movie: u64) -> Edited
     requires { (scale < 2 ^ 32) × (0 < movie) × (movie < 2 ^ 32) }
     ensures { result ≡ edit_of edts.now scale movie }

@@ -1,5 +1,5 @@
 use Rattle.std.proofs.Common.{◌≡◌, ◌-◌, ◌<◌, length, drop}
-use Rattle.choice.specs.Records.{first_refused}
+use Rattle.refusal.specs.Refusals.{first_refused}
 use Rattle.mcraw.specs.Mcraw.{falls, gaps, fall_of}
 use Rattle.mcraw.proofs.first_fall.Given as goal
 

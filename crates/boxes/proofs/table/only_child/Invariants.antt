@@ -1,12 +1,12 @@
-use Rattle.std.proofs.Common.{◌≡◌, ◌-◌, ◌/◌, ◌≤◌, length, []}
+use Rattle.std.proofs.Common.{◌≡◌, ◌-◌, ◌/◌, ◌≤◌, length}
 use Rattle.boxes.specs.Boxes.{boxes_at, boxes_of}
 use Rattle.boxes.specs.Places.{all_of, only_of}
-use Rattle.boxes.proofs.Searches.{only_after}
+use Rattle.boxes.proofs.Searches.{with_found}
 use Rattle.boxes.proofs.table.only_child.Given as goal
 
 -- the only one of what was found and of what is left is the only one of all
 abbrev pub invariant-loop-k : goal.invariant-loop-k
-invariant-loop-k l = (l.at ≤ length l.s) × (only_after l.found [] ≡ l.found) × (only_after l.found (all_of l.kind (boxes_at l.s l.at)) ≡ only_of (all_of l.kind (boxes_of l.s)))
+invariant-loop-k l = (l.at ≤ length l.s) × (only_of (with_found l.found (all_of l.kind (boxes_at l.s l.at))) ≡ only_of (all_of l.kind (boxes_of l.s)))
 
 -- a turn for 8 of the bytes left
 abbrev pub decreases-loop-k : goal.decreases-loop-k

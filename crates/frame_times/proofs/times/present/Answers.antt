@@ -6,6 +6,7 @@ use Rattle.order.specs.Order.{Asc, sorted, mode}
 use Rattle.order.proofs.Sorted.{asc-sorted}
 use Rattle.tracks.specs.Tables.{entries_of, durations, offsets}
 use Rattle.tracks.proofs.EntryLaws.{length-per-frame}
+use Rattle.refusal.specs.declared.Reason.TheVariants as reason
 use Rattle.frame_times.specs.Frames.{frames_from, kept}
 use Rattle.frame_times.specs.Times.{shown}
 use Rattle.frame_times.proofs.FrameLaws.{none_kept, low-nominal, some-shown, showable, showable-as, mode-of-sorted}
@@ -31,13 +32,13 @@ returns-then-nominal-le0 c =
     let ds = durations s.n s.stts.now in
     let fs = kept s.e (frames_from 0 ds (offsets s.standard s.m s.ctts.now)) in
     let n = named ds c.sort_any.ensures c.requires.b_value.0 (fits-of c.nominal_of-nominal.type_inv) c.nominal_of-nominal.ensures in
-    refuses 31 s.starts.now c.refused.ensures (low-nominal _ _ _ fs (ap (λ z. le_z z (pos 0)) (sym n) ∙ c.if-nominal-le0.true))
+    refuses reason.Missing s.starts.now c.at.ensures (low-nominal _ _ _ fs (ap (λ z. le_z z (pos 0)) (sym n) ∙ c.if-nominal-le0.true))
 
 pub returns-then-count-eq0 : goal.returns-then-count-eq0
 returns-then-count-eq0 c =
     let s = c.args in
     let fs = kept s.e (frames_from 0 (durations s.n s.stts.now) (offsets s.standard s.m s.ctts.now)) in
-    refuses 31 s.starts.now c.refused-then-count-eq0.ensures (none_kept _ _ _ fs (sym c.keep-k.ensures.count ∙ c.if-count-eq0.true))
+    refuses reason.Missing s.starts.now c.at-then-count-eq0.ensures (none_kept _ _ _ fs (sym c.keep-k.ensures.count ∙ c.if-count-eq0.true))
 
 pub overflow_cast-last : goal.overflow_cast-last
 overflow_cast-last c = lasts-fit _ _ _ c.keep-k.ensures c.if-count-eq0.false

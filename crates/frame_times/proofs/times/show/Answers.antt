@@ -1,4 +1,5 @@
 use Rattle.std.proofs.Common.{◌∙◌, sym}
+use Rattle.refusal.specs.declared.Reason.TheVariants as reason
 use Rattle.frame_times.proofs.ShowLaws.{showing, apart_fits, summed, refused_is, placeable, answers}
 use Rattle.frame_times.proofs.TrackLaws.{refuses}
 use Rattle.frame_times.proofs.times.show.Goals as goal
@@ -11,7 +12,7 @@ overflow_sub-capped_at c =
 pub returns-in_default : goal.returns-in_default
 returns-in_default c =
     let h = showing c.requires.0 c.requires.1 c.ranges.first c.ranges.last c.sort.ensures c.origin_of-o.type_inv c.origin_of-o.ensures c.capped_at.type_inv c.capped_at.ensures in
-    refuses 33 c.args.starts.now c.refused.ensures (refused_is h c.args.scale c.args.nominal (sym c.in_default.is ∙ summed h c.sum.ensures))
+    refuses reason.Outside c.args.starts.now c.at.ensures (refused_is h c.args.scale c.args.nominal (sym c.in_default.is ∙ summed h c.sum.ensures))
 
 pub place-requires-clause-all : goal.place-requires-clause-all
 place-requires-clause-all c =

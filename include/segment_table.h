@@ -40,50 +40,8 @@
  * pair in 34, the broken header's offset in the lent bytes in 36, the range in 50 of st_cuts (a last one without its end is
  * tested first), the row in 51 (0 for slice lengths or no rows, which are tested first), else 0. Each call names its
  * refusals in the order of its tests: 4 to 7 source by source, 9 to 17 and 23 with 24 segment by segment, 50 of st_cuts
- * range by range, a join's 51 of its first map and then of its second. `31 or 36` is by how a walk over boxes ended.
- *  1 a slice length isn't a multiple of its record, the two segment slices disagree, a flag or kind is outside its set,
- *    or a present creation time's range leaves the text
- *  2 over 64 sources or 512 segments
- *  3 no sources
- *  4 source: frames, or either fps number, is 0
- *  5 source: its creation time fails the UTC rule
- *  6 source: its clock rate has a 0, or its modulus is 0
- *  7 source: a log is named and it has no clock
- *  8 no segments
- *  9 segment: no such source
- * 10 segment: frame count 0
- * 11 segment: out or source first frame plus count passes 2^64 - 1
- * 12 segment: source end past the source's frames
- * 13 segment: any of the six times negative
- * 14 segment: source start plus duration, or the capture pair, passes 2^63 - 1; tested after 16, out start plus duration
- *    or its capture pair does
- * 15 segment: out first frame isn't the end before (0 for the first)
- * 16 segment: out start or out capture start isn't the end before; the first is free
- * 17 segment: shift without clock, clock without shift, or a modulus with shift outside 0..modulus
- * 20 a rate number or timescale over 4,294,967,295, or over 16,777,216 starts
- * 21 no video given
- * 22 last out end isn't the video's frame count
- * 23 a segment's frame time can't be had: scale 0, or outside 64 bits
- * 24 a segment's frame time differs from out start
- * 25 the end isn't near: |2 end_us scale - 2 end 1,000,000| is over 2 nominal 1,000,000 + scale, where end_us is the last
- *    segment's out start plus duration; the nominal of a constant video is its denominator, and its scale the numerator
- * 30 over 16,777,216 bytes or timestamps
- * 31 missing: the boxes end (fewer than 8 bytes are left) without the one that is looked for, or no frame times can be had;
- *    of st_box_size, no size is whole and fits
- * 32 lent room too small
- * 33 a start, span or end outside 64 bits
- * 34 timestamps not ascending (equal neighbours are allowed)
- * 35 recording without frames
- * 36 broken: before what is looked for stands a broken box header, at the index: its size isn't whole or doesn't fit, or, of
- *    st_find_box with text_types, its type has a byte outside 20..7E hex
- * 40 no MTRM box: no moov, no udta in it, or none in that
- * 41 more than one MTRM box
- * 42 a search range outside the bytes, or starting past its end; an offset past the bytes
- * 50 cut range: a >= b, or b past the map; of st_cuts also an odd number of words
- * 51 map rows malformed, slice lengths that disagree, or no rows
- * 52 over 1,024 rows in or out (all cuts of st_cuts together may have more), or lent room too small
- * 53 joined frames pass 2^64 - 1
- * 54 frame past the map */
+ * range by range, a join's 51 of its first map and then of its second. `31 or 36` is by how a walk over boxes ended. What
+ * each number says stands in enum st_reason, with its name. */
 #ifndef SEGMENT_TABLE_H
 #define SEGMENT_TABLE_H
 
@@ -94,6 +52,91 @@
 #ifdef __cplusplus
 extern "C" {
 #endif
+
+/* Why a call refuses: what each number that is answered says. */
+enum st_reason {
+    /* a slice length isn't a multiple of its record, the two segment slices disagree, a flag or kind is outside its set,
+     * or a present creation time's range leaves the text */
+    ST_MALFORMED = 1,
+    /* over 64 sources or 512 segments */
+    ST_OVER_LIMIT = 2,
+    /* no sources */
+    ST_NO_SOURCES = 3,
+    /* source: frames, or either fps number, is 0 */
+    ST_ZERO_IN_SOURCE = 4,
+    /* source: its creation time fails the UTC rule */
+    ST_BAD_DATE = 5,
+    /* source: its clock rate has a 0, or its modulus is 0 */
+    ST_BAD_CLOCK = 6,
+    /* source: a log is named and it has no clock */
+    ST_NO_CLOCK = 7,
+    /* no segments */
+    ST_NO_SEGMENTS = 8,
+    /* segment: no such source */
+    ST_NO_SUCH_SOURCE = 9,
+    /* segment: frame count 0 */
+    ST_NO_FRAMES = 10,
+    /* segment: out or source first frame plus count passes 2^64 - 1 */
+    ST_FRAMES_WRAP = 11,
+    /* segment: source end past the source's frames */
+    ST_PAST_SOURCE = 12,
+    /* segment: any of the six times negative */
+    ST_NEGATIVE_TIME = 13,
+    /* segment: source start plus duration, or the capture pair, passes 2^63 - 1; tested after 16, out start plus duration
+     * or its capture pair does */
+    ST_TOO_LATE = 14,
+    /* segment: out first frame isn't the end before (0 for the first) */
+    ST_FRAME_GAP = 15,
+    /* segment: out start or out capture start isn't the end before; the first is free */
+    ST_TIME_GAP = 16,
+    /* segment: shift without clock, clock without shift, or a modulus with shift outside 0..modulus */
+    ST_BAD_SHIFT = 17,
+    /* a rate number or timescale over 4,294,967,295, or over 16,777,216 starts */
+    ST_TOO_LARGE = 20,
+    /* no video given */
+    ST_NO_VIDEO = 21,
+    /* last out end isn't the video's frame count */
+    ST_OTHER_FRAME_COUNT = 22,
+    /* a time can't be had: scale 0, or outside 64 bits; of a table, a segment's frame time */
+    ST_NO_FRAME_TIME = 23,
+    /* a segment's frame time differs from out start */
+    ST_OTHER_FRAME_TIME = 24,
+    /* the end isn't near: |2 end_us scale - 2 end 1,000,000| is over 2 nominal 1,000,000 + scale, where end_us is the last
+     * segment's out start plus duration; the nominal of a constant video is its denominator, and its scale the numerator */
+    ST_END_NOT_NEAR = 25,
+    /* over 16,777,216 bytes or timestamps */
+    ST_TOO_LONG = 30,
+    /* missing: the boxes end (fewer than 8 bytes are left) without the one that is looked for, or no frame times can be had;
+     * of st_box_size, no size is whole and fits */
+    ST_MISSING = 31,
+    /* lent room too small (of st_cut, st_cuts, st_join and st_merge that is 52) */
+    ST_NO_ROOM = 32,
+    /* a start, span or end outside 64 bits */
+    ST_OUTSIDE = 33,
+    /* timestamps not ascending (equal neighbours are allowed) */
+    ST_FALLING = 34,
+    /* recording whose frame times can't be had: no frames, or a nominal interval of 0 */
+    ST_NO_RECORDING_TIMES = 35,
+    /* broken: before what is looked for stands a broken box header, at the index: its size isn't whole or doesn't fit, or, of
+     * st_find_box with text_types, its type has a byte outside 20..7E hex */
+    ST_BROKEN = 36,
+    /* no MTRM box: no moov, no udta in it, or none in that */
+    ST_NO_TABLE = 40,
+    /* more than one MTRM box */
+    ST_SEVERAL_TABLES = 41,
+    /* a search range outside the bytes, or starting past its end; an offset past the bytes */
+    ST_BAD_SEARCH = 42,
+    /* cut range: a >= b, or b past the map; of st_cuts also an odd number of words */
+    ST_BAD_RANGE = 50,
+    /* map rows malformed, slice lengths that disagree, or no rows */
+    ST_BAD_ROWS = 51,
+    /* over 1,024 rows in or out (all cuts of one call together may have more), or lent room too small */
+    ST_ROWS_DONT_FIT = 52,
+    /* joined frames pass 2^64 - 1 */
+    ST_JOIN_WRAPS = 53,
+    /* frame past the map */
+    ST_PAST_MAP = 54,
+};
 
 /* ---- Times: the UTC rule, and ticks in microseconds. */
 

@@ -62,10 +62,10 @@ static void clock_calls(void) {
     IS(p == -1);
     ACCEPTED(st_ticks_to_us(INT64_MIN, 1000000, &p, &at));
     IS(p == INT64_MIN);
-    REFUSED_AT(23, 0, st_ticks_to_us(INT64_MAX, 1, &p, &at));
-    REFUSED_AT(23, 0, st_ticks_to_us(1, 0, &p, &at));
-    REFUSED_AT(20, 0, st_ticks_to_us(1, 4294967296, &p, &at));
-    REFUSED_AT(20, 0, st_ticks_to_us(INT64_MIN, MOST, &p, &at));
+    REFUSED_AT(ST_NO_FRAME_TIME, 0, st_ticks_to_us(INT64_MAX, 1, &p, &at));
+    REFUSED_AT(ST_NO_FRAME_TIME, 0, st_ticks_to_us(1, 0, &p, &at));
+    REFUSED_AT(ST_TOO_LARGE, 0, st_ticks_to_us(1, 4294967296, &p, &at));
+    REFUSED_AT(ST_TOO_LARGE, 0, st_ticks_to_us(INT64_MIN, MOST, &p, &at));
 }
 
 /* Table T of document 01: two sources of 100 and 50 frames at 25 fps, rows (A,10,30,0) and (B,5,20,30). */
@@ -100,34 +100,34 @@ static void table_calls(void) {
     IS(x == 50 && at == 0);
 
     /* wrong lengths, no lengths */
-    REFUSED_AT(1, 0, st_check(sources, 19, segments, 10, times, 14, false, NULL, 0, &x, &at));
-    REFUSED_AT(1, 0, st_check(sources, 20, segments, 9, times, 14, false, NULL, 0, &x, &at));
-    REFUSED_AT(1, 0, st_check(sources, 20, segments, 10, times, 13, false, NULL, 0, &x, &at));
-    REFUSED_AT(1, 0, st_check(sources, 20, segments, 10, times, 7, false, NULL, 0, &x, &at));
-    REFUSED_AT(1, 0, st_check(sources, 20, segments, 10, NULL, 0, false, NULL, 0, &x, &at));
-    REFUSED_AT(3, 0, st_check(NULL, 0, NULL, 0, NULL, 0, false, NULL, 0, &x, &at));
-    REFUSED_AT(3, 0, st_check(NULL, 0, segments, 10, times, 14, false, NULL, 0, &x, &at));
-    REFUSED_AT(8, 0, st_check(sources, 20, NULL, 0, NULL, 0, false, NULL, 0, &x, &at));
-    REFUSED_AT(7, 0, st_check(sources, 20, segments, 10, times, 14, true, NULL, 0, &x, &at));
+    REFUSED_AT(ST_MALFORMED, 0, st_check(sources, 19, segments, 10, times, 14, false, NULL, 0, &x, &at));
+    REFUSED_AT(ST_MALFORMED, 0, st_check(sources, 20, segments, 9, times, 14, false, NULL, 0, &x, &at));
+    REFUSED_AT(ST_MALFORMED, 0, st_check(sources, 20, segments, 10, times, 13, false, NULL, 0, &x, &at));
+    REFUSED_AT(ST_MALFORMED, 0, st_check(sources, 20, segments, 10, times, 7, false, NULL, 0, &x, &at));
+    REFUSED_AT(ST_MALFORMED, 0, st_check(sources, 20, segments, 10, NULL, 0, false, NULL, 0, &x, &at));
+    REFUSED_AT(ST_NO_SOURCES, 0, st_check(NULL, 0, NULL, 0, NULL, 0, false, NULL, 0, &x, &at));
+    REFUSED_AT(ST_NO_SOURCES, 0, st_check(NULL, 0, segments, 10, times, 14, false, NULL, 0, &x, &at));
+    REFUSED_AT(ST_NO_SEGMENTS, 0, st_check(sources, 20, NULL, 0, NULL, 0, false, NULL, 0, &x, &at));
+    REFUSED_AT(ST_NO_CLOCK, 0, st_check(sources, 20, segments, 10, times, 14, true, NULL, 0, &x, &at));
 
     /* the largest numbers */
-    REFUSED_AT(1, 0, with(&sources[13], MOST));
-    REFUSED_AT(1, 0, with(&sources[6], MOST));
-    REFUSED_AT(1, 0, with(&segments[4], MOST));
+    REFUSED_AT(ST_MALFORMED, 0, with(&sources[13], MOST));
+    REFUSED_AT(ST_MALFORMED, 0, with(&sources[6], MOST));
+    REFUSED_AT(ST_MALFORMED, 0, with(&segments[4], MOST));
     sources[3] = 1, sources[4] = MOST, sources[5] = MOST;
-    REFUSED_AT(1, 0, check());
+    REFUSED_AT(ST_MALFORMED, 0, check());
     sources[4] = 0, sources[5] = 0;
-    REFUSED_AT(5, 0, check());
+    REFUSED_AT(ST_BAD_DATE, 0, check());
     sources[3] = 0;
-    REFUSED_AT(9, 1, with(&segments[5], MOST));
-    REFUSED_AT(11, 0, with(&segments[2], MOST));
-    REFUSED_AT(11, 1, with(&segments[6], MOST));
-    REFUSED_AT(15, 1, with(&segments[8], 31));
-    REFUSED_AT(13, 1, with_time(&times[7], INT64_MIN));
-    REFUSED_AT(14, 0, with_time(&times[2], INT64_MAX - (times[0] = 1) + 1));
+    REFUSED_AT(ST_NO_SUCH_SOURCE, 1, with(&segments[5], MOST));
+    REFUSED_AT(ST_FRAMES_WRAP, 0, with(&segments[2], MOST));
+    REFUSED_AT(ST_FRAMES_WRAP, 1, with(&segments[6], MOST));
+    REFUSED_AT(ST_FRAME_GAP, 1, with(&segments[8], 31));
+    REFUSED_AT(ST_NEGATIVE_TIME, 1, with_time(&times[7], INT64_MIN));
+    REFUSED_AT(ST_TOO_LATE, 0, with_time(&times[2], INT64_MAX - (times[0] = 1) + 1));
     times[0] = 0;
-    REFUSED_AT(16, 1, with_time(&times[8], INT64_MAX));
-    REFUSED_AT(17, 1, with(&segments[9], 1));
+    REFUSED_AT(ST_TIME_GAP, 1, with_time(&times[8], INT64_MAX));
+    REFUSED_AT(ST_BAD_SHIFT, 1, with(&segments[9], 1));
 
     ACCEPTED(st_segment_of_frame(T, 29, &x, &at));
     IS(x == 0 && at == 0);
@@ -145,9 +145,9 @@ static void table_calls(void) {
     IS(x == 0);
     ACCEPTED(st_continues(T, MOST, &x, &at));
     IS(x == 0);
-    REFUSED_AT(3, 0, st_segment_of_frame(NULL, 0, NULL, 0, NULL, 0, false, NULL, 0, MOST, &x, &at));
-    REFUSED_AT(3, 0, st_segment_of_time_us(NULL, 0, NULL, 0, NULL, 0, false, NULL, 0, INT64_MIN, &x, &at));
-    REFUSED_AT(3, 0, st_continues(NULL, 0, NULL, 0, NULL, 0, false, NULL, 0, MOST, &x, &at));
+    REFUSED_AT(ST_NO_SOURCES, 0, st_segment_of_frame(NULL, 0, NULL, 0, NULL, 0, false, NULL, 0, MOST, &x, &at));
+    REFUSED_AT(ST_NO_SOURCES, 0, st_segment_of_time_us(NULL, 0, NULL, 0, NULL, 0, false, NULL, 0, INT64_MIN, &x, &at));
+    REFUSED_AT(ST_NO_SOURCES, 0, st_continues(NULL, 0, NULL, 0, NULL, 0, false, NULL, 0, MOST, &x, &at));
 }
 
 static bool as_lent(const uint64_t *a, size_t count) {
@@ -161,21 +161,21 @@ static void list_calls(void) {
     uint64_t up[60], down[60], found[61];
 #define OF_FRAMES(frames, count, room) st_segments_of_frames(T, frames, count, found, room, &x, &at)
     for (size_t k = 0; k < 61; k++) found[k] = LENT;
-    REFUSED_AT(32, 0, OF_FRAMES(across, 4, 3));
-    REFUSED_AT(32, 0, OF_FRAMES(across, 1, 0));
-    REFUSED_AT(32, 0, st_segments_of_frames(T, across, 4, NULL, 0, &x, &at));
+    REFUSED_AT(ST_NO_ROOM, 0, OF_FRAMES(across, 4, 3));
+    REFUSED_AT(ST_NO_ROOM, 0, OF_FRAMES(across, 1, 0));
+    REFUSED_AT(ST_NO_ROOM, 0, st_segments_of_frames(T, across, 4, NULL, 0, &x, &at));
     ACCEPTED(st_segments_of_frames(T, NULL, 0, NULL, 0, &x, &at));
     IS(x == 0);
     ACCEPTED(OF_FRAMES(NULL, 0, 61));
     IS(x == 0);
 
     /* the table is tested first */
-    REFUSED_AT(3, 0, st_segments_of_frames(NULL, 0, NULL, 0, NULL, 0, false, NULL, 0, NULL, 0, NULL, 0, &x, &at));
-    REFUSED_AT(1, 0, st_segments_of_frames(sources, 19, segments, 10, times, 14, false, NULL, 0, across, 4, found, 3, &x, &at));
+    REFUSED_AT(ST_NO_SOURCES, 0, st_segments_of_frames(NULL, 0, NULL, 0, NULL, 0, false, NULL, 0, NULL, 0, NULL, 0, &x, &at));
+    REFUSED_AT(ST_MALFORMED, 0, st_segments_of_frames(sources, 19, segments, 10, times, 14, false, NULL, 0, across, 4, found, 3, &x, &at));
     segments[8] = 31;
-    REFUSED_AT(15, 1, st_segments_of_frames(T, NULL, 0, NULL, 0, &x, &at));
-    REFUSED_AT(15, 1, OF_FRAMES(across, 4, 3));
-    REFUSED_AT(15, 1, OF_FRAMES(across, 4, 61));
+    REFUSED_AT(ST_FRAME_GAP, 1, st_segments_of_frames(T, NULL, 0, NULL, 0, &x, &at));
+    REFUSED_AT(ST_FRAME_GAP, 1, OF_FRAMES(across, 4, 3));
+    REFUSED_AT(ST_FRAME_GAP, 1, OF_FRAMES(across, 4, 61));
     segments[8] = 30;
     IS(as_lent(found, 61));
 
@@ -218,18 +218,18 @@ static void record_calls(void) {
         }
         ACCEPTED(RECORDS(r, 2, MOST));
         IS(x == 1);
-        REFUSED_AT(8, 0, RECORDS(NULL, 0, 0));
-        REFUSED_AT(3, 0, st_segment_of_frame_records(NULL, 0, NULL, 0, r, 2, false, MOST, &x, &at));
-        REFUSED_AT(1, 0, st_segment_of_frame_records(sources, 19, NULL, 0, r, 2, false, 0, &x, &at));
-        REFUSED_AT(7, 0, st_segment_of_frame_records(sources, 20, NULL, 0, r, 2, true, 0, &x, &at));
+        REFUSED_AT(ST_NO_SEGMENTS, 0, RECORDS(NULL, 0, 0));
+        REFUSED_AT(ST_NO_SOURCES, 0, st_segment_of_frame_records(NULL, 0, NULL, 0, r, 2, false, MOST, &x, &at));
+        REFUSED_AT(ST_MALFORMED, 0, st_segment_of_frame_records(sources, 19, NULL, 0, r, 2, false, 0, &x, &at));
+        REFUSED_AT(ST_NO_CLOCK, 0, st_segment_of_frame_records(sources, 20, NULL, 0, r, 2, true, 0, &x, &at));
         r[1].shift_present = true;
-        REFUSED_AT(17, 1, RECORDS(r, 2, 0));
+        REFUSED_AT(ST_BAD_SHIFT, 1, RECORDS(r, 2, 0));
         r[1].shift_present = false, r[1].capture_duration_us = INT64_MIN;
-        REFUSED_AT(13, 1, RECORDS(r, 2, 0));
+        REFUSED_AT(ST_NEGATIVE_TIME, 1, RECORDS(r, 2, 0));
         r[1].frame_count = MOST;
-        REFUSED_AT(11, 1, RECORDS(r, 2, 0));
+        REFUSED_AT(ST_FRAMES_WRAP, 1, RECORDS(r, 2, 0));
         r[0].source = MOST;
-        REFUSED_AT(9, 0, RECORDS(r, 2, 0));
+        REFUSED_AT(ST_NO_SUCH_SOURCE, 0, RECORDS(r, 2, 0));
     }
 }
 
@@ -262,9 +262,9 @@ static void map_calls(void) {
     ACCEPTED(st_rows_of_table(T, out, 15, moved, 3, &x, &at));
     IS(x == 2 && row(0, 0, 10, 30, 0) && row(1, 1, 5, 20, 30) && untouched(2));
     fresh();
-    REFUSED_AT(32, 0, st_rows_of_table(T, out, 9, moved, 2, &x, &at));
-    REFUSED_AT(32, 0, st_rows_of_table(T, out, 10, moved, 1, &x, &at));
-    REFUSED_AT(32, 0, st_rows_of_table(T, NULL, 0, NULL, 0, &x, &at));
+    REFUSED_AT(ST_NO_ROOM, 0, st_rows_of_table(T, out, 9, moved, 2, &x, &at));
+    REFUSED_AT(ST_NO_ROOM, 0, st_rows_of_table(T, out, 10, moved, 1, &x, &at));
+    REFUSED_AT(ST_NO_ROOM, 0, st_rows_of_table(T, NULL, 0, NULL, 0, &x, &at));
     IS(untouched(0));
 
     /* the first lesson: cut across the join, cut the result again */
@@ -279,21 +279,21 @@ static void map_calls(void) {
     IS(x == 1 && y == 5 && z == 0 && p == 0 && at == 0);
 
     fresh();
-    REFUSED_AT(50, 0, st_cut(map, 10, none, 2, 40, 40, out, 15, moved, 3, &x, &at));
-    REFUSED_AT(50, 0, st_cut(map, 10, none, 2, 0, 51, out, 15, moved, 3, &x, &at));
-    REFUSED_AT(50, 0, st_cut(map, 10, none, 2, MOST, MOST, out, 15, moved, 3, &x, &at));
-    REFUSED_AT(51, 0, st_cut(NULL, 0, NULL, 0, 0, MOST, out, 15, moved, 3, &x, &at));
-    REFUSED_AT(51, 0, st_cut(map, 9, none, 2, 0, 1, out, 15, moved, 3, &x, &at));
-    REFUSED_AT(51, 0, st_cut(map, 10, none, 1, 0, 1, out, 15, moved, 3, &x, &at));
-    REFUSED_AT(51, 1, st_cut((const uint64_t[]){0, 10, 30, 0, 0, 1, 5, 20, 31, 0}, 10, none, 2, 0, 1, out, 15, moved, 3, &x, &at));
-    REFUSED_AT(51, 0, st_cut((const uint64_t[]){0, MOST, MOST, 0, 0}, 5, none, 1, 0, 1, out, 15, moved, 3, &x, &at));
-    REFUSED_AT(52, 0, st_cut(map, 10, none, 2, 0, 50, out, 9, moved, 3, &x, &at));
-    REFUSED_AT(52, 0, st_cut(map, 10, none, 2, 0, 50, NULL, 0, NULL, 0, &x, &at));
-    REFUSED_AT(53, 0, st_join(full, 5, none, 1, one, 5, none, 1, out, 15, moved, 3, &x, &at));
-    REFUSED_AT(51, 0, st_join(one, 5, none, 1, NULL, 0, NULL, 0, out, 15, moved, 3, &x, &at));
-    REFUSED_AT(52, 0, st_join(map, 10, none, 2, map, 10, none, 2, out, 15, moved, 3, &x, &at));
-    REFUSED_AT(51, 0, st_merge(NULL, 0, NULL, 0, out, 15, moved, 3, &x, &at));
-    REFUSED_AT(52, 0, st_merge(map, 10, none, 2, out, 5, moved, 1, &x, &at));
+    REFUSED_AT(ST_BAD_RANGE, 0, st_cut(map, 10, none, 2, 40, 40, out, 15, moved, 3, &x, &at));
+    REFUSED_AT(ST_BAD_RANGE, 0, st_cut(map, 10, none, 2, 0, 51, out, 15, moved, 3, &x, &at));
+    REFUSED_AT(ST_BAD_RANGE, 0, st_cut(map, 10, none, 2, MOST, MOST, out, 15, moved, 3, &x, &at));
+    REFUSED_AT(ST_BAD_ROWS, 0, st_cut(NULL, 0, NULL, 0, 0, MOST, out, 15, moved, 3, &x, &at));
+    REFUSED_AT(ST_BAD_ROWS, 0, st_cut(map, 9, none, 2, 0, 1, out, 15, moved, 3, &x, &at));
+    REFUSED_AT(ST_BAD_ROWS, 0, st_cut(map, 10, none, 1, 0, 1, out, 15, moved, 3, &x, &at));
+    REFUSED_AT(ST_BAD_ROWS, 1, st_cut((const uint64_t[]){0, 10, 30, 0, 0, 1, 5, 20, 31, 0}, 10, none, 2, 0, 1, out, 15, moved, 3, &x, &at));
+    REFUSED_AT(ST_BAD_ROWS, 0, st_cut((const uint64_t[]){0, MOST, MOST, 0, 0}, 5, none, 1, 0, 1, out, 15, moved, 3, &x, &at));
+    REFUSED_AT(ST_ROWS_DONT_FIT, 0, st_cut(map, 10, none, 2, 0, 50, out, 9, moved, 3, &x, &at));
+    REFUSED_AT(ST_ROWS_DONT_FIT, 0, st_cut(map, 10, none, 2, 0, 50, NULL, 0, NULL, 0, &x, &at));
+    REFUSED_AT(ST_JOIN_WRAPS, 0, st_join(full, 5, none, 1, one, 5, none, 1, out, 15, moved, 3, &x, &at));
+    REFUSED_AT(ST_BAD_ROWS, 0, st_join(one, 5, none, 1, NULL, 0, NULL, 0, out, 15, moved, 3, &x, &at));
+    REFUSED_AT(ST_ROWS_DONT_FIT, 0, st_join(map, 10, none, 2, map, 10, none, 2, out, 15, moved, 3, &x, &at));
+    REFUSED_AT(ST_BAD_ROWS, 0, st_merge(NULL, 0, NULL, 0, out, 15, moved, 3, &x, &at));
+    REFUSED_AT(ST_ROWS_DONT_FIT, 0, st_merge(map, 10, none, 2, out, 5, moved, 1, &x, &at));
     IS(untouched(0));
     ACCEPTED(st_join(one, 5, none, 1, map, 10, none, 2, out, 15, moved, 3, &x, &at));
     IS(x == 3 && row(0, 0, 0, 1, 0) && row(1, 0, 10, 30, 1) && row(2, 1, 5, 20, 31));
@@ -303,8 +303,8 @@ static void map_calls(void) {
 
     ACCEPTED(st_origin(full, 5, none, 1, MOST - 1, &x, &y, &z, &p, &at));
     IS(x == 0 && y == MOST - 1);
-    REFUSED_AT(54, 0, st_origin(full, 5, none, 1, MOST, &x, &y, &z, &p, &at));
-    REFUSED_AT(51, 0, st_origin(NULL, 0, NULL, 0, 0, &x, &y, &z, &p, &at));
+    REFUSED_AT(ST_PAST_MAP, 0, st_origin(full, 5, none, 1, MOST, &x, &y, &z, &p, &at));
+    REFUSED_AT(ST_BAD_ROWS, 0, st_origin(NULL, 0, NULL, 0, 0, &x, &y, &z, &p, &at));
 }
 
 /* The cuts of a list: of each range what the single one writes, in any order, into room for twelve rows and four numbers. */
@@ -322,22 +322,22 @@ static void cut_calls(void) {
     for (size_t k = 0; k < 4; k++) counts[k] = LENT;
 
     /* room: the four cuts have nine rows */
-    REFUSED_AT(52, 0, CUTS(across, 8, 44, 12, 4));
-    REFUSED_AT(52, 0, CUTS(across, 8, 60, 8, 4));
-    REFUSED_AT(52, 0, CUTS(across, 8, 60, 12, 3));
-    REFUSED_AT(52, 0, st_cuts(map, 15, some, 3, across, 8, NULL, 0, NULL, 0, NULL, 0, &x, &at));
+    REFUSED_AT(ST_ROWS_DONT_FIT, 0, CUTS(across, 8, 44, 12, 4));
+    REFUSED_AT(ST_ROWS_DONT_FIT, 0, CUTS(across, 8, 60, 8, 4));
+    REFUSED_AT(ST_ROWS_DONT_FIT, 0, CUTS(across, 8, 60, 12, 3));
+    REFUSED_AT(ST_ROWS_DONT_FIT, 0, st_cuts(map, 15, some, 3, across, 8, NULL, 0, NULL, 0, NULL, 0, &x, &at));
     /* the map is tested first, then the list's length, then its ranges */
-    REFUSED_AT(51, 0, st_cuts(NULL, 0, NULL, 0, NULL, 0, NULL, 0, NULL, 0, NULL, 0, &x, &at));
-    REFUSED_AT(51, 0, st_cuts(map, 14, some, 3, bad, 7, rows, 60, ticks, 12, counts, 4, &x, &at));
-    REFUSED_AT(51, 0, st_cuts(map, 15, some, 2, bad, 8, rows, 60, ticks, 12, counts, 4, &x, &at));
-    REFUSED_AT(51, 1, st_cuts(gap, 15, some, 3, bad, 7, rows, 60, ticks, 12, counts, 4, &x, &at));
-    REFUSED_AT(51, 1, st_cuts(gap, 15, some, 3, NULL, 0, NULL, 0, NULL, 0, NULL, 0, &x, &at));
-    REFUSED_AT(50, 3, CUTS(bad, 7, 60, 12, 4));
-    REFUSED_AT(50, 0, CUTS(across, 1, 60, 12, 4));
-    REFUSED_AT(50, 1, CUTS(bad, 8, 0, 0, 0));
-    REFUSED_AT(50, 0, CUTS(bad + 4, 4, 60, 12, 4));
-    REFUSED_AT(50, 0, CUTS(bad + 6, 2, 60, 12, 4));
-    REFUSED_AT(50, 0, CUTS(((const uint64_t[]){MOST, MOST}), 2, 60, 12, 4));
+    REFUSED_AT(ST_BAD_ROWS, 0, st_cuts(NULL, 0, NULL, 0, NULL, 0, NULL, 0, NULL, 0, NULL, 0, &x, &at));
+    REFUSED_AT(ST_BAD_ROWS, 0, st_cuts(map, 14, some, 3, bad, 7, rows, 60, ticks, 12, counts, 4, &x, &at));
+    REFUSED_AT(ST_BAD_ROWS, 0, st_cuts(map, 15, some, 2, bad, 8, rows, 60, ticks, 12, counts, 4, &x, &at));
+    REFUSED_AT(ST_BAD_ROWS, 1, st_cuts(gap, 15, some, 3, bad, 7, rows, 60, ticks, 12, counts, 4, &x, &at));
+    REFUSED_AT(ST_BAD_ROWS, 1, st_cuts(gap, 15, some, 3, NULL, 0, NULL, 0, NULL, 0, NULL, 0, &x, &at));
+    REFUSED_AT(ST_BAD_RANGE, 3, CUTS(bad, 7, 60, 12, 4));
+    REFUSED_AT(ST_BAD_RANGE, 0, CUTS(across, 1, 60, 12, 4));
+    REFUSED_AT(ST_BAD_RANGE, 1, CUTS(bad, 8, 0, 0, 0));
+    REFUSED_AT(ST_BAD_RANGE, 0, CUTS(bad + 4, 4, 60, 12, 4));
+    REFUSED_AT(ST_BAD_RANGE, 0, CUTS(bad + 6, 2, 60, 12, 4));
+    REFUSED_AT(ST_BAD_RANGE, 0, CUTS(((const uint64_t[]){MOST, MOST}), 2, 60, 12, 4));
     ACCEPTED(CUTS(NULL, 0, 60, 12, 4));
     IS(x == 0);
     ACCEPTED(st_cuts(map, 15, some, 3, NULL, 0, NULL, 0, NULL, 0, NULL, 0, &x, &at));
@@ -366,8 +366,8 @@ static void cut_calls(void) {
         ACCEPTED(st_cuts(many, 5 * 1024, zeros, 1024, thrice, 6, all, 5 * 3072, rest, 3072, counts, 3, &x, &at));
         IS(x == 3072 && counts[0] == 1024 && counts[1] == 1024 && counts[2] == 1024);
         for (size_t k = 0; k < 3; k++) IS(memcmp(all + 5 * 1024 * k, many, 40 * 1024) == 0 && memcmp(rest + 1024 * k, zeros, 8 * 1024) == 0);
-        REFUSED_AT(52, 0, st_cuts(many, 5 * 1024, zeros, 1024, thrice, 6, all, 5 * 3072 - 1, rest, 3072, counts, 3, &x, &at));
-        REFUSED_AT(52, 0, st_cuts(many, 5 * 1025, zeros, 1025, bad + 1, 7, all, 5 * 3072, rest, 3072, counts, 3, &x, &at));
+        REFUSED_AT(ST_ROWS_DONT_FIT, 0, st_cuts(many, 5 * 1024, zeros, 1024, thrice, 6, all, 5 * 3072 - 1, rest, 3072, counts, 3, &x, &at));
+        REFUSED_AT(ST_ROWS_DONT_FIT, 0, st_cuts(many, 5 * 1025, zeros, 1025, bad + 1, 7, all, 5 * 3072, rest, 3072, counts, 3, &x, &at));
     }
     free(many), free(all), free(zeros), free(rest);
 }
@@ -398,63 +398,63 @@ static void box_calls(void) {
         ACCEPTED(st_table_text(file, 40, &x, &y, &at));
         IS(x == 35 && y == 5 && memcmp(file + x, "table", 5) == 0);
         ACCEPTED(st_find_box(file, 40, 0, 40, code("moov"), true, &x, &y, &at));
-        IS(x == 19 && y == 21);
+        IS(x == 19 && y == ST_NO_VIDEO);
         ACCEPTED(st_children(file, 40, 0, FOUND));
         IS(kind == code("free") && x == 8 && y == 3 && z == 11);
         ACCEPTED(st_children(file, 40, 11, FOUND));
-        IS(kind == code("moov") && x == 19 && y == 21 && z == 40);
-        REFUSED_AT(31, 0, st_children(file, 40, 40, FOUND));
-        REFUSED_AT(31, 0, st_children(file, 40, 33, FOUND));
-        REFUSED_AT(36, 32, st_children(file, 40, 32, FOUND));
-        REFUSED_AT(36, 11, st_children(file, 39, 11, FOUND));
-        REFUSED_AT(42, 0, st_children(file, 40, 41, FOUND));
-        REFUSED_AT(42, 0, st_children(file, 40, MOST, FOUND));
+        IS(kind == code("moov") && x == 19 && y == ST_NO_VIDEO && z == 40);
+        REFUSED_AT(ST_MISSING, 0, st_children(file, 40, 40, FOUND));
+        REFUSED_AT(ST_MISSING, 0, st_children(file, 40, 33, FOUND));
+        REFUSED_AT(ST_BROKEN, 32, st_children(file, 40, 32, FOUND));
+        REFUSED_AT(ST_BROKEN, 11, st_children(file, 39, 11, FOUND));
+        REFUSED_AT(ST_BAD_SEARCH, 0, st_children(file, 40, 41, FOUND));
+        REFUSED_AT(ST_BAD_SEARCH, 0, st_children(file, 40, MOST, FOUND));
         ACCEPTED(st_child(file, 40, code("free"), &x, &y, &at));
         IS(x == 8 && y == 3);
         ACCEPTED(st_box_size(file + 11, 29, 29, &x, &y, &at));
         IS(x == 29 && y == 8);
-        REFUSED_AT(31, 0, st_box_size(file + 11, 29, 28, &x, &y, &at));
-        REFUSED_AT(31, 0, st_child(file, 40, code("udta"), &x, &y, &at));
-        REFUSED_AT(40, 0, st_table_text(file, 39, &x, &y, &at));
-        REFUSED_AT(42, 0, st_find_box(file, 40, 0, 41, code("moov"), true, &x, &y, &at));
-        REFUSED_AT(42, 0, st_find_box(file, 40, 40, 39, code("moov"), true, &x, &y, &at));
-        REFUSED_AT(42, 0, st_find_box(file, 40, MOST, MOST, code("moov"), false, &x, &y, &at));
-        REFUSED_AT(42, 0, st_find_box(file, 40, 0, MOST, MOST >> 32, false, &x, &y, &at));
+        REFUSED_AT(ST_MISSING, 0, st_box_size(file + 11, 29, 28, &x, &y, &at));
+        REFUSED_AT(ST_MISSING, 0, st_child(file, 40, code("udta"), &x, &y, &at));
+        REFUSED_AT(ST_NO_TABLE, 0, st_table_text(file, 39, &x, &y, &at));
+        REFUSED_AT(ST_BAD_SEARCH, 0, st_find_box(file, 40, 0, 41, code("moov"), true, &x, &y, &at));
+        REFUSED_AT(ST_BAD_SEARCH, 0, st_find_box(file, 40, 40, 39, code("moov"), true, &x, &y, &at));
+        REFUSED_AT(ST_BAD_SEARCH, 0, st_find_box(file, 40, MOST, MOST, code("moov"), false, &x, &y, &at));
+        REFUSED_AT(ST_BAD_SEARCH, 0, st_find_box(file, 40, 0, MOST, MOST >> 32, false, &x, &y, &at));
         box(file, "moov", 24);
         box(file + 8, "udta", 16);
         box(file + 16, "MTRM", 0);
         box(file + 24, "MTRM", 0);
-        REFUSED_AT(41, 0, st_table_text(file, 32, &x, &y, &at));
+        REFUSED_AT(ST_SEVERAL_TABLES, 0, st_table_text(file, 32, &x, &y, &at));
     }
-    REFUSED_AT(31, 0, st_box_size(NULL, 0, MOST, &x, &y, &at));
-    REFUSED_AT(31, 0, st_children(NULL, 0, 0, FOUND));
-    REFUSED_AT(42, 0, st_children(NULL, 0, 1, FOUND));
-    REFUSED_AT(42, 0, st_children(NULL, 0, MOST, FOUND));
-    REFUSED_AT(31, 0, st_child(NULL, 0, 0, &x, &y, &at));
-    REFUSED_AT(31, 0, st_find_box(NULL, 0, 0, 0, 0, true, &x, &y, &at));
-    REFUSED_AT(40, 0, st_table_text(NULL, 0, &x, &y, &at));
+    REFUSED_AT(ST_MISSING, 0, st_box_size(NULL, 0, MOST, &x, &y, &at));
+    REFUSED_AT(ST_MISSING, 0, st_children(NULL, 0, 0, FOUND));
+    REFUSED_AT(ST_BAD_SEARCH, 0, st_children(NULL, 0, 1, FOUND));
+    REFUSED_AT(ST_BAD_SEARCH, 0, st_children(NULL, 0, MOST, FOUND));
+    REFUSED_AT(ST_MISSING, 0, st_child(NULL, 0, 0, &x, &y, &at));
+    REFUSED_AT(ST_MISSING, 0, st_find_box(NULL, 0, 0, 0, 0, true, &x, &y, &at));
+    REFUSED_AT(ST_NO_TABLE, 0, st_table_text(NULL, 0, &x, &y, &at));
     if (large) {
-        REFUSED_AT(30, 0, st_box_size(large, 16777217, MOST, &x, &y, &at));
-        REFUSED_AT(30, 0, st_children(large, 16777217, 0, FOUND));
-        REFUSED_AT(30, 0, st_children(large, 16777217, MOST, FOUND));
+        REFUSED_AT(ST_TOO_LONG, 0, st_box_size(large, 16777217, MOST, &x, &y, &at));
+        REFUSED_AT(ST_TOO_LONG, 0, st_children(large, 16777217, 0, FOUND));
+        REFUSED_AT(ST_TOO_LONG, 0, st_children(large, 16777217, MOST, FOUND));
         ACCEPTED(st_children(large, 16777216, 0, FOUND)); /* size 0: to the end */
         IS(kind == 0 && x == 8 && y == 16777208 && z == 16777216);
-        REFUSED_AT(30, 0, st_child(large, 16777217, 0, &x, &y, &at));
-        REFUSED_AT(30, 0, st_find_box(large, 16777217, 0, 0, 0, true, &x, &y, &at));
-        REFUSED_AT(30, 0, st_table_text(large, 16777217, &x, &y, &at));
+        REFUSED_AT(ST_TOO_LONG, 0, st_child(large, 16777217, 0, &x, &y, &at));
+        REFUSED_AT(ST_TOO_LONG, 0, st_find_box(large, 16777217, 0, 0, 0, true, &x, &y, &at));
+        REFUSED_AT(ST_TOO_LONG, 0, st_table_text(large, 16777217, &x, &y, &at));
     }
     free(large);
 }
 
 /* Each walk over boxes that meets no moov before the broken header at an offset: 36 with that offset, of the whole and of the range
  * from there on; the search for a table gives 40. */
-#define BROKEN(file, length, offset)                                                                        \
-    do {                                                                                                    \
-        REFUSED_AT(36, offset, st_children(file, length, offset, FOUND));                                   \
-        REFUSED_AT(36, offset, st_child(file, length, code("moov"), &x, &y, &at));                          \
-        REFUSED_AT(36, offset, st_find_box(file, length, 0, length, code("moov"), false, &x, &y, &at));     \
-        REFUSED_AT(36, offset, st_find_box(file, length, offset, length, code("moov"), true, &x, &y, &at)); \
-        REFUSED_AT(40, 0, st_table_text(file, length, &x, &y, &at));                                        \
+#define BROKEN(file, length, offset)                                                                               \
+    do {                                                                                                           \
+        REFUSED_AT(ST_BROKEN, offset, st_children(file, length, offset, FOUND));                                   \
+        REFUSED_AT(ST_BROKEN, offset, st_child(file, length, code("moov"), &x, &y, &at));                          \
+        REFUSED_AT(ST_BROKEN, offset, st_find_box(file, length, 0, length, code("moov"), false, &x, &y, &at));     \
+        REFUSED_AT(ST_BROKEN, offset, st_find_box(file, length, offset, length, code("moov"), true, &x, &y, &at)); \
+        REFUSED_AT(ST_NO_TABLE, 0, st_table_text(file, length, &x, &y, &at));                                      \
     } while (0)
 
 /* Two boxes of 8 bytes, then one whose size is broken, then a moov. */
@@ -463,9 +463,9 @@ static void broken_sizes(void) {
     uint8_t file[40];
     box(box(file, "free", 0), "free", 0);
     for (size_t left = 0; left < 8; left++) {
-        REFUSED_AT(31, 0, st_children(file, 8 + left, 8, FOUND));
-        REFUSED_AT(31, 0, st_child(file, 8 + left, code("moov"), &x, &y, &at));
-        REFUSED_AT(31, 0, st_find_box(file, 16, 0, 8 + left, code("moov"), true, &x, &y, &at));
+        REFUSED_AT(ST_MISSING, 0, st_children(file, 8 + left, 8, FOUND));
+        REFUSED_AT(ST_MISSING, 0, st_child(file, 8 + left, code("moov"), &x, &y, &at));
+        REFUSED_AT(ST_MISSING, 0, st_find_box(file, 16, 0, 8 + left, code("moov"), true, &x, &y, &at));
     }
     box(box(file + 16, "torn", 0), "moov", 0);
     ACCEPTED(st_child(file, 32, code("moov"), &x, &y, &at));
@@ -475,9 +475,9 @@ static void broken_sizes(void) {
         BROKEN(file, 32, 16);
     }
     /* the offset is that in the whole, wherever the range starts and ends */
-    REFUSED_AT(36, 16, st_find_box(file, 32, 8, 32, code("moov"), false, &x, &y, &at));
-    REFUSED_AT(36, 16, st_find_box(file, 32, 8, 24, code("moov"), true, &x, &y, &at));
-    REFUSED_AT(31, 0, st_find_box(file, 32, 8, 23, code("moov"), true, &x, &y, &at));
+    REFUSED_AT(ST_BROKEN, 16, st_find_box(file, 32, 8, 32, code("moov"), false, &x, &y, &at));
+    REFUSED_AT(ST_BROKEN, 16, st_find_box(file, 32, 8, 24, code("moov"), true, &x, &y, &at));
+    REFUSED_AT(ST_MISSING, 0, st_find_box(file, 32, 8, 23, code("moov"), true, &x, &y, &at));
     ACCEPTED(st_find_box(file, 32, 24, 32, code("moov"), true, &x, &y, &at));
     IS(x == 32 && y == 0);
 
@@ -485,7 +485,7 @@ static void broken_sizes(void) {
     box(put(put(put(put(file + 16, 1), code("long")), 0), 16), "moov", 0);
     ACCEPTED(st_child(file, 40, code("moov"), &x, &y, &at));
     IS(x == 40 && y == 0);
-    REFUSED_AT(31, 0, st_child(file, 32, code("moov"), &x, &y, &at));
+    REFUSED_AT(ST_MISSING, 0, st_child(file, 32, code("moov"), &x, &y, &at));
     for (size_t length = 24; length < 32; length++) BROKEN(file, length, 16);
     for (size_t k = 0; k < COUNT(large_sizes); k++) {
         put(put(file + 24, large_sizes[k][0]), large_sizes[k][1]);
@@ -506,8 +506,8 @@ static void broken_types(void) {
         }
         for (size_t e = 0; e < COUNT(past); e++) {
             file[k] = past[e];
-            REFUSED_AT(36, 16, st_find_box(file, 32, 8, 32, code("moov"), true, &x, &y, &at));
-            REFUSED_AT(36, 16, st_find_box(file, 32, 8, 32, code((const char *)file + 20), true, &x, &y, &at));
+            REFUSED_AT(ST_BROKEN, 16, st_find_box(file, 32, 8, 32, code("moov"), true, &x, &y, &at));
+            REFUSED_AT(ST_BROKEN, 16, st_find_box(file, 32, 8, 32, code((const char *)file + 20), true, &x, &y, &at));
             ACCEPTED(st_find_box(file, 32, 8, 32, code("moov"), false, &x, &y, &at));
             IS(x == 32 && y == 0);
         }
@@ -528,7 +528,7 @@ static void broken_tables(void) {
         ACCEPTED(st_table_text(file, 32, &x, &y, &at));
         IS(x == 32 && y == 0);
         put(torn, 7);
-        REFUSED_AT(40, 0, st_table_text(file, 32, &x, &y, &at));
+        REFUSED_AT(ST_NO_TABLE, 0, st_table_text(file, 32, &x, &y, &at));
     }
 }
 
@@ -554,14 +554,14 @@ static void recording_calls(void) {
     IS(starts[0] == 0 && starts[1] == 10 && starts[2] == 25 && starts[3] == 9);
     IS(work[0] == 0 && work[1] == 0 && work[2] == 0);
     work[0] = work[1] = work[2] = 9;
-    REFUSED_AT(32, 0, st_mcraw_times(stamps, 3, starts, 2, work, 3, WORDS));
+    REFUSED_AT(ST_NO_ROOM, 0, st_mcraw_times(stamps, 3, starts, 2, work, 3, WORDS));
     IS(starts[0] == 0 && starts[1] == 10 && work[0] == 0 && work[1] == 0 && work[2] == 0);
-    REFUSED_AT(32, 0, st_mcraw_times(stamps, 3, starts, 4, NULL, 0, WORDS));
-    REFUSED_AT(34, 2, st_mcraw_times(falling, 3, starts, 4, work, 3, WORDS));
-    REFUSED_AT(33, 0, st_mcraw_times(wide, 2, starts, 4, work, 3, WORDS));
-    REFUSED_AT(31, 0, st_mcraw_times(stamps, 1, starts, 4, work, 3, WORDS));
-    REFUSED_AT(31, 0, st_mcraw_times(NULL, 0, NULL, 0, NULL, 0, WORDS));
-    if (many) REFUSED_AT(30, 0, st_mcraw_times(many, 16777217, starts, 4, work, 3, WORDS));
+    REFUSED_AT(ST_NO_ROOM, 0, st_mcraw_times(stamps, 3, starts, 4, NULL, 0, WORDS));
+    REFUSED_AT(ST_FALLING, 2, st_mcraw_times(falling, 3, starts, 4, work, 3, WORDS));
+    REFUSED_AT(ST_OUTSIDE, 0, st_mcraw_times(wide, 2, starts, 4, work, 3, WORDS));
+    REFUSED_AT(ST_MISSING, 0, st_mcraw_times(stamps, 1, starts, 4, work, 3, WORDS));
+    REFUSED_AT(ST_MISSING, 0, st_mcraw_times(NULL, 0, NULL, 0, NULL, 0, WORDS));
+    if (many) REFUSED_AT(ST_TOO_LONG, 0, st_mcraw_times(many, 16777217, starts, 4, work, 3, WORDS));
     free(many);
 }
 
@@ -583,21 +583,21 @@ static void movie_calls(bool standard) {
         IS(x == 3 && y == 25 && p == 1 && q == 4 && zero(a, 3) && zero(b, 3));
         IS(starts[0] == 0 && starts[1] == 1 && starts[2] == 2 && starts[3] == 9);
         a[0] = b[0] = starts[0] = 9;
-        REFUSED_AT(32, 0, st_video_frame_times_of_moov(moov, n, standard, starts, 2, a, 3, b, 3, TIMES));
-        REFUSED_AT(32, 0, st_video_frame_times_of_moov(moov, n, standard, starts, 4, a, 3, b, 2, TIMES));
-        REFUSED_AT(32, 0, st_video_frame_times_of_moov(moov, n, standard, NULL, 0, NULL, 0, NULL, 0, TIMES));
+        REFUSED_AT(ST_NO_ROOM, 0, st_video_frame_times_of_moov(moov, n, standard, starts, 2, a, 3, b, 3, TIMES));
+        REFUSED_AT(ST_NO_ROOM, 0, st_video_frame_times_of_moov(moov, n, standard, starts, 4, a, 3, b, 2, TIMES));
+        REFUSED_AT(ST_NO_ROOM, 0, st_video_frame_times_of_moov(moov, n, standard, NULL, 0, NULL, 0, NULL, 0, TIMES));
         IS(starts[0] == 9 && zero(a, 3) && zero(b, 3));
         for (size_t less = 0; less < n; less++) { /* every shorter moov: of its mvhd, or of its trak, a header is left or less */
             const size_t last = less < 24 ? 0 : 24, header = last + 8 <= less;
-            REFUSED_AT(header ? 36 : 31, header * last, st_video_frame_times_of_moov(moov, less, standard, starts, 4, a, 3, b, 3, TIMES));
+            REFUSED_AT(header ? ST_BROKEN : ST_MISSING, header * last, st_video_frame_times_of_moov(moov, less, standard, starts, 4, a, 3, b, 3, TIMES));
         }
         n = make_moov(moov, 25, (const uint32_t[]){1, UINT32_MAX, UINT32_MAX, UINT32_MAX}, 4);
-        REFUSED_AT(31, 0, st_video_frame_times_of_moov(moov, n, standard, starts, 4, a, 3, b, 3, TIMES));
+        REFUSED_AT(ST_MISSING, 0, st_video_frame_times_of_moov(moov, n, standard, starts, 4, a, 3, b, 3, TIMES));
         n = make_moov(moov, UINT32_MAX, (const uint32_t[]){2, UINT32_MAX}, 2);
         ACCEPTED(st_video_frame_times_of_moov(moov, n, standard, starts, 4, a, 3, b, 3, TIMES));
         IS(x == 2 && y == UINT32_MAX && p == UINT32_MAX && q == 2 * (int64_t)UINT32_MAX && starts[1] == UINT32_MAX);
     }
-    REFUSED_AT(31, 0, st_video_frame_times_of_moov(NULL, 0, standard, NULL, 0, NULL, 0, NULL, 0, TIMES));
+    REFUSED_AT(ST_MISSING, 0, st_video_frame_times_of_moov(NULL, 0, standard, NULL, 0, NULL, 0, NULL, 0, TIMES));
 }
 
 /* Where the box of a type starts in a movie. */
@@ -663,15 +663,15 @@ static void hidden_calls(bool standard) {
     size_t n;
     for (size_t k = 0; k < COUNT(needed); k++) {
         n = make_torn(needed[k]);
-        REFUSED_AT(36, where(movie, needed[k]) - 8, times_of(standard, n));
+        REFUSED_AT(ST_BROKEN, where(movie, needed[k]) - 8, times_of(standard, n));
         IS(shown[0] == 9 && shown[1] == 9 && shown[2] == 9 && zero(spare, 6));
     }
     /* of a track that isn't known to be of video, how the moov itself ends counts */
     for (size_t k = 0; k < COUNT(naming); k++) {
         n = make_torn(naming[k]);
-        REFUSED_AT(31, 0, times_of(standard, n));
+        REFUSED_AT(ST_MISSING, 0, times_of(standard, n));
         n = torn_at(movie, n, n);
-        REFUSED_AT(36, n - 8, times_of(standard, n));
+        REFUSED_AT(ST_BROKEN, n - 8, times_of(standard, n));
     }
 }
 
@@ -694,11 +694,11 @@ static void shown_calls(bool standard) {
 static void sound_calls(bool standard) {
     size_t n = make_edited();
     memcpy(movie + where(movie, "hdlr") + 16, "soun", 4);
-    for (size_t more = 0; more < 8; more++) REFUSED_AT(31, 0, times_of(standard, n + more));
+    for (size_t more = 0; more < 8; more++) REFUSED_AT(ST_MISSING, 0, times_of(standard, n + more));
     n = torn_at(movie, n, n);
-    REFUSED_AT(36, n - 8, times_of(standard, n));
+    REFUSED_AT(ST_BROKEN, n - 8, times_of(standard, n));
     movie[8] = 1; /* a mvhd of version 1 is longer */
-    REFUSED_AT(31, 0, times_of(standard, n));
+    REFUSED_AT(ST_MISSING, 0, times_of(standard, n));
 }
 
 /* The movie: three frames of 10 ticks, and a ctts of a version with two entries; how long it is. */
@@ -712,15 +712,15 @@ static size_t make_offsets(uint8_t version, uint32_t many, uint32_t offset, uint
 /* Offsets of version 0 with their top bit set: unsigned by the standard, below 0 in the crate's mode. */
 static void unsigned_calls(void) {
     size_t n = make_offsets(0, 3, 2400000000, 0, 0);
-    REFUSED_AT(31, 0, times_of(false, n));
+    REFUSED_AT(ST_MISSING, 0, times_of(false, n));
     ACCEPTED(times_of(true, n));
     IS(shows(3, 2400000000, 2400000010, 2400000020, 2400000030));
     n = edited(movie, n);
-    REFUSED_AT(31, 0, times_of(false, n));
+    REFUSED_AT(ST_MISSING, 0, times_of(false, n));
     ACCEPTED(times_of(true, n));
     IS(shows(3, 0, 10, 20, 30));
     n = make_offsets(0, 3, 0x80000000, 0, 0);
-    REFUSED_AT(31, 0, times_of(false, n));
+    REFUSED_AT(ST_MISSING, 0, times_of(false, n));
     ACCEPTED(times_of(true, n));
     IS(shows(3, 2147483648, 2147483658, 2147483668, 2147483678));
     n = make_offsets(0, 2, 0, 1, UINT32_MAX);
@@ -739,8 +739,8 @@ static void unsigned_calls(void) {
 static void signed_calls(bool standard) {
     const uint8_t versions[] = {1, 2, 255};
     for (size_t k = 0; k < COUNT(versions); k++) {
-        REFUSED_AT(31, 0, times_of(standard, make_offsets(versions[k], 3, 2400000000, 0, 0)));
-        REFUSED_AT(31, 0, times_of(standard, make_offsets(versions[k], 3, 0x80000000, 0, 0)));
+        REFUSED_AT(ST_MISSING, 0, times_of(standard, make_offsets(versions[k], 3, 2400000000, 0, 0)));
+        REFUSED_AT(ST_MISSING, 0, times_of(standard, make_offsets(versions[k], 3, 0x80000000, 0, 0)));
         ACCEPTED(times_of(standard, make_offsets(versions[k], 2, 0, 1, UINT32_MAX)));
         IS(shows(3, 0, 10, 19, 29));
     }
@@ -756,35 +756,35 @@ static void judge_calls(void) {
     int64_t starts[50], a[50], b[50], stamps[50];
     for (int k = 0; k < 50; k++) starts[k] = k, stamps[k] = 40000000LL * k, a[k] = b[k] = 9;
     lend();
-    IS(st_validate_no_video(T, &at) == 21 && at == 0);
-    IS(st_validate_no_video(NULL, 0, NULL, 0, NULL, 0, false, NULL, 0, &at) == 3 && at == 0);
+    IS(st_validate_no_video(T, &at) == ST_NO_VIDEO && at == 0);
+    IS(st_validate_no_video(NULL, 0, NULL, 0, NULL, 0, false, NULL, 0, &at) == ST_NO_SOURCES && at == 0);
     ACCEPTED(st_validate_constant(T, 50, 25, 1, &x, &at));
     IS(x == 50 && at == 0);
-    REFUSED_AT(22, 0, st_validate_constant(T, MOST, 25, 1, &x, &at));
-    REFUSED_AT(20, 0, st_validate_constant(T, 50, MOST, 1, &x, &at));
-    REFUSED_AT(20, 0, st_validate_constant(T, 50, 25, 4294967296, &x, &at));
-    REFUSED_AT(23, 0, st_validate_constant(T, 50, 0, 1, &x, &at));
-    REFUSED_AT(24, 1, st_validate_constant(T, 50, 4294967295, 4294967295, &x, &at));
-    REFUSED_AT(1, 0, st_validate_constant(sources, 19, segments, 10, times, 14, false, NULL, 0, 50, 25, 1, &x, &at));
+    REFUSED_AT(ST_OTHER_FRAME_COUNT, 0, st_validate_constant(T, MOST, 25, 1, &x, &at));
+    REFUSED_AT(ST_TOO_LARGE, 0, st_validate_constant(T, 50, MOST, 1, &x, &at));
+    REFUSED_AT(ST_TOO_LARGE, 0, st_validate_constant(T, 50, 25, 4294967296, &x, &at));
+    REFUSED_AT(ST_NO_FRAME_TIME, 0, st_validate_constant(T, 50, 0, 1, &x, &at));
+    REFUSED_AT(ST_OTHER_FRAME_TIME, 1, st_validate_constant(T, 50, 4294967295, 4294967295, &x, &at));
+    REFUSED_AT(ST_MALFORMED, 0, st_validate_constant(sources, 19, segments, 10, times, 14, false, NULL, 0, 50, 25, 1, &x, &at));
     ACCEPTED(st_validate_times(T, 25, starts, 50, 50, 1, &x, &at));
     IS(x == 50 && at == 0);
-    REFUSED_AT(22, 0, st_validate_times(T, 25, NULL, 0, 50, 1, &x, &at));
-    REFUSED_AT(20, 0, st_validate_times(T, MOST, starts, 50, 50, 1, &x, &at));
-    REFUSED_AT(25, 0, st_validate_times(T, 25, starts, 50, INT64_MAX, 1, &x, &at));
-    REFUSED_AT(25, 0, st_validate_times(T, 25, starts, 50, INT64_MIN, 1, &x, &at));
-    REFUSED_AT(25, 0, st_validate_times(T, 25, starts, 50, 50, INT64_MIN, &x, &at));
+    REFUSED_AT(ST_OTHER_FRAME_COUNT, 0, st_validate_times(T, 25, NULL, 0, 50, 1, &x, &at));
+    REFUSED_AT(ST_TOO_LARGE, 0, st_validate_times(T, MOST, starts, 50, 50, 1, &x, &at));
+    REFUSED_AT(ST_END_NOT_NEAR, 0, st_validate_times(T, 25, starts, 50, INT64_MAX, 1, &x, &at));
+    REFUSED_AT(ST_END_NOT_NEAR, 0, st_validate_times(T, 25, starts, 50, INT64_MIN, 1, &x, &at));
+    REFUSED_AT(ST_END_NOT_NEAR, 0, st_validate_times(T, 25, starts, 50, 50, INT64_MIN, &x, &at));
     starts[30] = INT64_MAX;
-    REFUSED_AT(23, 1, st_validate_times(T, 25, starts, 50, 50, 1, &x, &at));
+    REFUSED_AT(ST_NO_FRAME_TIME, 1, st_validate_times(T, 25, starts, 50, 50, 1, &x, &at));
     ACCEPTED(st_check_mcraw(T, stamps, 50, a, 50, b, 50, &x, &at));
     IS(x == 50 && at == 0 && zero(a, 50) && zero(b, 50));
     a[49] = b[0] = 9;
-    REFUSED_AT(32, 0, st_check_mcraw(T, stamps, 50, a, 49, b, 50, &x, &at));
+    REFUSED_AT(ST_NO_ROOM, 0, st_check_mcraw(T, stamps, 50, a, 49, b, 50, &x, &at));
     IS(a[49] == 9 && zero(b, 50));
-    REFUSED_AT(32, 0, st_check_mcraw(T, stamps, 50, NULL, 0, NULL, 0, &x, &at));
-    REFUSED_AT(35, 0, st_check_mcraw(T, NULL, 0, NULL, 0, NULL, 0, &x, &at));
-    REFUSED_AT(22, 0, st_check_mcraw(T, stamps, 1, NULL, 0, NULL, 0, &x, &at));
-    REFUSED_AT(34, 49, (stamps[49] = INT64_MIN, st_check_mcraw(T, stamps, 50, a, 50, b, 50, &x, &at)));
-    REFUSED_AT(3, 0, (a[0] = 9, st_check_mcraw(NULL, 0, NULL, 0, NULL, 0, false, NULL, 0, stamps, 50, a, 50, b, 50, &x, &at)));
+    REFUSED_AT(ST_NO_ROOM, 0, st_check_mcraw(T, stamps, 50, NULL, 0, NULL, 0, &x, &at));
+    REFUSED_AT(ST_NO_RECORDING_TIMES, 0, st_check_mcraw(T, NULL, 0, NULL, 0, NULL, 0, &x, &at));
+    REFUSED_AT(ST_OTHER_FRAME_COUNT, 0, st_check_mcraw(T, stamps, 1, NULL, 0, NULL, 0, &x, &at));
+    REFUSED_AT(ST_FALLING, 49, (stamps[49] = INT64_MIN, st_check_mcraw(T, stamps, 50, a, 50, b, 50, &x, &at)));
+    REFUSED_AT(ST_NO_SOURCES, 0, (a[0] = 9, st_check_mcraw(NULL, 0, NULL, 0, NULL, 0, false, NULL, 0, stamps, 50, a, 50, b, 50, &x, &at)));
     IS(zero(a, 50));
 }
 

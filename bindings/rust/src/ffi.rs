@@ -184,6 +184,136 @@ extern "C" {
     pub fn st_table_text(file: *const u8, file_len: usize, start: *mut u64, length: *mut u64, index: *mut u64) -> u64;
 }
 
+/// Why a call refuses, each reason with the number that is answered.
+#[repr(u64)]
+#[non_exhaustive]
+#[derive(Clone, Copy, Debug, PartialEq, Eq, Hash)]
+pub enum Reason {
+    /// A slice length isn't a multiple of its record, the two segment slices disagree, a flag or kind is outside its set,
+    /// or a present creation time's range leaves the text.
+    Malformed = 1,
+    /// Over 64 sources or 512 segments.
+    OverLimit = 2,
+    /// No sources.
+    NoSources = 3,
+    /// Source: frames, or either fps number, is 0.
+    ZeroInSource = 4,
+    /// Source: its creation time fails the UTC rule.
+    BadDate = 5,
+    /// Source: its clock rate has a 0, or its modulus is 0.
+    BadClock = 6,
+    /// Source: a log is named and it has no clock.
+    NoClock = 7,
+    /// No segments.
+    NoSegments = 8,
+    /// Segment: no such source.
+    NoSuchSource = 9,
+    /// Segment: frame count 0.
+    NoFrames = 10,
+    /// Segment: out or source first frame plus count passes 2^64 - 1.
+    FramesWrap = 11,
+    /// Segment: source end past the source's frames.
+    PastSource = 12,
+    /// Segment: any of the six times negative.
+    NegativeTime = 13,
+    /// Segment: source start plus duration, or the capture pair, passes 2^63 - 1; tested after 16, out start plus duration
+    /// or its capture pair does.
+    TooLate = 14,
+    /// Segment: out first frame isn't the end before (0 for the first).
+    FrameGap = 15,
+    /// Segment: out start or out capture start isn't the end before; the first is free.
+    TimeGap = 16,
+    /// Segment: shift without clock, clock without shift, or a modulus with shift outside 0..modulus.
+    BadShift = 17,
+    /// A rate number or timescale over 4,294,967,295, or over 16,777,216 starts.
+    TooLarge = 20,
+    /// No video given.
+    NoVideo = 21,
+    /// Last out end isn't the video's frame count.
+    OtherFrameCount = 22,
+    /// A time can't be had: scale 0, or outside 64 bits; of a table, a segment's frame time.
+    NoFrameTime = 23,
+    /// A segment's frame time differs from out start.
+    OtherFrameTime = 24,
+    /// The end isn't near: |2 end_us scale - 2 end 1,000,000| is over 2 nominal 1,000,000 + scale, where end_us is the last
+    /// segment's out start plus duration; the nominal of a constant video is its denominator, and its scale the numerator.
+    EndNotNear = 25,
+    /// Over 16,777,216 bytes or timestamps.
+    TooLong = 30,
+    /// Missing: the boxes end (fewer than 8 bytes are left) without the one that is looked for, or no frame times can be had;
+    /// of `box_size`, no size is whole and fits.
+    Missing = 31,
+    /// Lent room too small (of `cut`, `cuts`, `join` and `merge` that is 52).
+    NoRoom = 32,
+    /// A start, span or end outside 64 bits.
+    Outside = 33,
+    /// Timestamps not ascending (equal neighbours are allowed).
+    Falling = 34,
+    /// Recording whose frame times can't be had: no frames, or a nominal interval of 0.
+    NoRecordingTimes = 35,
+    /// Broken: before what is looked for stands a broken box header, at the index: its size isn't whole or doesn't fit, or, of
+    /// `find_box` with text_types, its type has a byte outside 20..7E hex.
+    Broken = 36,
+    /// No MTRM box: no moov, no udta in it, or none in that.
+    NoTable = 40,
+    /// More than one MTRM box.
+    SeveralTables = 41,
+    /// A search range outside the bytes, or starting past its end; an offset past the bytes.
+    BadSearch = 42,
+    /// Cut range: a >= b, or b past the map; of `cuts` also an odd number of words.
+    BadRange = 50,
+    /// Map rows malformed, slice lengths that disagree, or no rows.
+    BadRows = 51,
+    /// Over 1,024 rows in or out (all cuts of one call together may have more), or lent room too small.
+    RowsDontFit = 52,
+    /// Joined frames pass 2^64 - 1.
+    JoinWraps = 53,
+    /// Frame past the map.
+    PastMap = 54,
+}
+
+/// Every reason.
+pub const REASONS: &[Reason] = &[
+    Reason::Malformed,
+    Reason::OverLimit,
+    Reason::NoSources,
+    Reason::ZeroInSource,
+    Reason::BadDate,
+    Reason::BadClock,
+    Reason::NoClock,
+    Reason::NoSegments,
+    Reason::NoSuchSource,
+    Reason::NoFrames,
+    Reason::FramesWrap,
+    Reason::PastSource,
+    Reason::NegativeTime,
+    Reason::TooLate,
+    Reason::FrameGap,
+    Reason::TimeGap,
+    Reason::BadShift,
+    Reason::TooLarge,
+    Reason::NoVideo,
+    Reason::OtherFrameCount,
+    Reason::NoFrameTime,
+    Reason::OtherFrameTime,
+    Reason::EndNotNear,
+    Reason::TooLong,
+    Reason::Missing,
+    Reason::NoRoom,
+    Reason::Outside,
+    Reason::Falling,
+    Reason::NoRecordingTimes,
+    Reason::Broken,
+    Reason::NoTable,
+    Reason::SeveralTables,
+    Reason::BadSearch,
+    Reason::BadRange,
+    Reason::BadRows,
+    Reason::RowsDontFit,
+    Reason::JoinWraps,
+    Reason::PastMap,
+];
+
 /// Each refusal number with its words.
 pub const REFUSALS: &[(u64, &str)] = &[
     (1, "a slice length isn't a multiple of its record, the two segment slices disagree, a flag or kind is outside its set, or a present creation time's range leaves the text"),
@@ -206,22 +336,22 @@ pub const REFUSALS: &[(u64, &str)] = &[
     (20, "a rate number or timescale over 4,294,967,295, or over 16,777,216 starts"),
     (21, "no video given"),
     (22, "last out end isn't the video's frame count"),
-    (23, "a segment's frame time can't be had: scale 0, or outside 64 bits"),
+    (23, "a time can't be had: scale 0, or outside 64 bits; of a table, a segment's frame time"),
     (24, "a segment's frame time differs from out start"),
     (25, "the end isn't near: |2 end_us scale - 2 end 1,000,000| is over 2 nominal 1,000,000 + scale, where end_us is the last segment's out start plus duration; the nominal of a constant video is its denominator, and its scale the numerator"),
     (30, "over 16,777,216 bytes or timestamps"),
-    (31, "missing: the boxes end (fewer than 8 bytes are left) without the one that is looked for, or no frame times can be had; of st_box_size, no size is whole and fits"),
-    (32, "lent room too small"),
+    (31, "missing: the boxes end (fewer than 8 bytes are left) without the one that is looked for, or no frame times can be had; of box_size, no size is whole and fits"),
+    (32, "lent room too small (of cut, cuts, join and merge that is 52)"),
     (33, "a start, span or end outside 64 bits"),
     (34, "timestamps not ascending (equal neighbours are allowed)"),
-    (35, "recording without frames"),
-    (36, "broken: before what is looked for stands a broken box header, at the index: its size isn't whole or doesn't fit, or, of st_find_box with text_types, its type has a byte outside 20..7E hex"),
+    (35, "recording whose frame times can't be had: no frames, or a nominal interval of 0"),
+    (36, "broken: before what is looked for stands a broken box header, at the index: its size isn't whole or doesn't fit, or, of find_box with text_types, its type has a byte outside 20..7E hex"),
     (40, "no MTRM box: no moov, no udta in it, or none in that"),
     (41, "more than one MTRM box"),
     (42, "a search range outside the bytes, or starting past its end; an offset past the bytes"),
-    (50, "cut range: a >= b, or b past the map; of st_cuts also an odd number of words"),
+    (50, "cut range: a >= b, or b past the map; of cuts also an odd number of words"),
     (51, "map rows malformed, slice lengths that disagree, or no rows"),
-    (52, "over 1,024 rows in or out (all cuts of st_cuts together may have more), or lent room too small"),
+    (52, "over 1,024 rows in or out (all cuts of one call together may have more), or lent room too small"),
     (53, "joined frames pass 2^64 - 1"),
     (54, "frame past the map"),
 ];

@@ -17,8 +17,8 @@
 //! # Ok::<(), segment_table::Refusal>(())
 //! ```
 //!
-//! A call that refuses gives a [`Refusal`], with its number, its index and its words. All calls may be made in several
-//! threads at once: none keeps anything.
+//! A call that refuses gives a [`Refusal`], with its reason, its number, its index and its words. All calls may be made in
+//! several threads at once: none keeps anything.
 #![warn(missing_docs)]
 
 pub mod ffi;
@@ -29,7 +29,7 @@ mod table;
 mod video;
 mod walk;
 
-pub use ffi::TrimSegment;
+pub use ffi::{Reason, TrimSegment};
 pub use map::{FrameMap, Origin, Row, Rows};
 pub use recording::{mcraw_times, video_frame_times_of_moov, FrameTimes};
 pub use table::{segment_of_frame_records, Clock, Segment, Source, Table};
@@ -38,17 +38,18 @@ pub use walk::{box_size, child, children, find_box, table_text, BoxSize, Childre
 
 use std::fmt;
 
-/// Why a call was refused: the paper's number, the index that goes with it (0 where none does), and its words.
+/// Why a call was refused: a number, which `reason()` names, the index that goes with it (0 where none does), and its words.
 ///
 /// ```
 /// let refusal = segment_table::ticks_to_us(1, 0).unwrap_err();
 /// assert_eq!((refusal.number, refusal.index), (23, 0));
-/// assert_eq!(refusal.words(), "a segment's frame time can't be had: scale 0, or outside 64 bits");
+/// assert_eq!(refusal.reason(), Some(segment_table::Reason::NoFrameTime));
+/// assert_eq!(refusal.words(), "a time can't be had: scale 0, or outside 64 bits; of a table, a segment's frame time");
 /// assert_eq!(refusal.to_string(), format!("refused 23 at 0: {}", refusal.words()));
 /// ```
 #[derive(Clone, Copy, Debug, PartialEq, Eq, Hash)]
 pub struct Refusal {
-    /// Which of the paper's refusals it is.
+    /// Which refusal it is: the number of a [`Reason`].
     pub number: u64,
     /// The source, segment, row, range or timestamp that is refused, or a broken header's offset, by the number; 0 where there
     /// is none.
@@ -56,6 +57,12 @@ pub struct Refusal {
 }
 
 impl Refusal {
+    /// The reason that the number stands for; none of a number that no call answers.
+    #[must_use]
+    pub fn reason(&self) -> Option<Reason> {
+        ffi::REASONS.iter().copied().find(|reason| *reason as u64 == self.number)
+    }
+
     /// What the number says.
     #[must_use]
     pub fn words(&self) -> &'static str {

@@ -30,6 +30,7 @@ audited by = record {
   answers = once;
   face = faced;
   telling = telling;
+  numbers = record { own = by.own-number; above = by.number-above };
   origins = tiled by;
   laws = by.laws;
   demands = by.demands;

@@ -3,7 +3,8 @@ use Prim.Native.Nat.{ℕ}
 use mathlib.Core.Bool.{Bool}
 use mathlib.Core.List.{List}
 use mathlib.Core.Logic.{◌↔◌}
-use Rattle.rules.specs.declared.Lookup.{Lookup}
+use Rattle.std.specs.Prelude.{Result}
+use Rattle.refusal.specs.declared.Refusal.{Refusal}
 use Rattle.records.specs.declared.TrimSegment.{TrimSegment}
 use Rattle.records.specs.Records.{locate}
 use Rattle.audit.specs.Calls as calls
@@ -13,7 +14,7 @@ use Rattle.audit.specs.Claims.{Meanings}
 is : {P : Type 0} → (P → P) × (P → P)
 is = (λ x. x, λ x. x)
 
-listed : (sources text : List ℕ) (rs : List TrimSegment) (log : Bool) (f : ℕ) (r : Lookup) → calls.SegmentOfFrameRecords sources text rs log f r ↔ SegmentOfFrame (in_words sources text rs log) f r
+listed : (sources text : List ℕ) (rs : List TrimSegment) (log : Bool) (f : ℕ) (r : Result ℕ Refusal) → calls.SegmentOfFrameRecords sources text rs log f r ↔ SegmentOfFrame (in_words sources text rs log) f r
 unfolding locate
 listed sources text rs log f r = is
 

@@ -1,7 +1,9 @@
 -- Exactly one answer meets each promise. Assumes nothing.
 use mathlib.Core.Path.{refl, ap, ◌∙◌}
 use Rattle.slices.specs.Slices.{laid}
-use Rattle.mcraw.specs.declared.RecordingTimes.{RecordingTimes}
+use Rattle.ticks.specs.declared.FrameTimes.{FrameTimes}
+use Rattle.std.specs.Prelude.{Result}
+use Rattle.refusal.specs.declared.Refusal.{Refusal}
 use Rattle.mcraw.specs.Mcraw.{starts_written}
 use Rattle.audit.specs.Claims.{Answers}
 
@@ -26,7 +28,7 @@ once = record {
   mcraw-times = λ κs a. record {
     the = record { result = _; last = _ };
     said = record { answer = refl; laid_out = refl; cleared = refl };
-    only = λ e p i. record { result = p.answer i; last = (tt, ((p.laid_out ∙ ap (λ (r : RecordingTimes). laid (starts_written r a.0.now) a.1.0.now) p.answer) i, (p.cleared i, tt))) };
+    only = λ e p i. record { result = p.answer i; last = (tt, ((p.laid_out ∙ ap (λ (r : Result FrameTimes Refusal). laid (starts_written r a.0.now) a.1.0.now) p.answer) i, (p.cleared i, tt))) };
   };
   cut = λ κs a. record { the = record { result = _; last = _ }; said = record { answer = refl; words = refl; shifts = refl }; only = λ e p i. record { result = p.answer i; last = (tt, (tt, (tt, (tt, (p.words i, (p.shifts i, tt)))))) } };
   cuts = λ κs a. record {

@@ -2,8 +2,10 @@
 use mathlib.Core.Path.{◌≡◌}
 use mathlib.Core.Bool.{true, false}
 use mathlib.Core.List.{List}
-use Prim.Native.Nat.{ℕ}
+use Prim.Native.Nat.{ℕ, ◌<◌}
 use lib.IntN.{ℤ}
+use Rattle.refusal.specs.declared.Reason.{Reason}
+use Rattle.refusal.specs.Reasons.{number}
 use Rattle.rows.specs.Demands.{Demands}
 use Rattle.maps.specs.Answers.{Cut, Join, Merge, Trace}
 use Rattle.maps.specs.Laws.{Laws}
@@ -24,6 +26,8 @@ use Rattle.frame_times.specs.Times.{times_of_moov}
 use Rattle.modes.specs.Modes.{ctts_of, NoTopBit}
 
 pub record Theorems : Type 0 where
+  pub own-number : (a b : Reason) → number a ≡ number b → a ≡ b
+  pub number-above : (a : Reason) → 0 < number a
   pub demands : Demands
   pub laws : Laws Cut Join Merge Trace
   pub cuts : CutsLaws Cuts Cut

@@ -10,41 +10,33 @@ use lib.ListN.{length, take, drop, get_or, get_or-map}
 use lib.Seq.{take_at}
 use lib.Dec.{ltb}
 use borrow.Author.Tests.{le-ltb}
-use Rattle.choice.specs.declared.Refusal.{Refusal}
-use Rattle.choice.specs.declared.Refusal.TheVariants.{Never, At}
 use Rattle.choice.specs.Choice.{when}
 use Rattle.choice.proofs.Runs.{get_d-run}
+use Rattle.std.specs.Prelude.{Result, Ok}
+use Rattle.std.specs.Result.{result_and}
+use Rattle.refusal.specs.declared.Refusal.{Refusal}
+use Rattle.refusal.proofs.Chains.{ok-of}
 use Rattle.slices.specs.Slices.{after}
 use Rattle.rows.specs.declared.Row.{Row}
-use Rattle.rows.specs.Rows.{row_end, total, origin, WellFormed}
+use Rattle.rows.specs.declared.Origin.{Origin}
+use Rattle.rows.specs.Rows.{row_end, total, origin, origin_in, WellFormed}
 use Rattle.rows.specs.Lent.{row_at, rows, words_of, shifts_of}
 use Rattle.rows.proofs.Flat.{length-words, length-shifts, rows-flat}
-use Rattle.rules.specs.declared.Checked.TheVariants.{Frames}
-use Rattle.rules.specs.declared.Lookup.TheVariants.{Index}
 use Rattle.rules.specs.Records.{Table, no_segment, segment}
-use Rattle.rules.specs.Lookups.{ended, over_by, looked_up, segment_of_frame}
+use Rattle.rules.specs.Lookups.{ended, over_by, segment_of_frame}
 use Rattle.rules.specs.Rules.{check_of}
 use Rattle.rules.proofs.Answers.{then-rest}
 use Rattle.rules.proofs.Accepted.{accepted}
 use Rattle.rules.proofs.Holder.{Holds, holder}
-use Rattle.table_rows.specs.declared.Filled.{Filled}
-use Rattle.table_rows.specs.declared.Filled.TheVariants.{Rows}
-use Rattle.table_rows.specs.Rows.{row_of, rows_of, rows_refusal, filled, Rowed}
-use Rattle.maps.specs.declared.Traced.{Traced}
-use Rattle.maps.specs.declared.Mapped.TheVariants as answers
-use Rattle.maps.specs.Answers.{traced_of, origin_refusal, Cut, Trace}
+use Rattle.table_rows.specs.Rows.{row_of, rows_of, rows_refusal, Rowed}
+use Rattle.maps.specs.Answers.{traced_as, origin_refusal, Cut, Trace}
 use Rattle.maps.specs.Laws.{LentMap}
 use Rattle.audit.specs.Words.{table, map_written}
-use Rattle.audit.specs.Claims.{traced_in, Origins}
+use Rattle.audit.specs.Claims.{Origins}
 use Rattle.audit.proofs.Theorems.{Theorems}
 
-filled_of : (x : Refusal) (n k : ℕ) → Rows k ≡ filled x n → (x ≡ Never) × (k ≡ n)
-unfolding filled
-filled_of Never n k e = (refl, cc)
-filled_of (At m i) n k e = let z : ◌≡◌ {A = ℕ} 0 1 = cc in absurd (omega arith)
-
 -- the rows of a table of N frames, with room for them
-room : (t : Table) (N : ℕ) (nu ns : ℕ) → Frames N ≡ check_of t → 5 * length t.segments ≤ nu → length t.segments ≤ ns → rows_refusal t nu ns ≡ Never
+room : (t : Table) (N : ℕ) (nu ns : ℕ) → Ok N ≡ check_of t → 5 * length t.segments ≤ nu → length t.segments ≤ ns → rows_refusal t nu ns ≡ Ok tt
 unfolding rows_refusal when
 room t N nu ns e g h =
     let a : ltb nu (length t.segments * 5) ≡ false = le-ltb nu (length t.segments * 5) (omega arith) in
@@ -52,27 +44,26 @@ room t N nu ns e g h =
     then-rest t _ (sym e) ∙ rw (a, b)
 
 -- so many rows are answered
-rows-of : (t : Table) (N : ℕ) (ou ou' : List ℕ) (os os' : List ℤ) (r : Filled) → Frames N ≡ check_of t → 5 * length t.segments ≤ length ou → length t.segments ≤ length os
-    → Rowed t ou os r ou' os' → r ≡ Rows (length t.segments)
-unfolding filled
-rows-of t N ou ou' os os' r c g h p = p.answer ∙ ap (λ (x : Refusal). filled x (length t.segments)) (room t N (length ou) (length os) c g h)
+rows-of : (t : Table) (N : ℕ) (ou ou' : List ℕ) (os os' : List ℤ) (r : Result ℕ Refusal) → Ok N ≡ check_of t → 5 * length t.segments ≤ length ou → length t.segments ≤ length os
+    → Rowed t ou os r ou' os' → r ≡ Ok (length t.segments)
+rows-of t N ou ou' os os' r c g h p = p.answer ∙ ap (λ (x : Result (Unit {0}) Refusal). result_and x (Ok (length t.segments))) (room t N (length ou) (length os) c g h)
 
 -- what was written is the rows of the table
-module _ (by : Theorems) (t : Table) (N k : ℕ) (ou ou' : List ℕ) (os os' : List ℤ) (c : Frames N ≡ check_of t) (p : Rowed t ou os (Rows k) ou' os') where
-  none : rows_refusal t (length ou) (length os) ≡ Never
-  none = (filled_of _ (length t.segments) k p.answer).0
+module _ (by : Theorems) (t : Table) (N k : ℕ) (ou ou' : List ℕ) (os os' : List ℤ) (c : Ok N ≡ check_of t) (p : Rowed t ou os (Ok k) ou' os') where
+  none : rows_refusal t (length ou) (length os) ≡ Ok tt
+  none = (ok-of _ (length t.segments) k (sym p.answer)).0
 
   rows-count : k ≡ length (rows_of t)
-  rows-count = (filled_of _ (length t.segments) k p.answer).1 ∙ sym (by.mapped t).each
+  rows-count = sym (ok-of _ (length t.segments) k (sym p.answer)).1 ∙ sym (by.mapped t).each
 
   words_are : take (5 * k) ou' ≡ words_of (rows_of t)
   words_are =
-      ap (take (5 * k)) (p.words ∙ ap (λ (y : Refusal). after y (words_of (rows_of t)) ou) none)
+      ap (take (5 * k)) (p.words ∙ ap (λ (y : Result (Unit {0}) Refusal). after y (words_of (rows_of t)) ou) none)
       ∙ take_at (words_of (rows_of t)) (drop (length (words_of (rows_of t))) ou) (5 * k) (length-words (rows_of t) ∙ ap (λ (n : ℕ). 5 * n) (sym rows-count))
 
   shifts-are : take k os' ≡ shifts_of (rows_of t)
   shifts-are =
-      ap (take k) (p.shifts ∙ ap (λ (y : Refusal). after y (shifts_of (rows_of t)) os) none)
+      ap (take k) (p.shifts ∙ ap (λ (y : Result (Unit {0}) Refusal). after y (shifts_of (rows_of t)) os) none)
       ∙ take_at (shifts_of (rows_of t)) (drop (length (shifts_of (rows_of t))) os) k (length-shifts (rows_of t) ∙ sym rows-count)
 
   is : map_written k ou' os' ≡ rows_of t
@@ -93,16 +84,16 @@ module _ (by : Theorems) (t : Table) (N k : ℕ) (ou ou' : List ℕ) (os os' : L
       record { some = omega (arith, a.some-segments); sizes = omega arith; well = well; few = omega (arith, a.few-segments) }
 
 -- the segment that a lookup of an accepted table answers
-index_is : (t : Table) (N f i : ℕ) → Frames N ≡ check_of t → Index i ≡ segment_of_frame t f → i ≡ ended (over_by f) t.segments
-unfolding segment_of_frame looked_up
-index_is t N f i c e = let q : Index i ≡ looked_up (Frames N) (ended (over_by f) t.segments) = e ∙ ap (λ x. looked_up x (ended (over_by f) t.segments)) (sym c) in cc
+index_is : (t : Table) (N f i : ℕ) → Ok N ≡ check_of t → Ok i ≡ segment_of_frame t f → i ≡ ended (over_by f) t.segments
+unfolding segment_of_frame
+index_is t N f i c e = let q : ◌≡◌ {A = Result ℕ Refusal} (Ok i) (Ok (ended (over_by f) t.segments)) = e ∙ ap (λ (x : Result ℕ Refusal). result_and x (Ok (ended (over_by f) t.segments))) (sym c) in grind arith
 
 -- an answer made of row j, where that is row i, and row i is x
-made : (u : List ℕ) (s : List ℤ) (f i j : ℕ) (r : Traced) (x : Row) → i ≡ j → row_at u s i ≡ x → r ≡ traced_in (row_at u s j) f → r ≡ traced_in x f
-made u s f i j r x e q g = g ∙ ap (λ (n : ℕ). traced_in (row_at u s n) f) (sym e) ∙ ap (λ (y : Row). traced_in y f) q
+made : (u : List ℕ) (s : List ℤ) (f i j : ℕ) (r : Result Origin Refusal) (x : Row) → i ≡ j → row_at u s i ≡ x → r ≡ Ok (origin_in (row_at u s j) f) → r ≡ Ok (origin_in x f)
+made u s f i j r x e q g = g ∙ ap (λ (n : ℕ). Ok (origin_in (row_at u s n) f)) (sym e) ∙ ap (λ (y : Row). Ok (origin_in y f)) q
 
-module _ (by : Theorems) (t : Table) (N k f i : ℕ) (ou ou' : List ℕ) (os os' : List ℤ) (r : Traced) (c : Frames N ≡ check_of t) (p : Rowed t ou os (Rows k) ou' os') (h : f < N)
-    (e : Index i ≡ segment_of_frame t f) (o : Trace (take (5 * k) ou') (take k os') f r) where
+module _ (by : Theorems) (t : Table) (N k f i : ℕ) (ou ou' : List ℕ) (os os' : List ℤ) (r : Result Origin Refusal) (c : Ok N ≡ check_of t) (p : Rowed t ou os (Ok k) ou' os') (h : f < N)
+    (e : Ok i ≡ segment_of_frame t f) (o : Trace (take (5 * k) ou') (take k os') f r) where
   here : Holds t f i
   here = subst (Holds t f) (sym (index_is t N f i c e)) (holder (accepted t N (sym c)) f h)
 
@@ -116,7 +107,7 @@ module _ (by : Theorems) (t : Table) (N k f i : ℕ) (ou ou' : List ℕ) (os os'
       ∙ ap (λ (x : List Row). get_or x i (row_of no_segment)) (is by t N k ou ou' os os' c p)
       ∙ get_or-map row_of t.segments i no_segment
 
-  agreed : (i < length t.segments) × (r ≡ traced_in (row_of (segment t i)) f)
+  agreed : (i < length t.segments) × (r ≡ Ok (origin_in (row_of (segment t i)) f))
   unfolding row_of
   agreed =
       let m = lent by t N k ou ou' os os' c p in
@@ -125,17 +116,17 @@ module _ (by : Theorems) (t : Table) (N k f i : ℕ) (ou ou' : List ℕ) (os os'
       (here.exists, made (take (5 * k) ou') (take k os') f i w.index r (row_of (segment t i)) j row_is w.gives)
 
 -- the same of a clip that was cut twice
-module _ (by : Theorems) (t : Table) (N k m n a b c d f i : ℕ) (ou ou' pu pu' qu qu' : List ℕ) (os os' ps ps' qs qs' : List ℤ) (r : Traced) (ch : Frames N ≡ check_of t)
-    (p : Rowed t ou os (Rows k) ou' os') (x : Cut (take (5 * k) ou') (take k os') a b pu ps (answers.Rows m) pu' ps')
-    (y : Cut (take (5 * m) pu') (take m ps') c d qu qs (answers.Rows n) qu' qs') (h : f < d - c) (e : Index i ≡ segment_of_frame t (a + (c + f)))
+module _ (by : Theorems) (t : Table) (N k m n a b c d f i : ℕ) (ou ou' pu pu' qu qu' : List ℕ) (os os' ps ps' qs qs' : List ℤ) (r : Result Origin Refusal) (ch : Ok N ≡ check_of t)
+    (p : Rowed t ou os (Ok k) ou' os') (x : Cut (take (5 * k) ou') (take k os') a b pu ps (Ok m) pu' ps')
+    (y : Cut (take (5 * m) pu') (take m ps') c d qu qs (Ok n) qu' qs') (h : f < d - c) (e : Ok i ≡ segment_of_frame t (a + (c + f)))
     (o : Trace (take (5 * n) qu') (take n qs') f r) where
-  pub agreed-twice : (i < length t.segments) × (r ≡ traced_in (row_of (segment t i)) (a + (c + f)))
+  pub agreed-twice : (i < length t.segments) × (r ≡ Ok (origin_in (row_of (segment t i)) (a + (c + f))))
   agreed-twice =
       let gx = by.laws.cut-gives (take (5 * k) ou') (take k os') a b m pu pu' ps ps' x in
       let gy = by.laws.cut-gives (take (5 * m) pu') (take m ps') c d n qu qu' qs qs' y in
       let between : total (rows (take (5 * m) pu') (take m ps')) ≡ b - a = ap total gx.3.is ∙ gx.4 in
-      let z = traced_of (origin_refusal (take (5 * m) pu') (take m ps') (c + f)) (origin (rows (take (5 * m) pu') (take m ps')) (c + f)) in
-      let w = traced_of (origin_refusal (take (5 * k) ou') (take k os') (a + (c + f))) (origin (rows (take (5 * k) ou') (take k os')) (a + (c + f))) in
+      let z = result_and (origin_refusal (take (5 * m) pu') (take m ps') (c + f)) (traced_as (origin (rows (take (5 * m) pu') (take m ps')) (c + f))) in
+      let w = result_and (origin_refusal (take (5 * k) ou') (take k os') (a + (c + f))) (traced_as (origin (rows (take (5 * k) ou') (take k os')) (a + (c + f)))) in
       let in-first : c + f < b - a = omega (arith, gy.2) in
       let in_table : a + (c + f) < N = omega (arith, gx.2, frames by t N k ou ou' os os' ch p) in
       let first : r ≡ z = by.laws.cut-origins (take (5 * m) pu') (take m ps') c d n f qu qu' qs qs' r z y h o refl in

@@ -6,7 +6,10 @@ use mathlib.Core.Path.{◌≡◌, refl, sym, ◌∙◌, ap, ap₂, subst}
 use lib.IntN.{ℤ}
 use lib.ListN.{take, length}
 use Rattle.choice.specs.Choice.{when, past}
-use Rattle.choice.specs.Records.{run, any, first_refused, or_refused}
+use Rattle.choice.specs.Records.{run, any}
+use Rattle.std.specs.Prelude.{Result}
+use Rattle.refusal.specs.declared.Refusal.{Refusal}
+use Rattle.refusal.specs.Refusals.{first_refused}
 use Rattle.slices.specs.Slices.{All, laid}
 use Rattle.rows.specs.declared.Row.{Row}
 use Rattle.rows.specs.Lent.{rows}
@@ -22,17 +25,17 @@ use Rattle.frame_times.specs.Frames.{frames_from, kept, last_of}
 use Rattle.frame_times.specs.Times.{placed, shown, of_kept, of_tables, of_media, of_track, times_of_moov as moov_times}
 use Rattle.rules.specs.declared.Words.{Words}
 use Rattle.rules.specs.Records.{Table, no_source, no_segment, segment, frame_total}
-use Rattle.rules.specs.Rules.{bad_source, bad_segment, malformed, source_refusal, stamp_times, judged, segment_refusal, start, ends_of, ends, segments_from, front_refusal, refusal, checked_of, check_of}
-use Rattle.rules.specs.Lookups.{count_such, ended, looked_up, segment_of_frame, segment_of_time}
+use Rattle.rules.specs.Rules.{bad_source, bad_segment, malformed, source_refusal, stamp_times, judged, segment_refusal, start, ends_of, ends, segments_from, front_refusal, refusal, check_of}
+use Rattle.rules.specs.Lookups.{count_such, ended, segment_of_frame, segment_of_time}
 use Rattle.table.specs.Layout.{sources_of, segments_of, table_of}
-use Rattle.table_rows.specs.Rows.{row_of, rows_of, rows_refusal, filled}
-use Rattle.lookups.specs.Indices.{indices_of, indices_refusal, indexed}
+use Rattle.table_rows.specs.Rows.{row_of, rows_of, rows_refusal}
+use Rattle.lookups.specs.Indices.{indices_of, indices_refusal}
 use Rattle.judge.specs.Video.{shown_by}
 use Rattle.judge.specs.Judge.{starts_at, start_refusal, video_refusal, validate_of, single, recording_refusal, check_mcraw}
 use Rattle.maps.specs.Answers.{first_bad, map_refusal, room_refusal, cut_refusal, join_refusal, merge_refusal, origin_refusal}
 use Rattle.cuts.specs.Answers.{cuts_of, concat, range_refusal, ranges_refusal, cuts_refusal}
-use Rattle.mcraw.specs.declared.RecordingTimes.{RecordingTimes}
-use Rattle.mcraw.specs.Mcraw.{gaps, starts_of, span, nominal, end, fall_of, refusal_of, times_unless, mcraw_times, starts_written, McrawAnswers}
+use Rattle.ticks.specs.declared.FrameTimes.{FrameTimes}
+use Rattle.mcraw.specs.Mcraw.{gaps, starts_of, span, nominal, end, fall_of, refusal_of, times_of, mcraw_times, starts_written, McrawAnswers}
 use Rattle.differ.specs.Differ.{SameFrames}
 use Rattle.audit.specs.Examples.{Holds, examples}
 
@@ -41,9 +44,9 @@ wrote : (k : ℕ) {w ou : List ℕ} {z os : List ℤ} (are : List Row) → ou �
 wrote k are p q e = ap₂ (λ (x : List ℕ) (y : List ℤ). rows (take (5 * k) x) (take k y)) p q ∙ e
 
 -- where a recording's frames start
-pub started : {ts starts work starts' work' : List ℤ} {r : RecordingTimes} → McrawAnswers ts starts work r starts' work'
+pub started : {ts starts work starts' work' : List ℤ} {r : Result FrameTimes Refusal} → McrawAnswers ts starts work r starts' work'
     → starts' ≡ laid (starts_written (mcraw_times ts (length starts) (length work)) ts) starts
-started {ts} {starts} p = p.laid_out ∙ ap (λ (x : RecordingTimes). laid (starts_written x ts) starts) p.answer
+started {ts} {starts} p = p.laid_out ∙ ap (λ (x : Result FrameTimes Refusal). laid (starts_written x ts) starts) p.answer
 
 -- tables of one segment, whose words agree
 alone : {t u : Table} → length t.segments ≡ 1 → length u.segments ≡ 1 → (segment t 0).words ≡ (segment u 0).words → SameFrames t u
@@ -58,5 +61,5 @@ alone {t} {u} p q e = record {
     at k h = subst (λ (j : ℕ). (segment t j).words ≡ (segment u j).words) (omega (arith, p)) e
 
 pub all_hold : All Holds examples
-unfolding when past run any first_refused or_refused two days utc_bytes utc_second micros_of us_of ticks_to_us ends_near starts_at start_refusal video_refusal validate_of single recording_refusal check_mcraw shown_by media_ticks of_bits insert sorted count_by taken_first mode fitting_in size_of header_at boxes_from boxes_at first_such is_video is_video_track scale_of has_scale table_rows optional_rows entries_from entriesTotal per_frame line_at kept_line two_lines lines_of elst_of edit_of frames_from kept last_of placed shown of_kept of_tables of_media of_track moov_times no_source no_segment frame_total bad_source bad_segment malformed source_refusal stamp_times judged segment_refusal start ends_of ends segments_from front_refusal refusal checked_of check_of count_such ended looked_up segment_of_frame segment_of_time sources_of segments_of table_of row_of rows_of rows_refusal filled first_bad map_refusal room_refusal cut_refusal join_refusal merge_refusal origin_refusal indices_of indices_refusal indexed cuts_of concat range_refusal ranges_refusal cuts_refusal gaps starts_of span nominal end fall_of refusal_of times_unless mcraw_times starts_written
+unfolding when past run any first_refused two days utc_bytes utc_second micros_of us_of ticks_to_us ends_near starts_at start_refusal video_refusal validate_of single recording_refusal check_mcraw shown_by media_ticks of_bits insert sorted count_by taken_first mode fitting_in size_of header_at boxes_from boxes_at first_such is_video is_video_track scale_of has_scale table_rows optional_rows entries_from entriesTotal per_frame line_at kept_line two_lines lines_of elst_of edit_of frames_from kept last_of placed shown of_kept of_tables of_media of_track moov_times no_source no_segment frame_total bad_source bad_segment malformed source_refusal stamp_times judged segment_refusal start ends_of ends segments_from front_refusal refusal check_of count_such ended segment_of_frame segment_of_time sources_of segments_of table_of row_of rows_of rows_refusal first_bad map_refusal room_refusal cut_refusal join_refusal merge_refusal origin_refusal indices_of indices_refusal cuts_of concat range_refusal ranges_refusal cuts_refusal gaps starts_of span nominal end fall_of refusal_of times_of mcraw_times starts_written
 all_hold = (λ r p. p, (λ r p. p, (λ r p. p, (λ r p. p, (λ r p. p, (λ r p. p, (λ r p. p, (λ r p. p, (λ r p. p, (λ r p. p, (λ r p. p, (λ r p. p, (λ r p. p, (λ r p. p, (λ r p. p, (λ r p. p, (λ r p. p, (λ r p. p, (λ r p. p, (λ r p. p, (λ r ou os p. (p.answer, wrote 2 _ p.words p.shifts refl), (λ r ou os p. (p.answer, wrote 2 _ p.words p.shifts refl), (λ r ou os p. (p.answer, wrote 2 _ p.words p.shifts refl), (λ r ou os p. (p.answer, wrote 2 _ p.words p.shifts refl), (λ r starts' a' b' p. (p.answer, p.starts), (λ r starts' a' b' p. (p.answer, p.starts), (λ r starts' a' b' p. (p.answer, p.starts), (λ r starts' a' b' p. (p.answer, p.starts), (λ r starts' work' p. (p.answer, started p), (λ r p. p, (λ r p. p, (λ r ou os p. (p.answer, wrote 3 _ p.words p.shifts refl), (λ r ou os p. (p.answer, wrote 3 _ p.words p.shifts refl), (λ r ou os p. (p.answer, wrote 3 _ p.words p.shifts refl), (λ r ou os p. (p.answer, wrote 3 _ p.words p.shifts refl), (λ r p. p, (λ r p. p, (λ r p. p, (λ r ou os p. (p.answer, wrote 2 _ p.words p.shifts refl), (λ r ou os p. (p.answer, wrote 2 _ p.words p.shifts refl), (λ r ou os p. (p.answer, wrote 4 _ p.words p.shifts refl), (λ r ou os p. (p.answer, wrote 3 _ p.words p.shifts refl), (λ r ou os p. (p.answer, wrote 2 _ p.words p.shifts refl), (λ r ou os p. (p.answer, wrote 1 _ p.words p.shifts refl), (λ r ou os p. (p.answer, wrote 2 _ p.words p.shifts refl), (λ r ou os p. (p.answer, wrote 2 _ p.words p.shifts refl), (((λ r p. p), (λ r p. p), alone refl refl refl, refl, refl), (((λ r p. p), (λ r p. p), alone refl refl refl, refl, refl), (((λ r p. p), (λ r p. p), alone refl refl refl, refl, refl), (λ r a b p. p.answer, (λ r a b p. p.answer, (λ r out p. (p.answer, p.indices), (λ r out p. (p.answer, p.indices), (λ r out p. (p.answer, p.indices), (λ r starts' a' b' p. (p.answer, p.starts), (λ r starts' a' b' p. (p.answer, p.starts), (λ r starts' a' b' p. (p.answer, p.starts), (λ r starts' a' b' p. (p.answer, p.starts), (λ r starts' a' b' p. (p.answer, p.starts), (λ r starts' a' b' p. (p.answer, p.starts), (λ r starts' a' b' p. (p.answer, p.starts), (λ r starts' a' b' p. (p.answer, p.starts), (λ r starts' a' b' p. (p.answer, p.starts), (λ r starts' a' b' p. (p.answer, p.starts), (λ r ou os cs p. (p.placed.answer, wrote 4 _ p.placed.words p.placed.shifts refl, p.counted), (λ r ou os cs p. (p.placed.answer, wrote 3 _ p.placed.words p.placed.shifts refl, p.counted), (λ r ou os cs p. (p.placed.answer, wrote 0 _ p.placed.words p.placed.shifts refl, p.counted), (λ r ou os cs p. p.placed.answer, (λ r ou os cs p. p.placed.answer, (λ r ou os cs p. p.placed.answer, tt))))))))))))))))))))))))))))))))))))))))))))))))))))))))))))))))))))))

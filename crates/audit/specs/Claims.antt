@@ -2,34 +2,30 @@
 -- (`Check`, `Cut`, `Origin`) is its promise, quoted from the source by Calls.antt, in plain lists: the call with these arguments may answer so and leave the lent
 -- slices so. What holds of all such answers holds of every run, since the check proves that a run keeps its promise: Promised.antt says in which form. No
 -- proof need be read; which calls have that theorem, Quoted.antt and FaceQuoted.antt in proofs/ say.
-use Rattle.std.specs.Prelude.{ℕ, ◌+◌, ◌-◌, ◌*◌, ◌≤◌, ◌<◌, Bool, true, false, List, [], ◌↔◌, ◌≡◌, ℤ, neg_ℤ, length, get_or, take, drop}
+use Rattle.std.specs.Prelude.{ℕ, ◌+◌, ◌-◌, ◌*◌, ◌≤◌, ◌<◌, Bool, true, false, List, [], ◌↔◌, ◌≡◌, ℤ, neg_ℤ, length, get_or, take, drop, Result, Ok}
 use Rattle.std.specs.Borrow.{Bor}
+use Rattle.refusal.specs.declared.Reason.{Reason}
+use Rattle.refusal.specs.declared.Reason.TheVariants as reason
+use Rattle.refusal.specs.declared.Refusal.{Refusal}
+use Rattle.refusal.specs.Reasons.{number}
+use Rattle.refusal.specs.Refusals.{refused}
 use Rattle.slices.specs.Slices.{All}
 use Rattle.signed.specs.Rounded.{nearest, rounded}
 use Rattle.utc.specs.Utc.{utc_second}
-use Rattle.ticks.specs.declared.Us.{Us}
+use Rattle.ticks.specs.declared.FrameTimes.{FrameTimes}
 use Rattle.ticks.specs.Ticks.{ticks_to_us}
 use Rattle.order.specs.Order.{sorted, count_of, Asc, MostFrequent, mode}
-use Rattle.rows.specs.declared.Row.{Row}
-use Rattle.rows.specs.Rows.{total}
+use Rattle.rows.specs.declared.Origin.{Origin}
+use Rattle.rows.specs.Rows.{total, origin_in}
 use Rattle.rows.specs.Demands.{Tiles, Demands}
-use Rattle.rules.specs.declared.Checked.{Checked}
-use Rattle.rules.specs.declared.Checked.TheVariants.{Frames, Refused}
-use Rattle.rules.specs.declared.Lookup.{Lookup}
-use Rattle.rules.specs.declared.Lookup.TheVariants.{Index}
-use Rattle.rules.specs.declared.Continued.{Continued}
 use Rattle.rules.specs.Records.{segment}
 use Rattle.rules.specs.Records as records
 use Rattle.rules.specs.Rules.{check_of}
 use Rattle.rules.specs.Paper.{tests, Rightly}
 use Rattle.rules.specs.Absent.{stripped}
 use Rattle.rules.specs.Lookups.{segment_of_frame, segment_of_time, continues_at}
-use Rattle.table_rows.specs.declared.Filled.{Filled}
-use Rattle.table_rows.specs.declared.Filled.TheVariants.{Rows}
 use Rattle.table.specs.Layout.{Uneven}
 use Rattle.table_rows.specs.Rows.{row_of, rows_of, Rowed}
-use Rattle.lookups.specs.declared.Indexed.{Indexed}
-use Rattle.lookups.specs.declared.Indexed.TheVariants.{Indices, NoIndices}
 use Rattle.lookups.specs.Indices.{Indexing}
 use Rattle.judge.specs.declared.Video.{Video}
 use Rattle.judge.specs.declared.Video.TheVariants.{Nothing, Constant, Times as TimesOf}
@@ -40,26 +36,19 @@ use Rattle.records.specs.declared.TrimSegment.{TrimSegment}
 use Rattle.differ.specs.Differ.{Differing}
 use Rattle.stops.specs.Stops.{Stopping, Dividing}
 use Rattle.modes.specs.Modes.{ctts_of, NoTopBit}
-use Rattle.maps.specs.declared.Mapped.{Mapped}
-use Rattle.maps.specs.declared.Mapped.TheVariants as mapped
-use Rattle.maps.specs.declared.Traced.{Traced}
-use Rattle.maps.specs.declared.Traced.TheVariants as traced
 use Rattle.maps.specs.Answers as maps
 use Rattle.maps.specs.Laws as laws
 use Rattle.cuts.specs.Answers as cuts
 use Rattle.cuts.specs.Laws as cut-laws
-use Rattle.boxes.specs.declared.Sized.{Sized}
-use Rattle.boxes.specs.declared.Reached.{Reached}
-use Rattle.boxes.specs.declared.Reached.TheVariants as reached
+use Rattle.boxes.specs.declared.BoxSize.{BoxSize}
+use Rattle.boxes.specs.declared.BoxAt.{BoxAt}
 use Rattle.boxes.specs.declared.Place.{Place}
 use Rattle.boxes.specs.Boxes.{box_size, children_at}
 use Rattle.boxes.specs.Boxes as boxes
 use Rattle.boxes.specs.Places.{PartAt, child_place, find_box_place, table_text_place}
-use Rattle.frame_times.specs.declared.FrameTimes.{FrameTimes}
 use Rattle.frame_times.specs.Times as frames
-use Rattle.mcraw.specs.declared.RecordingTimes.{RecordingTimes}
 use Rattle.mcraw.specs.Mcraw.{McrawAnswers}
-use Rattle.told.specs.Told.{us_told, size_told, place_told, reached_told, checked_told, refusal_told, lookup_told, indexed_told, continued_told, filled_told, mapped_told, traced_told, times_told, moov_told}
+use Rattle.told.specs.Told.{told, itself, yes_or_no, unsaid, size_words, box_words, place_words, origin_words, times_words}
 use Rattle.audit.specs.Promise.{OneAnswer}
 use Rattle.audit.specs.Calls as calls
 use Rattle.audit.specs.Face as face
@@ -132,102 +121,103 @@ pub record Face : Type 0 where
 -- calls holds in C. (Demands 1 and 2.)
 pub record Telling : Type 0 where
   pub st-check : (l : Lent) (frames index r frames' index' : ℕ)
-      → on face.StCheck l frames index r frames' index' ↔ Tells (Check l) (λ c. (r, frames', index') ≡ checked_told c frames)
+      → on face.StCheck l frames index r frames' index' ↔ Tells (Check l) (λ c. (r, frames', index') ≡ told itself c frames)
   pub st-segment-of-frame : (l : Lent) (f segment index r segment' index' : ℕ)
-      → on face.StSegmentOfFrame l f segment index r segment' index' ↔ Tells (SegmentOfFrame l f) (λ c. (r, segment', index') ≡ lookup_told c segment)
+      → on face.StSegmentOfFrame l f segment index r segment' index' ↔ Tells (SegmentOfFrame l f) (λ c. (r, segment', index') ≡ told itself c segment)
   pub st-segment-of-time-us : (l : Lent) (t : ℤ) (segment index r segment' index' : ℕ)
-      → on face.StSegmentOfTimeUs l t segment index r segment' index' ↔ Tells (SegmentOfTimeUs l t) (λ c. (r, segment', index') ≡ lookup_told c segment)
+      → on face.StSegmentOfTimeUs l t segment index r segment' index' ↔ Tells (SegmentOfTimeUs l t) (λ c. (r, segment', index') ≡ told itself c segment)
   pub st-continues : (l : Lent) (k answer index r answer' index' : ℕ)
-      → on face.StContinues l k answer index r answer' index' ↔ Tells (Continues l k) (λ c. (r, answer', index') ≡ continued_told c answer)
+      → on face.StContinues l k answer index r answer' index' ↔ Tells (Continues l k) (λ c. (r, answer', index') ≡ told yes_or_no c answer)
   pub st-rows-of-table : (l : Lent) (ou ou' : List ℕ) (os os' : List ℤ) (rows index r rows' index' : ℕ)
-      → on face.StRowsOfTable l ou os rows index r ou' os' rows' index' ↔ Tells (λ c. RowsOfTable l ou os c ou' os') (λ c. (r, rows', index') ≡ filled_told c rows)
+      → on face.StRowsOfTable l ou os rows index r ou' os' rows' index' ↔ Tells (λ c. RowsOfTable l ou os c ou' os') (λ c. (r, rows', index') ≡ told itself c rows)
   pub st-segments-of-frames : (l : Lent) (fs out out' : List ℕ) (written index r written' index' : ℕ)
-      → on face.StSegmentsOfFrames l fs out written index r out' written' index' ↔ Tells (λ c. SegmentsOfFrames l fs out c out') (λ c. (r, written', index') ≡ indexed_told c written)
+      → on face.StSegmentsOfFrames l fs out written index r out' written' index' ↔ Tells (λ c. SegmentsOfFrames l fs out c out') (λ c. (r, written', index') ≡ told itself c written)
   pub st-validate-no-video : (l : Lent) (index r index' : ℕ)
-      → on face.StValidateNoVideo l index r index' ↔ Tells (Validate l Nothing []) (λ c. (r, index') ≡ refusal_told c)
+      → on face.StValidateNoVideo l index r index' ↔ Tells (Validate l Nothing []) (λ c. (r, tt, index') ≡ told unsaid c tt)
   pub st-validate-constant : (l : Lent) (count num den frames index r frames' index' : ℕ)
-      → on face.StValidateConstant l count num den frames index r frames' index' ↔ Tells (Validate l (Constant count num den) []) (λ c. (r, frames', index') ≡ checked_told c frames)
+      → on face.StValidateConstant l count num den frames index r frames' index' ↔ Tells (Validate l (Constant count num den) []) (λ c. (r, frames', index') ≡ told itself c frames)
   pub st-validate-times : (l : Lent) (scale : ℕ) (starts : List ℤ) (end nominal : ℤ) (frames index r frames' index' : ℕ)
       → on face.StValidateTimes l scale starts end nominal frames index r frames' index'
-      ↔ Tells (Validate l (TimesOf scale end nominal) starts) (λ c. (r, frames', index') ≡ checked_told c frames)
+      ↔ Tells (Validate l (TimesOf scale end nominal) starts) (λ c. (r, frames', index') ≡ told itself c frames)
   pub st-check-mcraw : (l : Lent) (ts a b a' b' : List ℤ) (frames index r frames' index' : ℕ)
-      → on face.StCheckMcraw l ts a b frames index r a' b' frames' index' ↔ Tells (λ c. CheckMcraw l ts a b c a' b') (λ c. (r, frames', index') ≡ checked_told c frames)
+      → on face.StCheckMcraw l ts a b frames index r a' b' frames' index' ↔ Tells (λ c. CheckMcraw l ts a b c a' b') (λ c. (r, frames', index') ≡ told itself c frames)
   pub st-segment-of-frame-records : (sources text : List ℕ) (rs : List TrimSegment) (log : Bool) (f segment index r segment' index' : ℕ)
       → face.StSegmentOfFrameRecords sources text rs log f segment index r segment' index'
-      ↔ Tells (calls.SegmentOfFrameRecords sources text rs log f) (λ c. (r, segment', index') ≡ lookup_told c segment)
+      ↔ Tells (calls.SegmentOfFrameRecords sources text rs log f) (λ c. (r, segment', index') ≡ told itself c segment)
   pub st-cut : (u : List ℕ) (s : List ℤ) (a b : ℕ) (ou ou' : List ℕ) (os os' : List ℤ) (rows index r rows' index' : ℕ)
-      → face.StCut u s a b ou os rows index r ou' os' rows' index' ↔ Tells (λ c. calls.Cut u s a b ou os c ou' os') (λ c. (r, rows', index') ≡ mapped_told c rows)
+      → face.StCut u s a b ou os rows index r ou' os' rows' index' ↔ Tells (λ c. calls.Cut u s a b ou os c ou' os') (λ c. (r, rows', index') ≡ told itself c rows)
   pub st-cuts : (u ranges : List ℕ) (s : List ℤ) (ou ou' : List ℕ) (os os' : List ℤ) (counts counts' : List ℕ) (rows index r rows' index' : ℕ)
       → face.StCuts u s ranges ou os counts rows index r ou' os' counts' rows' index'
-      ↔ Tells (λ c. calls.Cuts u s ranges ou os counts c ou' os' counts') (λ c. (r, rows', index') ≡ mapped_told c rows)
+      ↔ Tells (λ c. calls.Cuts u s ranges ou os counts c ou' os' counts') (λ c. (r, rows', index') ≡ told itself c rows)
   pub st-join : (u v : List ℕ) (s t : List ℤ) (ou ou' : List ℕ) (os os' : List ℤ) (rows index r rows' index' : ℕ)
-      → face.StJoin u s v t ou os rows index r ou' os' rows' index' ↔ Tells (λ c. calls.Join u s v t ou os c ou' os') (λ c. (r, rows', index') ≡ mapped_told c rows)
+      → face.StJoin u s v t ou os rows index r ou' os' rows' index' ↔ Tells (λ c. calls.Join u s v t ou os c ou' os') (λ c. (r, rows', index') ≡ told itself c rows)
   pub st-merge : (u : List ℕ) (s : List ℤ) (ou ou' : List ℕ) (os os' : List ℤ) (rows index r rows' index' : ℕ)
-      → face.StMerge u s ou os rows index r ou' os' rows' index' ↔ Tells (λ c. calls.Merge u s ou os c ou' os') (λ c. (r, rows', index') ≡ mapped_told c rows)
+      → face.StMerge u s ou os rows index r ou' os' rows' index' ↔ Tells (λ c. calls.Merge u s ou os c ou' os') (λ c. (r, rows', index') ≡ told itself c rows)
   pub st-origin : (u : List ℕ) (s : List ℤ) (k source frame flag : ℕ) (shift : ℤ) (index r source' frame' flag' : ℕ) (shift' : ℤ) (index' : ℕ)
       → face.StOrigin u s k source frame flag shift index r source' frame' flag' shift' index'
-      ↔ Tells (calls.Origin u s k) (λ c. (r, source', frame', flag', shift', index') ≡ traced_told c source frame flag shift)
+      ↔ Tells (calls.Origin u s k) (λ c. (r, (source', frame', flag', shift'), index') ≡ told origin_words c (source, frame, flag, shift))
   pub st-box-size : (b : List ℕ) (remaining size header index r size' header' index' : ℕ)
-      → face.StBoxSize b remaining size header index r size' header' index' ↔ Tells (calls.BoxSize b remaining) (λ c. (r, size', header', index') ≡ size_told c size header)
+      → face.StBoxSize b remaining size header index r size' header' index' ↔ Tells (calls.BoxSize b remaining) (λ c. (r, (size', header'), index') ≡ told size_words c (size, header))
   pub st-children : (b : List ℕ) (at kind start length next index r kind' start' length' next' index' : ℕ)
       → face.StChildren b at kind start length next index r kind' start' length' next' index'
-      ↔ Tells (calls.Children b at) (λ c. (r, kind', start', length', next', index') ≡ reached_told c kind start length next)
+      ↔ Tells (calls.Children b at) (λ c. (r, (kind', start', length', next'), index') ≡ told box_words c (kind, start, length, next))
   pub st-child : (b : List ℕ) (kind start length index r start' length' index' : ℕ)
-      → face.StChild b kind start length index r start' length' index' ↔ Tells (calls.ChildPlace b kind) (λ c. (r, start', length', index') ≡ place_told c start length)
+      → face.StChild b kind start length index r start' length' index' ↔ Tells (calls.ChildPlace b kind) (λ c. (r, (start', length'), index') ≡ told place_words c (start, length))
   pub st-find-box : (b : List ℕ) (from to kind : ℕ) (text : Bool) (start length index r start' length' index' : ℕ)
       → face.StFindBox b from to kind text start length index r start' length' index'
-      ↔ Tells (calls.FindBoxPlace b from to kind text) (λ c. (r, start', length', index') ≡ place_told c start length)
+      ↔ Tells (calls.FindBoxPlace b from to kind text) (λ c. (r, (start', length'), index') ≡ told place_words c (start, length))
   pub st-table-text : (b : List ℕ) (start length index r start' length' index' : ℕ)
-      → face.StTableText b start length index r start' length' index' ↔ Tells (calls.TableTextPlace b) (λ c. (r, start', length', index') ≡ place_told c start length)
+      → face.StTableText b start length index r start' length' index' ↔ Tells (calls.TableTextPlace b) (λ c. (r, (start', length'), index') ≡ told place_words c (start, length))
   pub st-video-frame-times-of-moov : (moov : List ℕ) (standard : Bool) (starts a b starts' a' b' : List ℤ) (frames scale : ℕ) (nominal end : ℤ) (index r frames' scale' : ℕ) (nominal' end' : ℤ) (index' : ℕ)
       → face.StVideoFrameTimesOfMoov moov standard starts a b frames scale nominal end index r starts' a' b' frames' scale' nominal' end' index'
-      ↔ Tells (λ c. calls.VideoFrameTimesOfMoov moov standard starts a b c starts' a' b') (λ c. (r, frames', scale', nominal', end', index') ≡ moov_told c frames scale nominal end)
+      ↔ Tells (λ c. calls.VideoFrameTimesOfMoov moov standard starts a b c starts' a' b') (λ c. (r, (frames', scale', nominal', end'), index') ≡ told times_words c (frames, scale, nominal, end))
   pub st-mcraw-times : (ts starts work starts' work' : List ℤ) (frames scale : ℕ) (nominal end : ℤ) (index r frames' scale' : ℕ) (nominal' end' : ℤ) (index' : ℕ)
       → face.StMcrawTimes ts starts work frames scale nominal end index r starts' work' frames' scale' nominal' end' index'
-      ↔ Tells (λ c. calls.McrawTimes ts starts work c starts' work') (λ c. (r, frames', scale', nominal', end', index') ≡ times_told c frames scale nominal end)
+      ↔ Tells (λ c. calls.McrawTimes ts starts work c starts' work') (λ c. (r, (frames', scale', nominal', end'), index') ≡ told times_words c (frames, scale, nominal, end))
   pub st-is-utc-second : (b : List ℕ) (r : Bool) → face.StIsUtcSecond b r ↔ calls.IsUtcSecond b r
   pub st-ticks-to-us : (t : ℤ) (scale : ℕ) (us : ℤ) (index r : ℕ) (us' : ℤ) (index' : ℕ)
-      → face.StTicksToUs t scale us index r us' index' ↔ Tells (calls.TicksToUs t scale) (λ c. (r, us', index') ≡ us_told c us)
+      → face.StTicksToUs t scale us index r us' index' ↔ Tells (calls.TicksToUs t scale) (λ c. (r, us', index') ≡ told itself c us)
 
--- what `origin` answers of frame f, where it lies in row r
-abbrev pub traced_in : Row → ℕ → Traced
-traced_in r f = traced.From r.source (r.first + (f - r.out)) r.flag r.shift
+-- A NUMBER SAYS WHICH REFUSAL IT IS: each reason has one of its own, and none has 0, which is told of an answer. (Demand 1; refusal/specs/Reasons.antt has each reason's number.)
+pub record Numbers : Type 0 where
+  pub own : (a b : Reason) → number a ≡ number b → a ≡ b
+  pub above : (a : Reason) → 0 < number a
 
 -- 3. AN ACCEPTED TABLE'S ROWS TILE ITS FRAMES, AND EACH FRAME HAS ONE ORIGIN. (Demand 3, and the auditor's first two questions.)
 pub record Origins : Type 0 where
   -- The rows of an accepted table are written wherever there is room for one a segment.
-  pub written_out : (l : Lent) (N : ℕ) (ou ou' : List ℕ) (os os' : List ℤ) (r : Filled)
-      → Check l (Frames N) → 5 * length (table l).segments ≤ length ou → length (table l).segments ≤ length os
-      → RowsOfTable l ou os r ou' os' → r ≡ Rows (length (table l).segments)
+  pub written_out : (l : Lent) (N : ℕ) (ou ou' : List ℕ) (os os' : List ℤ) (r : Result ℕ Refusal)
+      → Check l (Ok N) → 5 * length (table l).segments ≤ length ou → length (table l).segments ≤ length os
+      → RowsOfTable l ou os r ou' os' → r ≡ Ok (length (table l).segments)
   -- What is written is a map that cut, join, merge and origin take (`Wrote`, in maps/specs/Laws.antt), one row a segment. Its rows tile the frames 0..N: each begins
   -- where the one before it ends, has frames, and together they have N.
   pub tiles : (l : Lent) (N k : ℕ) (ou ou' : List ℕ) (os os' : List ℤ)
-      → Check l (Frames N) → RowsOfTable l ou os (Rows k) ou' os'
+      → Check l (Ok N) → RowsOfTable l ou os (Ok k) ou' os'
       → laws.Wrote k ou' os' (rows_of (table l)) × Tiles 0 (map_written k ou' os') × (total (map_written k ou' os') ≡ N)
   -- Each frame below N lies in one row and no other, of which `origin` answers source, source frame, flag and shift; any other frame is 54.
-  pub one : (l : Lent) (N k f : ℕ) (ou ou' : List ℕ) (os os' : List ℤ) (r : Traced)
-      → Check l (Frames N) → RowsOfTable l ou os (Rows k) ou' os' → calls.Origin (take (5 * k) ou') (take k os') f r
-      → (f < N → laws.TracedTo (take (5 * k) ou') (take k os') f r) × (N ≤ f → r ≡ traced.Refused 54 0)
+  pub one : (l : Lent) (N k f : ℕ) (ou ou' : List ℕ) (os os' : List ℤ) (r : Result Origin Refusal)
+      → Check l (Ok N) → RowsOfTable l ou os (Ok k) ou' os' → calls.Origin (take (5 * k) ou') (take k os') f r
+      → (f < N → laws.TracedTo (take (5 * k) ou') (take k os') f r) × (N ≤ f → r ≡ refused reason.PastMap 0)
   -- It is the frame of the segment that `segment_of_frame` answers: its source, and as many frames after its first source frame as f is after its first output frame.
-  pub agree : (l : Lent) (N k f i : ℕ) (ou ou' : List ℕ) (os os' : List ℤ) (r : Traced)
-      → Check l (Frames N) → RowsOfTable l ou os (Rows k) ou' os' → f < N → SegmentOfFrame l f (Index i) → calls.Origin (take (5 * k) ou') (take k os') f r
-      → (i < length (table l).segments) × (r ≡ traced_in (row_of (segment (table l) i)) f)
+  pub agree : (l : Lent) (N k f i : ℕ) (ou ou' : List ℕ) (os os' : List ℤ) (r : Result Origin Refusal)
+      → Check l (Ok N) → RowsOfTable l ou os (Ok k) ou' os' → f < N → SegmentOfFrame l f (Ok i) → calls.Origin (take (5 * k) ou') (take k os') f r
+      → (i < length (table l).segments) × (r ≡ Ok (origin_in (row_of (segment (table l) i)) f))
   -- THE AUDITOR'S QUESTION: a table's rows, cut a..b, and that cut c..d. Behind frame f of it lies the frame that the table's segment of frame a + (c + f) gives.
-  pub twice : (l : Lent) (N k m n a b c d f i : ℕ) (ou ou' pu pu' qu qu' : List ℕ) (os os' ps ps' qs qs' : List ℤ) (r : Traced)
-      → Check l (Frames N) → RowsOfTable l ou os (Rows k) ou' os'
-      → calls.Cut (take (5 * k) ou') (take k os') a b pu ps (mapped.Rows m) pu' ps'
-      → calls.Cut (take (5 * m) pu') (take m ps') c d qu qs (mapped.Rows n) qu' qs'
-      → f < d - c → SegmentOfFrame l (a + (c + f)) (Index i) → calls.Origin (take (5 * n) qu') (take n qs') f r
-      → (i < length (table l).segments) × (r ≡ traced_in (row_of (segment (table l) i)) (a + (c + f)))
+  pub twice : (l : Lent) (N k m n a b c d f i : ℕ) (ou ou' pu pu' qu qu' : List ℕ) (os os' ps ps' qs qs' : List ℤ) (r : Result Origin Refusal)
+      → Check l (Ok N) → RowsOfTable l ou os (Ok k) ou' os'
+      → calls.Cut (take (5 * k) ou') (take k os') a b pu ps (Ok m) pu' ps'
+      → calls.Cut (take (5 * m) pu') (take m ps') c d qu qs (Ok n) qu' qs'
+      → f < d - c → SegmentOfFrame l (a + (c + f)) (Ok i) → calls.Origin (take (5 * n) qu') (take n qs') f r
+      → (i < length (table l).segments) × (r ≡ Ok (origin_in (row_of (segment (table l) i)) (a + (c + f))))
 
--- 5. A REFUSAL IS RIGHT. Whatever is lent, `check` refuses with n at i exactly when the paper's condition n holds there and none that is tested before it does, and
--- accepts with N exactly when none holds and the segments have N frames. So do `validate` and `check_mcraw`, whose conditions are those of `check` and then those of
+-- 5. A REFUSAL IS RIGHT. Whatever is lent, `check` refuses for a reason at i exactly when the paper's condition of that reason holds there and none that is tested
+-- before it does, and accepts with N exactly when none holds and the segments have N frames. So do `validate` and `check_mcraw`, whose conditions are those of `check` and then those of
 -- the video or recording. (Demand 1, and the auditor's third question; `Rightly`, in rules/specs/Paper.antt, says it; that file and judge/specs/Paper.antt have document 01's table.)
 pub record Refusals : Type 0 where
-  pub check : (l : Lent) (r : Checked) → Check l r → Rightly r (tests (table l)) (records.frame_total (table l).segments)
-  pub validate : (l : Lent) (video : Video) (starts : List ℤ) (r : Checked) → Validate l video starts r
+  pub check : (l : Lent) (r : Result ℕ Refusal) → Check l r → Rightly r (tests (table l)) (records.frame_total (table l).segments)
+  pub validate : (l : Lent) (video : Video) (starts : List ℤ) (r : Result ℕ Refusal) → Validate l video starts r
       → Rightly r (validate_tests (table l) video starts) (records.frame_total (table l).segments)
-  pub check-mcraw : (l : Lent) (ts a b a' b' : List ℤ) (r : Checked) → CheckMcraw l ts a b r a' b'
+  pub check-mcraw : (l : Lent) (ts a b a' b' : List ℤ) (r : Result ℕ Refusal) → CheckMcraw l ts a b r a' b'
       → Rightly r (mcraw_tests (table l) ts (length a) (length b)) (records.frame_total (table l).segments)
   -- Of condition 1, what `uneven` is of the lent words: a length that is no multiple of its record's, or segment slices that disagree.
   pub uneven : (l : Lent) → ((table l).uneven ≡ true) ↔ Uneven (length l.sources) (length l.words) (length l.stamps)
@@ -235,59 +225,59 @@ pub record Refusals : Type 0 where
 -- 6. WHAT EACH ANSWER IS: the promise is this equation with the definition of document 01, no more and no less. Sizes and boxes are those of ISO/IEC 14496-12
 -- (boxes/specs/Boxes.antt), the times are the paper's. (Demand 2.)
 pub record Meanings : Type 0 where
-  pub ticks-to-us : (t : ℤ) (scale : ℕ) (r : Us) → calls.TicksToUs t scale r ↔ (r ≡ ticks_to_us t scale)
+  pub ticks-to-us : (t : ℤ) (scale : ℕ) (r : Result ℤ Refusal) → calls.TicksToUs t scale r ↔ (r ≡ ticks_to_us t scale)
   pub is-utc-second : (b : List ℕ) (r : Bool) → calls.IsUtcSecond b r ↔ (r ≡ utc_second b)
-  pub check : (l : Lent) (r : Checked) → Check l r ↔ (r ≡ check_of (table l))
-  pub segment-of-frame : (l : Lent) (f : ℕ) (r : Lookup) → SegmentOfFrame l f r ↔ (r ≡ segment_of_frame (table l) f)
-  pub segment-of-time-us : (l : Lent) (t : ℤ) (r : Lookup) → SegmentOfTimeUs l t r ↔ (r ≡ segment_of_time (table l) t)
-  pub continues : (l : Lent) (k : ℕ) (r : Continued) → Continues l k r ↔ (r ≡ continues_at (table l) k)
-  pub rows-of-table : (l : Lent) (ou ou' : List ℕ) (os os' : List ℤ) (r : Filled) → RowsOfTable l ou os r ou' os' ↔ Rowed (table l) ou os r ou' os'
-  pub segments-of-frames : (l : Lent) (fs out out' : List ℕ) (r : Indexed) → SegmentsOfFrames l fs out r out' ↔ Indexing (table l) fs out r out'
-  pub validate : (l : Lent) (video : Video) (starts : List ℤ) (r : Checked) → Validate l video starts r ↔ (r ≡ validate_of (table l) (shown_by video starts))
-  pub check-mcraw : (l : Lent) (ts a b a' b' : List ℤ) (r : Checked) → CheckMcraw l ts a b r a' b' ↔ Settled (table l) ts a b r a' b'
-  pub box-size : (b : List ℕ) (remaining : ℕ) (r : Sized) → calls.BoxSize b remaining r ↔ (r ≡ box_size b remaining)
-  pub children : (b : List ℕ) (at : ℕ) (r : Reached) → calls.Children b at r ↔ (r ≡ children_at b at)
-  pub child-place : (b : List ℕ) (kind : ℕ) (r : Place) → calls.ChildPlace b kind r ↔ (r ≡ child_place b kind)
+  pub check : (l : Lent) (r : Result ℕ Refusal) → Check l r ↔ (r ≡ check_of (table l))
+  pub segment-of-frame : (l : Lent) (f : ℕ) (r : Result ℕ Refusal) → SegmentOfFrame l f r ↔ (r ≡ segment_of_frame (table l) f)
+  pub segment-of-time-us : (l : Lent) (t : ℤ) (r : Result ℕ Refusal) → SegmentOfTimeUs l t r ↔ (r ≡ segment_of_time (table l) t)
+  pub continues : (l : Lent) (k : ℕ) (r : Result Bool Refusal) → Continues l k r ↔ (r ≡ continues_at (table l) k)
+  pub rows-of-table : (l : Lent) (ou ou' : List ℕ) (os os' : List ℤ) (r : Result ℕ Refusal) → RowsOfTable l ou os r ou' os' ↔ Rowed (table l) ou os r ou' os'
+  pub segments-of-frames : (l : Lent) (fs out out' : List ℕ) (r : Result ℕ Refusal) → SegmentsOfFrames l fs out r out' ↔ Indexing (table l) fs out r out'
+  pub validate : (l : Lent) (video : Video) (starts : List ℤ) (r : Result ℕ Refusal) → Validate l video starts r ↔ (r ≡ validate_of (table l) (shown_by video starts))
+  pub check-mcraw : (l : Lent) (ts a b a' b' : List ℤ) (r : Result ℕ Refusal) → CheckMcraw l ts a b r a' b' ↔ Settled (table l) ts a b r a' b'
+  pub box-size : (b : List ℕ) (remaining : ℕ) (r : Result BoxSize Refusal) → calls.BoxSize b remaining r ↔ (r ≡ box_size b remaining)
+  pub children : (b : List ℕ) (at : ℕ) (r : Result BoxAt Refusal) → calls.Children b at r ↔ (r ≡ children_at b at)
+  pub child-place : (b : List ℕ) (kind : ℕ) (r : Result Place Refusal) → calls.ChildPlace b kind r ↔ (r ≡ child_place b kind)
   pub child : (b : Bor (List ℕ)) (kind : ℕ) (r : Bor (List ℕ)) → calls.Child b kind r ↔ PartAt b (child_place b.now kind) r
-  pub find-box-place : (b : List ℕ) (start end kind : ℕ) (text : Bool) (r : Place) → calls.FindBoxPlace b start end kind text r ↔ (r ≡ find_box_place b start end kind text)
+  pub find-box-place : (b : List ℕ) (start end kind : ℕ) (text : Bool) (r : Result Place Refusal) → calls.FindBoxPlace b start end kind text r ↔ (r ≡ find_box_place b start end kind text)
   pub find-box : (b : Bor (List ℕ)) (start end kind : ℕ) (text : Bool) (r : Bor (List ℕ)) → calls.FindBox b start end kind text r ↔ PartAt b (find_box_place b.now start end kind text) r
-  pub table-text-place : (b : List ℕ) (r : Place) → calls.TableTextPlace b r ↔ (r ≡ table_text_place b)
+  pub table-text-place : (b : List ℕ) (r : Result Place Refusal) → calls.TableTextPlace b r ↔ (r ≡ table_text_place b)
   pub table-text : (b : Bor (List ℕ)) (r : Bor (List ℕ)) → calls.TableText b r ↔ PartAt b (table_text_place b.now) r
-  pub video-frame-times-of-moov : (moov : List ℕ) (standard : Bool) (starts a b starts' a' b' : List ℤ) (r : FrameTimes)
+  pub video-frame-times-of-moov : (moov : List ℕ) (standard : Bool) (starts a b starts' a' b' : List ℤ) (r : Result FrameTimes Refusal)
       → calls.VideoFrameTimesOfMoov moov standard starts a b r starts' a' b' ↔ frames.MoovAnswers standard moov starts a b r starts' a' b'
-  pub mcraw-times : (ts starts work starts' work' : List ℤ) (r : RecordingTimes) → calls.McrawTimes ts starts work r starts' work' ↔ McrawAnswers ts starts work r starts' work'
-  pub cut : (u : List ℕ) (s : List ℤ) (a b : ℕ) (ou ou' : List ℕ) (os os' : List ℤ) (r : Mapped) → calls.Cut u s a b ou os r ou' os' ↔ maps.Cut u s a b ou os r ou' os'
-  pub cuts : (u ranges : List ℕ) (s : List ℤ) (ou ou' : List ℕ) (os os' : List ℤ) (counts counts' : List ℕ) (r : Mapped)
+  pub mcraw-times : (ts starts work starts' work' : List ℤ) (r : Result FrameTimes Refusal) → calls.McrawTimes ts starts work r starts' work' ↔ McrawAnswers ts starts work r starts' work'
+  pub cut : (u : List ℕ) (s : List ℤ) (a b : ℕ) (ou ou' : List ℕ) (os os' : List ℤ) (r : Result ℕ Refusal) → calls.Cut u s a b ou os r ou' os' ↔ maps.Cut u s a b ou os r ou' os'
+  pub cuts : (u ranges : List ℕ) (s : List ℤ) (ou ou' : List ℕ) (os os' : List ℤ) (counts counts' : List ℕ) (r : Result ℕ Refusal)
       → calls.Cuts u s ranges ou os counts r ou' os' counts' ↔ cuts.Cuts u s ranges ou os counts r ou' os' counts'
-  pub join : (u v : List ℕ) (s t : List ℤ) (ou ou' : List ℕ) (os os' : List ℤ) (r : Mapped) → calls.Join u s v t ou os r ou' os' ↔ maps.Join u s v t ou os r ou' os'
-  pub merge : (u : List ℕ) (s : List ℤ) (ou ou' : List ℕ) (os os' : List ℤ) (r : Mapped) → calls.Merge u s ou os r ou' os' ↔ maps.Merge u s ou os r ou' os'
-  pub origin : (u : List ℕ) (s : List ℤ) (f : ℕ) (r : Traced) → calls.Origin u s f r ↔ maps.Trace u s f r
+  pub join : (u v : List ℕ) (s t : List ℤ) (ou ou' : List ℕ) (os os' : List ℤ) (r : Result ℕ Refusal) → calls.Join u s v t ou os r ou' os' ↔ maps.Join u s v t ou os r ou' os'
+  pub merge : (u : List ℕ) (s : List ℤ) (ou ou' : List ℕ) (os os' : List ℤ) (r : Result ℕ Refusal) → calls.Merge u s ou os r ou' os' ↔ maps.Merge u s ou os r ou' os'
+  pub origin : (u : List ℕ) (s : List ℤ) (f : ℕ) (r : Result Origin Refusal) → calls.Origin u s f r ↔ maps.Trace u s f r
   -- The lookup over records answers what the lookup over words answers of the words that say the same.
-  pub segment-of-frame-records : (sources text : List ℕ) (rs : List TrimSegment) (log : Bool) (f : ℕ) (r : Lookup)
+  pub segment-of-frame-records : (sources text : List ℕ) (rs : List TrimSegment) (log : Bool) (f : ℕ) (r : Result ℕ Refusal)
       → calls.SegmentOfFrameRecords sources text rs log f r ↔ SegmentOfFrame (in_words sources text rs log) f r
 
 -- THE LOOKUPS OF A LIST: whatever its order, the k-th index is what `segment_of_frame` answers of the k-th frame. The table is checked as `check` does, also where the
 -- list is empty, and room that is shorter than the list is refused after that. (Document 02, a.)
 pub record EachFrame : Type 0 where
-  pub each : (l : Lent) (n k : ℕ) (fs out out' : List ℕ) → SegmentsOfFrames l fs out (Indices n) out' → k < length fs → SegmentOfFrame l (get_or fs k 0) (Index (get_or out' k 0))
+  pub each : (l : Lent) (n k : ℕ) (fs out out' : List ℕ) → SegmentsOfFrames l fs out (Ok n) out' → k < length fs → SegmentOfFrame l (get_or fs k 0) (Ok (get_or out' k 0))
   -- What lies past the list stays as lent, and on a refusal all; the room stays as long as it was.
-  pub rest : (l : Lent) (n : ℕ) (fs out out' : List ℕ) → SegmentsOfFrames l fs out (Indices n) out' → drop (length fs) out' ≡ drop (length fs) out
-  pub kept : (l : Lent) (n i : ℕ) (fs out out' : List ℕ) → SegmentsOfFrames l fs out (NoIndices n i) out' → out' ≡ out
-  pub long : (l : Lent) (fs out out' : List ℕ) (r : Indexed) → SegmentsOfFrames l fs out r out' → length out' ≡ length out
+  pub rest : (l : Lent) (n : ℕ) (fs out out' : List ℕ) → SegmentsOfFrames l fs out (Ok n) out' → drop (length fs) out' ≡ drop (length fs) out
+  pub kept : (l : Lent) (why : Reason) (i : ℕ) (fs out out' : List ℕ) → SegmentsOfFrames l fs out (refused why i) out' → out' ≡ out
+  pub long : (l : Lent) (fs out out' : List ℕ) (r : Result ℕ Refusal) → SegmentsOfFrames l fs out r out' → length out' ≡ length out
   -- Which answer it is.
-  pub all : (l : Lent) (N : ℕ) (fs out out' : List ℕ) (r : Indexed) → Check l (Frames N) → length fs ≤ length out → SegmentsOfFrames l fs out r out' → r ≡ Indices (length fs)
-  pub refused : (l : Lent) (n i : ℕ) (fs out out' : List ℕ) (r : Indexed) → Check l (Refused n i) → SegmentsOfFrames l fs out r out' → r ≡ NoIndices n i
-  pub short : (l : Lent) (N : ℕ) (fs out out' : List ℕ) (r : Indexed) → Check l (Frames N) → length out < length fs → SegmentsOfFrames l fs out r out' → r ≡ NoIndices 32 0
+  pub all : (l : Lent) (N : ℕ) (fs out out' : List ℕ) (r : Result ℕ Refusal) → Check l (Ok N) → length fs ≤ length out → SegmentsOfFrames l fs out r out' → r ≡ Ok (length fs)
+  pub as-checked : (l : Lent) (why : Reason) (i : ℕ) (fs out out' : List ℕ) (r : Result ℕ Refusal) → Check l (refused why i) → SegmentsOfFrames l fs out r out' → r ≡ refused why i
+  pub short : (l : Lent) (N : ℕ) (fs out out' : List ℕ) (r : Result ℕ Refusal) → Check l (Ok N) → length out < length fs → SegmentsOfFrames l fs out r out' → r ≡ refused reason.NoRoom 0
 
 -- THE WALK `children` MEETS THE BOXES, by which `child` and the other searches are defined: a box that it answers is the first of those from its offset on, and the
 -- others are those from `next` on, which lies further on in the bytes; where it answers 31 there are none, and where it answers 36 a bad header stands at that
 -- offset. So a walk from 0 on meets all boxes of the bytes, in order, and ends in 31 or 36. (Document 01, `children`; document 02, g; demand 2; boxes/specs/Boxes.antt has `boxes_at`.)
 pub record Walking : Type 0 where
-  pub turn : (b : List ℕ) (at kind start len next : ℕ) → calls.Children b at (reached.Box kind start len next)
+  pub turn : (b : List ℕ) (at kind start len next : ℕ) → calls.Children b at (Ok (record { kind = kind; start = start; len = len; next = next }))
       → boxes.boxes_at b at ≡ boxes.box at kind start len (boxes.boxes_at b next)
-  pub on : (b : List ℕ) (at kind start len next : ℕ) → calls.Children b at (reached.Box kind start len next) → (at < next) × (next ≤ length b)
-  pub end : (b : List ℕ) (at : ℕ) → calls.Children b at (reached.Refused 31 0) → boxes.boxes_at b at ≡ boxes.clean
-  pub bad : (b : List ℕ) (at i : ℕ) → calls.Children b at (reached.Refused 36 i) → boxes.boxes_at b at ≡ boxes.bad i
+  pub on : (b : List ℕ) (at kind start len next : ℕ) → calls.Children b at (Ok (record { kind = kind; start = start; len = len; next = next })) → (at < next) × (next ≤ length b)
+  pub end : (b : List ℕ) (at : ℕ) → calls.Children b at (refused reason.Missing 0) → boxes.boxes_at b at ≡ boxes.clean
+  pub bad : (b : List ℕ) (at i : ℕ) → calls.Children b at (refused reason.Broken i) → boxes.boxes_at b at ≡ boxes.bad i
 
 -- TO THE NEAREST WHOLE NUMBER, as `ticks_to_us` has it by `rounded`: q is n / d rounded exactly when n / d is at least q - 1/2 and less than q + 1/2, so that a half
 -- goes up; and below zero it is the same with the sign, so that a half goes away from zero. (Document 01, `ticks_to_us`; demand 2.)
@@ -305,19 +295,19 @@ pub record Ordering : Type 0 where
 -- COMPOSITION OFFSETS BY THE STANDARD AND BY THE RUST: both modes answer and write the same wherever no offset of version 0 has its top bit set: what the promise allows in
 -- one mode, which by `answers` is one answer, it allows in the other. (Document 02, d; modes/specs/Modes.antt has the condition, tracks/specs/Tables.antt both readings.)
 pub record Agreeing : Type 0 where
-  pub frame-times : (moov : List ℕ) (starts a b starts' a' b' : List ℤ) (r : FrameTimes) → NoTopBit (ctts_of moov)
+  pub frame-times : (moov : List ℕ) (starts a b starts' a' b' : List ℤ) (r : Result FrameTimes Refusal) → NoTopBit (ctts_of moov)
       → calls.VideoFrameTimesOfMoov moov true starts a b r starts' a' b' ↔ calls.VideoFrameTimesOfMoov moov false starts a b r starts' a' b'
 
 -- each call that takes a table answers of m what it answers of l: its promise allows of m what it allows of l, which by `answers` is one answer
 pub record SameAnswers (l m : Lent) : Type 0 where
-  pub check : (r : Checked) → Check l r → Check m r
-  pub segment-of-frame : (f : ℕ) (r : Lookup) → SegmentOfFrame l f r → SegmentOfFrame m f r
-  pub segment-of-time-us : (t : ℤ) (r : Lookup) → SegmentOfTimeUs l t r → SegmentOfTimeUs m t r
-  pub continues : (k : ℕ) (r : Continued) → Continues l k r → Continues m k r
-  pub rows-of-table : (ou ou' : List ℕ) (os os' : List ℤ) (r : Filled) → RowsOfTable l ou os r ou' os' → RowsOfTable m ou os r ou' os'
-  pub segments-of-frames : (fs out out' : List ℕ) (r : Indexed) → SegmentsOfFrames l fs out r out' → SegmentsOfFrames m fs out r out'
-  pub validate : (video : Video) (starts : List ℤ) (r : Checked) → Validate l video starts r → Validate m video starts r
-  pub check-mcraw : (ts a b a' b' : List ℤ) (r : Checked) → CheckMcraw l ts a b r a' b' → CheckMcraw m ts a b r a' b'
+  pub check : (r : Result ℕ Refusal) → Check l r → Check m r
+  pub segment-of-frame : (f : ℕ) (r : Result ℕ Refusal) → SegmentOfFrame l f r → SegmentOfFrame m f r
+  pub segment-of-time-us : (t : ℤ) (r : Result ℕ Refusal) → SegmentOfTimeUs l t r → SegmentOfTimeUs m t r
+  pub continues : (k : ℕ) (r : Result Bool Refusal) → Continues l k r → Continues m k r
+  pub rows-of-table : (ou ou' : List ℕ) (os os' : List ℤ) (r : Result ℕ Refusal) → RowsOfTable l ou os r ou' os' → RowsOfTable m ou os r ou' os'
+  pub segments-of-frames : (fs out out' : List ℕ) (r : Result ℕ Refusal) → SegmentsOfFrames l fs out r out' → SegmentsOfFrames m fs out r out'
+  pub validate : (video : Video) (starts : List ℤ) (r : Result ℕ Refusal) → Validate l video starts r → Validate m video starts r
+  pub check-mcraw : (ts a b a' b' : List ℤ) (r : Result ℕ Refusal) → CheckMcraw l ts a b r a' b' → CheckMcraw m ts a b r a' b'
 
 -- WORDS OF AN ABSENT THING (creation time, clock, modulus, shift) ARE IGNORED: tables that differ only in them, that are the same when these words are set to 0, get
 -- the same answers from every call that takes a table. (Document 01, 'How a table is lent'; demand 2; rules/specs/Absent.antt says which words.)
@@ -326,12 +316,13 @@ pub record Ignored : Type 0 where
   -- and so does the lookup over records, of whose absent things some are words and some are fields
   pub segment-of-frame-records : (sources sources' text text' : List ℕ) (rs rs' : List TrimSegment) (log log' : Bool)
       → stripped (table (in_words sources text rs log)) ≡ stripped (table (in_words sources' text' rs' log'))
-      → (f : ℕ) (r : Lookup) → calls.SegmentOfFrameRecords sources text rs log f r → calls.SegmentOfFrameRecords sources' text' rs' log' f r
+      → (f : ℕ) (r : Result ℕ Refusal) → calls.SegmentOfFrameRecords sources text rs log f r → calls.SegmentOfFrameRecords sources' text' rs' log' f r
 
 pub record Claims : Type 0 where
   pub answers : Answers
   pub face : Face
   pub telling : Telling
+  pub numbers : Numbers
   pub origins : Origins
   -- 4. THE LAWS OF CUT, JOIN AND MERGE, of the calls: what is written is a map again; a cut keeps each frame's origin; a cut of a cut is the one cut of the combined
   -- range; a join has both maps' origins; merging keeps origins, twice is once, and two maps merge alike exactly when all origins agree; neighbouring cuts joined

@@ -1,115 +1,111 @@
 -- DOCUMENT 01'S NUMBERS, and the auditor's clip and exports of docs/AUDIT.md, in one statement over a single list: what EVERY call with these arguments answers.
-use Rattle.std.specs.Prelude.{ℕ, ◌+◌, ◌*◌, ◌/◌, ◌%◌, Bool, true, false, List, [], ◌∷◌, ◌++◌, ◌≡◌, ℤ, pos, neg_ℤ, nat_abs, ◌-ℤ◌, replicate, length, take}
-use Rattle.ticks.specs.declared.Us.{Us}
-use Rattle.ticks.specs.declared.Us.TheVariants.{At}
+use Rattle.std.specs.Prelude.{ℕ, ◌+◌, ◌*◌, ◌/◌, ◌%◌, Bool, true, false, List, [], ◌∷◌, ◌++◌, ◌≡◌, ℤ, pos, neg_ℤ, nat_abs, ◌-ℤ◌, replicate, length, take, Result, Ok}
+use Rattle.refusal.specs.declared.Reason.{Reason}
+use Rattle.refusal.specs.declared.Reason.TheVariants as reason
+use Rattle.refusal.specs.declared.Refusal.{Refusal}
+use Rattle.refusal.specs.Refusals.{refused}
+use Rattle.ticks.specs.declared.FrameTimes.{FrameTimes}
 use Rattle.rows.specs.declared.Row.{Row}
+use Rattle.rows.specs.declared.Origin.{Origin as From}
 use Rattle.rows.specs.Lent.{words_of, shifts_of}
-use Rattle.rules.specs.declared.Checked.{Checked}
-use Rattle.rules.specs.declared.Checked.TheVariants.{Frames, Refused}
-use Rattle.rules.specs.declared.Lookup.{Lookup}
-use Rattle.rules.specs.declared.Lookup.TheVariants.{Index}
-use Rattle.table_rows.specs.declared.Filled.{Filled}
-use Rattle.table_rows.specs.declared.Filled.TheVariants as filled
-use Rattle.lookups.specs.declared.Indexed.{Indexed}
-use Rattle.lookups.specs.declared.Indexed.TheVariants.{Indices, NoIndices}
 use Rattle.judge.specs.declared.Video.{Video}
 use Rattle.judge.specs.declared.Video.TheVariants.{Constant}
 use Rattle.judge.specs.Judge.{last_segment}
-use Rattle.maps.specs.declared.Mapped.{Mapped}
-use Rattle.maps.specs.declared.Mapped.TheVariants as mapped
-use Rattle.maps.specs.declared.Traced.{Traced}
-use Rattle.maps.specs.declared.Traced.TheVariants.{From}
 use Rattle.boxes.specs.Bytes.{trak, mdia, hdlr, vide}
 use Rattle.tracks.specs.Edits.{elst}
-use Rattle.frame_times.specs.declared.FrameTimes.{FrameTimes}
-use Rattle.frame_times.specs.declared.FrameTimes.TheVariants.{Presented, Refused as NoFrames}
 use Rattle.frame_times.specs.Times.{mvhd, mdhd, minf, stbl, stts, ctts, edts}
-use Rattle.mcraw.specs.declared.RecordingTimes.{RecordingTimes as Recording}
-use Rattle.mcraw.specs.declared.RecordingTimes.TheVariants.{Timed}
 use Rattle.differ.specs.Differ.{SameFrames}
 use Rattle.audit.specs.Calls.{TicksToUs, IsUtcSecond, Cut, Cuts, Join, Merge, Origin, VideoFrameTimesOfMoov, McrawTimes}
 use Rattle.audit.specs.Words.{Lent, table, Check, SegmentOfFrame, SegmentOfTimeUs, RowsOfTable, SegmentsOfFrames, Validate, CheckMcraw, map_written}
 
 pub data Example : Type 0 where
   -- so many ticks of a scale are so many microseconds
-  ticks : (t : ℤ) (scale : ℕ) (us : Us) → Example
+  ticks : (t : ℤ) (scale : ℕ) (us : Result ℤ Refusal) → Example
   -- bytes pass the UTC rule, or don't
   second : (bytes : List ℕ) (is : Bool) → Example
   -- a table is accepted with so many frames, or refused
-  checked : (l : Lent) (is : Checked) → Example
+  checked : (l : Lent) (is : Result ℕ Refusal) → Example
   -- a table against a video without lent starts
-  against : (l : Lent) (video : Video) (is : Checked) → Example
+  against : (l : Lent) (video : Video) (is : Result ℕ Refusal) → Example
   -- a table against a recording of one timestamp, which needs no working slices
-  filmed : (l : Lent) (timestamp : ℤ) (is : Checked) → Example
+  filmed : (l : Lent) (timestamp : ℤ) (is : Result ℕ Refusal) → Example
   -- two tables that agree in their frame fields, accepted for one constant video: their last durations are us apart, and us·num is so much below document 02's bound
   exports : (l m : Lent) (frames num den us below : ℕ) → Example
   -- the segment of a frame, and of a time
-  frame : (l : Lent) (k : ℕ) (is : Lookup) → Example
-  time : (l : Lent) (us : ℤ) (is : Lookup) → Example
+  frame : (l : Lent) (k : ℕ) (is : Result ℕ Refusal) → Example
+  time : (l : Lent) (us : ℤ) (is : Result ℕ Refusal) → Example
   -- the segments of a list of frames, put into this room, and what it holds then
-  list : (l : Lent) (frames room : List ℕ) (is : Indexed) (are : List ℕ) → Example
+  list : (l : Lent) (frames room : List ℕ) (is : Result ℕ Refusal) (are : List ℕ) → Example
   -- the rows of a table
   map : (l : Lent) (are : List Row) → Example
   -- the frames a to b of a map are these rows
   cut_to : (m : List Row) (a b : ℕ) (are : List Row) → Example
   -- the cuts of ranges of a map, two words each, are these rows, so many of each; or are refused, with no room lent
   cuts_are : (m : List Row) (ranges : List ℕ) (are : List Row) (counts : List ℕ) → Example
-  cuts_refused : (m : List Row) (ranges : List ℕ) (number index : ℕ) → Example
+  cuts_refused : (m : List Row) (ranges : List ℕ) (why : Reason) (index : ℕ) → Example
   -- two maps joined, and a map merged
   joins : (m n : List Row) (are : List Row) → Example
   merges : (m : List Row) (are : List Row) → Example
   -- where a frame of a map comes from
-  comes : (m : List Row) (k : ℕ) (is : Traced) → Example
+  comes : (m : List Row) (k : ℕ) (is : Result From Refusal) → Example
   -- the frame times of a moov, with offsets by the standard or not, and where each frame starts
-  movie : (moov : List ℕ) (standard : Bool) (are : FrameTimes) (starts : List ℤ) → Example
+  movie : (moov : List ℕ) (standard : Bool) (are : Result FrameTimes Refusal) (starts : List ℤ) → Example
   -- the times of a recording's timestamps, and where each frame starts
-  recording : (timestamps : List ℤ) (are : Recording) (starts : List ℤ) → Example
+  recording : (timestamps : List ℤ) (are : Result FrameTimes Refusal) (starts : List ℤ) → Example
 
 abbrev pub last_duration : Lent → ℤ
 last_duration l = (last_segment (table l).segments).stamps.duration
 
 -- every call with these arguments answers so, and writes the rows or starts into room for just them
 abbrev pub Holds : Example → Type 0
-Holds (ticks t scale us) = (r : Us) → TicksToUs t scale r → r ≡ us
+Holds (ticks t scale us) = (r : Result ℤ Refusal) → TicksToUs t scale r → r ≡ us
 Holds (second bytes is) = (r : Bool) → IsUtcSecond bytes r → r ≡ is
-Holds (checked l is) = (r : Checked) → Check l r → r ≡ is
-Holds (against l video is) = (r : Checked) → Validate l video [] r → r ≡ is
-Holds (filmed l x is) = (r : Checked) (a b : List ℤ) → CheckMcraw l (x ∷ []) [] [] r a b → r ≡ is
+Holds (checked l is) = (r : Result ℕ Refusal) → Check l r → r ≡ is
+Holds (against l video is) = (r : Result ℕ Refusal) → Validate l video [] r → r ≡ is
+Holds (filmed l x is) = (r : Result ℕ Refusal) (a b : List ℤ) → CheckMcraw l (x ∷ []) [] [] r a b → r ≡ is
 Holds (exports l m frames num den us below) =
-    ((r : Checked) → Validate l (Constant frames num den) [] r → r ≡ Frames frames)
-    × ((r : Checked) → Validate m (Constant frames num den) [] r → r ≡ Frames frames)
+    ((r : Result ℕ Refusal) → Validate l (Constant frames num den) [] r → r ≡ Ok frames)
+    × ((r : Result ℕ Refusal) → Validate m (Constant frames num den) [] r → r ≡ Ok frames)
     × SameFrames (table l) (table m)
     × (nat_abs (last_duration l -ℤ last_duration m) ≡ us)
     × (us * num + below ≡ 2 * den * 1000000 + num)
-Holds (frame l k is) = (r : Lookup) → SegmentOfFrame l k r → r ≡ is
-Holds (time l us is) = (r : Lookup) → SegmentOfTimeUs l us r → r ≡ is
-Holds (list l frames room is are) = (r : Indexed) (out : List ℕ) → SegmentsOfFrames l frames room r out → (r ≡ is) × (out ≡ are)
+Holds (frame l k is) = (r : Result ℕ Refusal) → SegmentOfFrame l k r → r ≡ is
+Holds (time l us is) = (r : Result ℕ Refusal) → SegmentOfTimeUs l us r → r ≡ is
+Holds (list l frames room is are) = (r : Result ℕ Refusal) (out : List ℕ) → SegmentsOfFrames l frames room r out → (r ≡ is) × (out ≡ are)
 Holds (map l are) =
-    (r : Filled) (ou : List ℕ) (os : List ℤ) → RowsOfTable l (replicate (5 * length are) 0) (replicate (length are) (pos 0)) r ou os
-    → (r ≡ filled.Rows (length are)) × (map_written (length are) ou os ≡ are)
+    (r : Result ℕ Refusal) (ou : List ℕ) (os : List ℤ) → RowsOfTable l (replicate (5 * length are) 0) (replicate (length are) (pos 0)) r ou os
+    → (r ≡ Ok (length are)) × (map_written (length are) ou os ≡ are)
 Holds (cut_to m a b are) =
-    (r : Mapped) (ou : List ℕ) (os : List ℤ) → Cut (words_of m) (shifts_of m) a b (replicate (5 * length are) 0) (replicate (length are) (pos 0)) r ou os
-    → (r ≡ mapped.Rows (length are)) × (map_written (length are) ou os ≡ are)
+    (r : Result ℕ Refusal) (ou : List ℕ) (os : List ℤ) → Cut (words_of m) (shifts_of m) a b (replicate (5 * length are) 0) (replicate (length are) (pos 0)) r ou os
+    → (r ≡ Ok (length are)) × (map_written (length are) ou os ≡ are)
 Holds (cuts_are m ranges are counts) =
-    (r : Mapped) (ou : List ℕ) (os : List ℤ) (counts' : List ℕ)
+    (r : Result ℕ Refusal) (ou : List ℕ) (os : List ℤ) (counts' : List ℕ)
     → Cuts (words_of m) (shifts_of m) ranges (replicate (5 * length are) 0) (replicate (length are) (pos 0)) (replicate (length counts) 0) r ou os counts'
-    → (r ≡ mapped.Rows (length are)) × (map_written (length are) ou os ≡ are) × (counts' ≡ counts)
-Holds (cuts_refused m ranges number index) =
-    (r : Mapped) (ou : List ℕ) (os : List ℤ) (counts' : List ℕ) → Cuts (words_of m) (shifts_of m) ranges [] [] [] r ou os counts' → r ≡ mapped.Refused number index
+    → (r ≡ Ok (length are)) × (map_written (length are) ou os ≡ are) × (counts' ≡ counts)
+Holds (cuts_refused m ranges why index) =
+    (r : Result ℕ Refusal) (ou : List ℕ) (os : List ℤ) (counts' : List ℕ) → Cuts (words_of m) (shifts_of m) ranges [] [] [] r ou os counts' → r ≡ refused why index
 Holds (joins m n are) =
-    (r : Mapped) (ou : List ℕ) (os : List ℤ) → Join (words_of m) (shifts_of m) (words_of n) (shifts_of n) (replicate (5 * length are) 0) (replicate (length are) (pos 0)) r ou os
-    → (r ≡ mapped.Rows (length are)) × (map_written (length are) ou os ≡ are)
+    (r : Result ℕ Refusal) (ou : List ℕ) (os : List ℤ) → Join (words_of m) (shifts_of m) (words_of n) (shifts_of n) (replicate (5 * length are) 0) (replicate (length are) (pos 0)) r ou os
+    → (r ≡ Ok (length are)) × (map_written (length are) ou os ≡ are)
 Holds (merges m are) =
-    (r : Mapped) (ou : List ℕ) (os : List ℤ) → Merge (words_of m) (shifts_of m) (replicate (5 * length are) 0) (replicate (length are) (pos 0)) r ou os
-    → (r ≡ mapped.Rows (length are)) × (map_written (length are) ou os ≡ are)
-Holds (comes m k is) = (r : Traced) → Origin (words_of m) (shifts_of m) k r → r ≡ is
+    (r : Result ℕ Refusal) (ou : List ℕ) (os : List ℤ) → Merge (words_of m) (shifts_of m) (replicate (5 * length are) 0) (replicate (length are) (pos 0)) r ou os
+    → (r ≡ Ok (length are)) × (map_written (length are) ou os ≡ are)
+Holds (comes m k is) = (r : Result From Refusal) → Origin (words_of m) (shifts_of m) k r → r ≡ is
 Holds (movie moov standard are starts) =
-    (r : FrameTimes) (starts' a' b' : List ℤ)
+    (r : Result FrameTimes Refusal) (starts' a' b' : List ℤ)
     → VideoFrameTimesOfMoov moov standard (replicate (length starts) (pos 0)) (replicate (length starts) (pos 0)) (replicate (length starts) (pos 0)) r starts' a' b'
     → (r ≡ are) × (starts' ≡ starts)
 Holds (recording ts are starts) =
-    (r : Recording) (starts' work' : List ℤ) → McrawTimes ts (replicate (length ts) (pos 0)) (replicate (length ts) (pos 0)) r starts' work'
+    (r : Result FrameTimes Refusal) (starts' work' : List ℤ) → McrawTimes ts (replicate (length ts) (pos 0)) (replicate (length ts) (pos 0)) r starts' work'
     → (r ≡ are) × (starts' ≡ starts)
+
+-- so many frames, at so many ticks a second, with this nominal duration and end
+abbrev pub times : (frames scale : ℕ) (nominal end : ℤ) → Result FrameTimes Refusal
+times f s m e = Ok (record { frames = f; scale = s; nominal = m; end = e })
+
+-- a frame of a source, with a shift's flag and the shift
+abbrev pub origin : (source frame flag : ℕ) (shift : ℤ) → Result From Refusal
+origin s f g z = Ok (record { source = s; frame = f; flag = g; shift = z })
 
 -- ---- T of document 01
 -- a row without shift, and one with
@@ -247,53 +243,53 @@ clip_tail = shifted 1 22000 28500 0 clip_shift ∷ row 2 0 30000 28500 ∷ []
 abbrev pub examples : List Example
 examples =
     -- 1001 ticks at 30000, 1 and -1 at 2,000,000, 1 at 4,000,000
-    ticks (pos 1001) 30000 (At (pos 33367))
-    ∷ ticks (pos 1) 2000000 (At (pos 1))
-    ∷ ticks (neg_ℤ (pos 1)) 2000000 (At (neg_ℤ (pos 1)))
-    ∷ ticks (pos 1) 4000000 (At (pos 0))
+    ticks (pos 1001) 30000 (Ok (pos 33367))
+    ∷ ticks (pos 1) 2000000 (Ok (pos 1))
+    ∷ ticks (neg_ℤ (pos 1)) 2000000 (Ok (neg_ℤ (pos 1)))
+    ∷ ticks (pos 1) 4000000 (Ok (pos 0))
     -- 30 frames at 30000/1001: the ends 967,633 and 1,034,367 are near, 967,632 and 1,034,368 are 25
-    ∷ against (lasting 967633) thirty (Frames 30)
-    ∷ against (lasting 1034367) thirty (Frames 30)
-    ∷ against (lasting 967632) thirty (Refused 25 0)
-    ∷ against (lasting 1034368) thirty (Refused 25 0)
+    ∷ against (lasting 967633) thirty (Ok 30)
+    ∷ against (lasting 1034367) thirty (Ok 30)
+    ∷ against (lasting 967632) thirty (refused reason.EndNotNear 0)
+    ∷ against (lasting 1034368) thirty (refused reason.EndNotNear 0)
     -- a day that there was, and one that there wasn't: the UTC rule, and the creation time of T's source A
     ∷ second leap_day true
     ∷ second not_leap_day false
-    ∷ checked (table_t (dated_source 100) leap_day) (Frames 50)
-    ∷ checked (table_t (dated_source 100) not_leap_day) (Refused 5 0)
+    ∷ checked (table_t (dated_source 100) leap_day) (Ok 50)
+    ∷ checked (table_t (dated_source 100) not_leap_day) (refused reason.BadDate 0)
     -- T: frames 29, 30 and 50, times -5 and 1,200,000
-    ∷ checked (table_t (plain 100) []) (Frames 50)
-    ∷ frame (table_t (plain 100) []) 29 (Index 0)
-    ∷ frame (table_t (plain 100) []) 30 (Index 1)
-    ∷ frame (table_t (plain 100) []) 50 (Index 1)
-    ∷ time (table_t (plain 100) []) (neg_ℤ (pos 5)) (Index 0)
-    ∷ time (table_t (plain 100) []) (pos 1200000) (Index 1)
+    ∷ checked (table_t (plain 100) []) (Ok 50)
+    ∷ frame (table_t (plain 100) []) 29 (Ok 0)
+    ∷ frame (table_t (plain 100) []) 30 (Ok 1)
+    ∷ frame (table_t (plain 100) []) 50 (Ok 1)
+    ∷ time (table_t (plain 100) []) (neg_ℤ (pos 5)) (Ok 0)
+    ∷ time (table_t (plain 100) []) (pos 1200000) (Ok 1)
     -- a segment of duration 0 holds no time: time 10 is past it, but where it is the last it is the answer
-    ∷ time still (pos 10) (Index 1)
-    ∷ time still_between (pos 10) (Index 2)
+    ∷ time still (pos 10) (Ok 1)
+    ∷ time still_between (pos 10) (Ok 2)
     -- T cut 25..40, that cut 3..8, and T cut 28..33
     ∷ map (table_t (plain 100) []) T
     ∷ cut_to T 25 40 (row 0 35 5 0 ∷ row 1 5 10 5 ∷ [])
     ∷ cut_to (row 0 35 5 0 ∷ row 1 5 10 5 ∷ []) 3 8 (row 0 38 2 0 ∷ row 1 5 3 2 ∷ [])
     ∷ cut_to T 28 33 (row 0 38 2 0 ∷ row 1 5 3 2 ∷ [])
     -- M1, M2, and durations 5, 7, 7, 5: nominal 5
-    ∷ movie (M []) false (Presented 3 100 (pos 10) (pos 50)) (pos 10 ∷ pos 20 ∷ pos 40 ∷ [])
-    ∷ movie M2 false (Presented 3 100 (pos 10) (pos 40)) (pos 0 ∷ pos 10 ∷ pos 30 ∷ [])
-    ∷ movie (moov_of (1 ∷ 5 ∷ 2 ∷ 7 ∷ 1 ∷ 5 ∷ []) [] []) false (Presented 4 100 (pos 5) (pos 24)) (pos 0 ∷ pos 5 ∷ pos 12 ∷ pos 19 ∷ [])
+    ∷ movie (M []) false (times 3 100 (pos 10) (pos 50)) (pos 10 ∷ pos 20 ∷ pos 40 ∷ [])
+    ∷ movie M2 false (times 3 100 (pos 10) (pos 40)) (pos 0 ∷ pos 10 ∷ pos 30 ∷ [])
+    ∷ movie (moov_of (1 ∷ 5 ∷ 2 ∷ 7 ∷ 1 ∷ 5 ∷ []) [] []) false (times 4 100 (pos 5) (pos 24)) (pos 0 ∷ pos 5 ∷ pos 12 ∷ pos 19 ∷ [])
     -- nominal isn't the median: of durations 5, 5, 7, 8, 9 it is 5
-    ∷ movie (moov_of (2 ∷ 5 ∷ 1 ∷ 7 ∷ 1 ∷ 8 ∷ 1 ∷ 9 ∷ []) [] []) false (Presented 5 100 (pos 5) (pos 34)) (pos 0 ∷ pos 5 ∷ pos 10 ∷ pos 17 ∷ pos 25 ∷ [])
+    ∷ movie (moov_of (2 ∷ 5 ∷ 1 ∷ 7 ∷ 1 ∷ 8 ∷ 1 ∷ 9 ∷ []) [] []) false (times 5 100 (pos 5) (pos 34)) (pos 0 ∷ pos 5 ∷ pos 10 ∷ pos 17 ∷ pos 25 ∷ [])
     -- a recording's timestamps 1000, 1010, 1025: nominal 10, end 35
-    ∷ recording (pos 1000 ∷ pos 1010 ∷ pos 1025 ∷ []) (Timed 3 1000000000 (pos 10) (pos 35)) (pos 0 ∷ pos 10 ∷ pos 25 ∷ [])
+    ∷ recording (pos 1000 ∷ pos 1010 ∷ pos 1025 ∷ []) (times 3 1000000000 (pos 10) (pos 35)) (pos 0 ∷ pos 10 ∷ pos 25 ∷ [])
     -- the auditor's clip: accepted, its rows, cut twice and cut at once, and frame 41,200 of it: frame 28,200 of original 1, with the shift -1,800
-    ∷ checked clip_table (Frames 108500)
-    ∷ against clip_table (Constant 108500 25 1) (Frames 108500)
+    ∷ checked clip_table (Ok 108500)
+    ∷ against clip_table (Constant 108500 25 1) (Ok 108500)
     ∷ map clip_table clip_rows
     ∷ cut_to clip_rows 5000 105000 clip_cut
     ∷ cut_to clip_cut 10000 90000 clip_twice
     ∷ cut_to clip_rows 15000 95000 clip_twice
-    ∷ comes clip_twice 41200 (From 1 28200 1 clip_shift)
-    ∷ comes clip_rows 56200 (From 1 28200 1 clip_shift)
-    ∷ frame clip_table 56200 (Index 1)
+    ∷ comes clip_twice 41200 (origin 1 28200 1 clip_shift)
+    ∷ comes clip_rows 56200 (origin 1 28200 1 clip_shift)
+    ∷ frame clip_table 56200 (Ok 1)
     -- its frames up to 50,000 and those after them, joined: four rows, which merged are the clip again
     ∷ cut_to clip_rows 0 50000 clip_head
     ∷ cut_to clip_rows 50000 108500 clip_tail
@@ -310,30 +306,30 @@ examples =
     -- source and capture times aren't bound by it
     ∷ exports (lasting 1001000) elsewhere 30 30000 1001 0 2002030000
     -- of one timestamp the fps decides, so that it is asked to be the same: at 25/1 a frame lasts 40,000, at 1/1 a million
-    ∷ filmed (whole_source 1 25 1 (stamps 0 40000 (pos 0))) (pos 7) (Frames 1)
-    ∷ filmed (whole_source 1 1 1 (stamps 0 1000000 (pos 0))) (pos 7) (Frames 1)
+    ∷ filmed (whole_source 1 25 1 (stamps 0 40000 (pos 0))) (pos 7) (Ok 1)
+    ∷ filmed (whole_source 1 1 1 (stamps 0 1000000 (pos 0))) (pos 7) (Ok 1)
     -- document 02, a: T's frames in any order, and what lies past them; room that is too short; a table that is refused, of a list without frames
-    ∷ list (table_t (plain 100) []) (49 ∷ 0 ∷ 30 ∷ 29 ∷ 18446744073709551615 ∷ []) (9 ∷ 9 ∷ 9 ∷ 9 ∷ 9 ∷ 9 ∷ []) (Indices 5) (1 ∷ 0 ∷ 1 ∷ 0 ∷ 1 ∷ 9 ∷ [])
-    ∷ list (table_t (plain 100) []) (29 ∷ 30 ∷ []) (9 ∷ []) (NoIndices 32 0) (9 ∷ [])
-    ∷ list (table_t (plain 0) []) [] [] (NoIndices 4 0) []
+    ∷ list (table_t (plain 100) []) (49 ∷ 0 ∷ 30 ∷ 29 ∷ 18446744073709551615 ∷ []) (9 ∷ 9 ∷ 9 ∷ 9 ∷ 9 ∷ 9 ∷ []) (Ok 5) (1 ∷ 0 ∷ 1 ∷ 0 ∷ 1 ∷ 9 ∷ [])
+    ∷ list (table_t (plain 100) []) (29 ∷ 30 ∷ []) (9 ∷ []) (refused reason.NoRoom 0) (9 ∷ [])
+    ∷ list (table_t (plain 0) []) [] [] (refused reason.ZeroInSource 0) []
     -- document 02, g: of M1 the mvhd and 6 bytes, so that its boxes end there without a track; 10 bytes more, where the trak's header at 24 is bad; a bad header in the
     -- place of the stts; and one in that of the edts, which may be absent
-    ∷ movie (take 30 (M [])) false (NoFrames 31 0) []
-    ∷ movie (take 40 (M [])) false (NoFrames 36 24) []
-    ∷ movie (moov_with (numbers (7 ∷ stts ∷ [])) []) false (NoFrames 36 100) []
-    ∷ movie (M (numbers (7 ∷ edts ∷ []))) false (Presented 3 100 (pos 10) (pos 50)) (pos 10 ∷ pos 20 ∷ pos 40 ∷ [])
+    ∷ movie (take 30 (M [])) false (refused reason.Missing 0) []
+    ∷ movie (take 40 (M [])) false (refused reason.Broken 24) []
+    ∷ movie (moov_with (numbers (7 ∷ stts ∷ [])) []) false (refused reason.Broken 100) []
+    ∷ movie (M (numbers (7 ∷ edts ∷ []))) false (times 3 100 (pos 10) (pos 50)) (pos 10 ∷ pos 20 ∷ pos 40 ∷ [])
     -- document 02, d: the time-lapse by the standard, without an edit and with one; by the Rust its times are below 0, and no frame is kept; the versions 1, 2 and 255 are signed
-    ∷ movie (lapse 0 []) true (Presented 3 1000000000 (pos 500000000) (pos 3900000000)) (pos 2400000000 ∷ pos 2900000000 ∷ pos 3400000000 ∷ [])
-    ∷ movie (lapse 0 lapse_edit) true (Presented 3 1000000000 (pos 500000000) (pos 1500000000)) (pos 0 ∷ pos 500000000 ∷ pos 1000000000 ∷ [])
-    ∷ movie (lapse 0 []) false (NoFrames 31 0) (pos 0 ∷ pos 0 ∷ pos 0 ∷ [])
-    ∷ movie (lapse 1 []) true (NoFrames 31 0) (pos 0 ∷ pos 0 ∷ pos 0 ∷ [])
-    ∷ movie (lapse 2 []) true (NoFrames 31 0) (pos 0 ∷ pos 0 ∷ pos 0 ∷ [])
-    ∷ movie (lapse 255 []) true (NoFrames 31 0) (pos 0 ∷ pos 0 ∷ pos 0 ∷ [])
+    ∷ movie (lapse 0 []) true (times 3 1000000000 (pos 500000000) (pos 3900000000)) (pos 2400000000 ∷ pos 2900000000 ∷ pos 3400000000 ∷ [])
+    ∷ movie (lapse 0 lapse_edit) true (times 3 1000000000 (pos 500000000) (pos 1500000000)) (pos 0 ∷ pos 500000000 ∷ pos 1000000000 ∷ [])
+    ∷ movie (lapse 0 []) false (refused reason.Missing 0) (pos 0 ∷ pos 0 ∷ pos 0 ∷ [])
+    ∷ movie (lapse 1 []) true (refused reason.Missing 0) (pos 0 ∷ pos 0 ∷ pos 0 ∷ [])
+    ∷ movie (lapse 2 []) true (refused reason.Missing 0) (pos 0 ∷ pos 0 ∷ pos 0 ∷ [])
+    ∷ movie (lapse 255 []) true (refused reason.Missing 0) (pos 0 ∷ pos 0 ∷ pos 0 ∷ [])
     -- T cut 25..40 and 28..33 in one call, and 28..30 and 25..40, each counted from its own a; no range at all; and of three the second past T's end, before the lack of room
     ∷ cuts_are T (25 ∷ 40 ∷ 28 ∷ 33 ∷ []) (row 0 35 5 0 ∷ row 1 5 10 5 ∷ row 0 38 2 0 ∷ row 1 5 3 2 ∷ []) (2 ∷ 2 ∷ [])
     ∷ cuts_are T (28 ∷ 30 ∷ 25 ∷ 40 ∷ []) (row 0 38 2 0 ∷ row 0 35 5 0 ∷ row 1 5 10 5 ∷ []) (1 ∷ 2 ∷ [])
     ∷ cuts_are T [] [] []
-    ∷ cuts_refused T (0 ∷ 50 ∷ 20 ∷ 51 ∷ 7 ∷ 7 ∷ []) 50 1
-    ∷ cuts_refused T (0 ∷ 50 ∷ 20 ∷ []) 50 1
-    ∷ cuts_refused T (0 ∷ 50 ∷ []) 52 0
+    ∷ cuts_refused T (0 ∷ 50 ∷ 20 ∷ 51 ∷ 7 ∷ 7 ∷ []) reason.BadRange 1
+    ∷ cuts_refused T (0 ∷ 50 ∷ 20 ∷ []) reason.BadRange 1
+    ∷ cuts_refused T (0 ∷ 50 ∷ []) reason.RowsDontFit 0
     ∷ []

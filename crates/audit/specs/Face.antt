@@ -14,7 +14,7 @@ use Rattle.rules.specs.Rules.{check_of}
 use Rattle.segment_table.specs.Written.{CutTold, CutsTold, IndexingTold, JoinTold, JudgedTold, McrawTold, MergeTold, MoovTold, RowedTold, origin_of}
 use Rattle.table.specs.Layout.{table_of}
 use Rattle.ticks.specs.Ticks.{ticks_to_us}
-use Rattle.told.specs.Told.{checked_told, continued_told, lookup_told, place_told, reached_told, refusal_told, size_told, traced_told, us_told}
+use Rattle.told.specs.Told.{box_words, itself, origin_words, place_words, size_words, told, unsaid, yes_or_no}
 use Rattle.utc.specs.Utc.{utc_second}
 use Rattle.segment_table.specs.contracts.clock.st_is_utc_second as st-is-utc-second·
 use Rattle.segment_table.specs.contracts.clock.st_ticks_to_us as st-ticks-to-us·
@@ -51,7 +51,7 @@ st-is-utc-second = record { types = st-is-utc-second·.ended; Learnt = λ κs a 
 
 -- segment_table::clock::st_ticks_to_us: st_ticks_to_us(ticks, scale, us, index) answers ans, and leaves us', index'
 abbrev pub StTicksToUs : ℤ → ℕ → ℤ → ℕ → ℕ → ℤ → ℕ → Type 0
-StTicksToUs ticks scale us index ans us' index' = (ans, us', index') ≡ us_told (ticks_to_us ticks scale) us
+StTicksToUs ticks scale us index ans us' index' = (ans, us', index') ≡ told itself (ticks_to_us ticks scale) us
 
 abbrev pub st-ticks-to-us : Promise
 st-ticks-to-us = record { types = st-ticks-to-us·.ended; Learnt = λ κs a z e. StTicksToUs a.0 a.1.0 a.1.1.0.now a.1.1.1.0.now z e.1.1.0.now e.1.1.1.0.now }
@@ -86,28 +86,28 @@ st-merge = record { types = st-merge·.ended; Learnt = λ κs a z e. StMerge a.0
 
 -- segment_table::cutting::st_origin: st_origin(words, shifts, frame, source, source-frame, flag, shift, index) answers ans, and leaves source', source-frame', flag', shift', index'
 abbrev pub StOrigin : List ℕ → List ℤ → ℕ → ℕ → ℕ → ℕ → ℤ → ℕ → ℕ → ℕ → ℕ → ℕ → ℤ → ℕ → Type 0
-StOrigin words shifts frame source source-frame flag shift index ans source' source-frame' flag' shift' index' = (ans, source', source-frame', flag', shift', index') ≡ traced_told (origin_of words shifts frame) source source-frame flag shift
+StOrigin words shifts frame source source-frame flag shift index ans source' source-frame' flag' shift' index' = (ans, (source', source-frame', flag', shift'), index') ≡ told origin_words (origin_of words shifts frame) (source, source-frame, flag, shift)
 
 abbrev pub st-origin : Promise
 st-origin = record { types = st-origin·.ended; Learnt = λ κs a z e. StOrigin a.0.now a.1.0.now a.1.1.0 a.1.1.1.0.now a.1.1.1.1.0.now a.1.1.1.1.1.0.now a.1.1.1.1.1.1.0.now a.1.1.1.1.1.1.1.0.now z e.1.1.1.0.now e.1.1.1.1.0.now e.1.1.1.1.1.0.now e.1.1.1.1.1.1.0.now e.1.1.1.1.1.1.1.0.now }
 
 -- segment_table::judging::st_validate_no_video: st_validate_no_video(sources, segments, times, log, text, index) answers ans, and leaves index'
 abbrev pub StValidateNoVideo : List ℕ → List ℕ → List ℤ → Bool → List ℕ → ℕ → ℕ → ℕ → Type 0
-StValidateNoVideo sources segments times log text index ans index' = (ans, index') ≡ refusal_told (validate_of (table_of sources segments times log text) nothing)
+StValidateNoVideo sources segments times log text index ans index' = (ans, tt, index') ≡ told unsaid (validate_of (table_of sources segments times log text) nothing) tt
 
 abbrev pub st-validate-no-video : Promise
 st-validate-no-video = record { types = st-validate-no-video·.ended; Learnt = λ κs a z e. StValidateNoVideo a.0.now a.1.0.now a.1.1.0.now a.1.1.1.0 a.1.1.1.1.0.now a.1.1.1.1.1.0.now z e.1.1.1.1.1.0.now }
 
 -- segment_table::judging::st_validate_constant: st_validate_constant(sources, segments, times, log, text, video-frames, num, den, frames, index) answers ans, and leaves frames', index'
 abbrev pub StValidateConstant : List ℕ → List ℕ → List ℤ → Bool → List ℕ → ℕ → ℕ → ℕ → ℕ → ℕ → ℕ → ℕ → ℕ → Type 0
-StValidateConstant sources segments times log text video-frames num den frames index ans frames' index' = (ans, frames', index') ≡ checked_told (validate_of (table_of sources segments times log text) (constant video-frames num den)) frames
+StValidateConstant sources segments times log text video-frames num den frames index ans frames' index' = (ans, frames', index') ≡ told itself (validate_of (table_of sources segments times log text) (constant video-frames num den)) frames
 
 abbrev pub st-validate-constant : Promise
 st-validate-constant = record { types = st-validate-constant·.ended; Learnt = λ κs a z e. StValidateConstant a.0.now a.1.0.now a.1.1.0.now a.1.1.1.0 a.1.1.1.1.0.now a.1.1.1.1.1.0 a.1.1.1.1.1.1.0 a.1.1.1.1.1.1.1.0 a.1.1.1.1.1.1.1.1.0.now a.1.1.1.1.1.1.1.1.1.0.now z e.1.1.1.1.1.1.1.1.0.now e.1.1.1.1.1.1.1.1.1.0.now }
 
 -- segment_table::judging::st_validate_times: st_validate_times(sources, segments, times, log, text, scale, starts, end, nominal, frames, index) answers ans, and leaves frames', index'
 abbrev pub StValidateTimes : List ℕ → List ℕ → List ℤ → Bool → List ℕ → ℕ → List ℤ → ℤ → ℤ → ℕ → ℕ → ℕ → ℕ → ℕ → Type 0
-StValidateTimes sources segments times log text scale starts end nominal frames index ans frames' index' = (ans, frames', index') ≡ checked_told (validate_of (table_of sources segments times log text) (timed starts scale end nominal)) frames
+StValidateTimes sources segments times log text scale starts end nominal frames index ans frames' index' = (ans, frames', index') ≡ told itself (validate_of (table_of sources segments times log text) (timed starts scale end nominal)) frames
 
 abbrev pub st-validate-times : Promise
 st-validate-times = record { types = st-validate-times·.ended; Learnt = λ κs a z e. StValidateTimes a.0.now a.1.0.now a.1.1.0.now a.1.1.1.0 a.1.1.1.1.0.now a.1.1.1.1.1.0 a.1.1.1.1.1.1.0.now a.1.1.1.1.1.1.1.0 a.1.1.1.1.1.1.1.1.0 a.1.1.1.1.1.1.1.1.1.0.now a.1.1.1.1.1.1.1.1.1.1.0.now z e.1.1.1.1.1.1.1.1.1.0.now e.1.1.1.1.1.1.1.1.1.1.0.now }
@@ -121,7 +121,7 @@ st-check-mcraw = record { types = st-check-mcraw·.ended; Learnt = λ κs a z e.
 
 -- segment_table::listed::st_segment_of_frame_records: st_segment_of_frame_records(sources, text, records, log, frame, segment, index) answers ans, and leaves segment', index'
 abbrev pub StSegmentOfFrameRecords : List ℕ → List ℕ → List TrimSegment → Bool → ℕ → ℕ → ℕ → ℕ → ℕ → ℕ → Type 0
-StSegmentOfFrameRecords sources text records log frame segment index ans segment' index' = (ans, segment', index') ≡ lookup_told (locate sources text records log frame) segment
+StSegmentOfFrameRecords sources text records log frame segment index ans segment' index' = (ans, segment', index') ≡ told itself (locate sources text records log frame) segment
 
 abbrev pub st-segment-of-frame-records : Promise
 st-segment-of-frame-records = record { types = st-segment-of-frame-records·.ended; Learnt = λ κs a z e. StSegmentOfFrameRecords a.0.now a.1.0.now a.1.1.0.now a.1.1.1.0 a.1.1.1.1.0 a.1.1.1.1.1.0.now a.1.1.1.1.1.1.0.now z e.1.1.1.1.1.0.now e.1.1.1.1.1.1.0.now }
@@ -142,14 +142,14 @@ st-video-frame-times-of-moov = record { types = st-video-frame-times-of-moov·.e
 
 -- segment_table::tables::st_check: st_check(sources, segments, times, log, text, frames, index) answers ans, and leaves frames', index'
 abbrev pub StCheck : List ℕ → List ℕ → List ℤ → Bool → List ℕ → ℕ → ℕ → ℕ → ℕ → ℕ → Type 0
-StCheck sources segments times log text frames index ans frames' index' = (ans, frames', index') ≡ checked_told (check_of (table_of sources segments times log text)) frames
+StCheck sources segments times log text frames index ans frames' index' = (ans, frames', index') ≡ told itself (check_of (table_of sources segments times log text)) frames
 
 abbrev pub st-check : Promise
 st-check = record { types = st-check·.ended; Learnt = λ κs a z e. StCheck a.0.now a.1.0.now a.1.1.0.now a.1.1.1.0 a.1.1.1.1.0.now a.1.1.1.1.1.0.now a.1.1.1.1.1.1.0.now z e.1.1.1.1.1.0.now e.1.1.1.1.1.1.0.now }
 
 -- segment_table::tables::st_segment_of_frame: st_segment_of_frame(sources, segments, times, log, text, frame, segment, index) answers ans, and leaves segment', index'
 abbrev pub StSegmentOfFrame : List ℕ → List ℕ → List ℤ → Bool → List ℕ → ℕ → ℕ → ℕ → ℕ → ℕ → ℕ → Type 0
-StSegmentOfFrame sources segments times log text frame segment index ans segment' index' = (ans, segment', index') ≡ lookup_told (segment_of_frame (table_of sources segments times log text) frame) segment
+StSegmentOfFrame sources segments times log text frame segment index ans segment' index' = (ans, segment', index') ≡ told itself (segment_of_frame (table_of sources segments times log text) frame) segment
 
 abbrev pub st-segment-of-frame : Promise
 st-segment-of-frame = record { types = st-segment-of-frame·.ended; Learnt = λ κs a z e. StSegmentOfFrame a.0.now a.1.0.now a.1.1.0.now a.1.1.1.0 a.1.1.1.1.0.now a.1.1.1.1.1.0 a.1.1.1.1.1.1.0.now a.1.1.1.1.1.1.1.0.now z e.1.1.1.1.1.1.0.now e.1.1.1.1.1.1.1.0.now }
@@ -163,14 +163,14 @@ st-segments-of-frames = record { types = st-segments-of-frames·.ended; Learnt =
 
 -- segment_table::tables::st_segment_of_time_us: st_segment_of_time_us(sources, segments, times, log, text, time, segment, index) answers ans, and leaves segment', index'
 abbrev pub StSegmentOfTimeUs : List ℕ → List ℕ → List ℤ → Bool → List ℕ → ℤ → ℕ → ℕ → ℕ → ℕ → ℕ → Type 0
-StSegmentOfTimeUs sources segments times log text time segment index ans segment' index' = (ans, segment', index') ≡ lookup_told (segment_of_time (table_of sources segments times log text) time) segment
+StSegmentOfTimeUs sources segments times log text time segment index ans segment' index' = (ans, segment', index') ≡ told itself (segment_of_time (table_of sources segments times log text) time) segment
 
 abbrev pub st-segment-of-time-us : Promise
 st-segment-of-time-us = record { types = st-segment-of-time-us·.ended; Learnt = λ κs a z e. StSegmentOfTimeUs a.0.now a.1.0.now a.1.1.0.now a.1.1.1.0 a.1.1.1.1.0.now a.1.1.1.1.1.0 a.1.1.1.1.1.1.0.now a.1.1.1.1.1.1.1.0.now z e.1.1.1.1.1.1.0.now e.1.1.1.1.1.1.1.0.now }
 
 -- segment_table::tables::st_continues: st_continues(sources, segments, times, log, text, segment, answer, index) answers ans, and leaves answer', index'
 abbrev pub StContinues : List ℕ → List ℕ → List ℤ → Bool → List ℕ → ℕ → ℕ → ℕ → ℕ → ℕ → ℕ → Type 0
-StContinues sources segments times log text segment answer index ans answer' index' = (ans, answer', index') ≡ continued_told (continues_at (table_of sources segments times log text) segment) answer
+StContinues sources segments times log text segment answer index ans answer' index' = (ans, answer', index') ≡ told yes_or_no (continues_at (table_of sources segments times log text) segment) answer
 
 abbrev pub st-continues : Promise
 st-continues = record { types = st-continues·.ended; Learnt = λ κs a z e. StContinues a.0.now a.1.0.now a.1.1.0.now a.1.1.1.0 a.1.1.1.1.0.now a.1.1.1.1.1.0 a.1.1.1.1.1.1.0.now a.1.1.1.1.1.1.1.0.now z e.1.1.1.1.1.1.0.now e.1.1.1.1.1.1.1.0.now }
@@ -184,35 +184,35 @@ st-rows-of-table = record { types = st-rows-of-table·.ended; Learnt = λ κs a 
 
 -- segment_table::walk::st_box_size: st_box_size(«data», remaining, size, header, index) answers ans, and leaves size', header', index'
 abbrev pub StBoxSize : List ℕ → ℕ → ℕ → ℕ → ℕ → ℕ → ℕ → ℕ → ℕ → Type 0
-StBoxSize «data» remaining size header index ans size' header' index' = (ans, size', header', index') ≡ size_told (box_size «data» remaining) size header
+StBoxSize «data» remaining size header index ans size' header' index' = (ans, (size', header'), index') ≡ told size_words (box_size «data» remaining) (size, header)
 
 abbrev pub st-box-size : Promise
 st-box-size = record { types = st-box-size·.ended; Learnt = λ κs a z e. StBoxSize a.0.now a.1.0 a.1.1.0.now a.1.1.1.0.now a.1.1.1.1.0.now z e.1.1.0.now e.1.1.1.0.now e.1.1.1.1.0.now }
 
 -- segment_table::walk::st_children: st_children(payload, at, kind, start, length, next, index) answers ans, and leaves kind', start', length', next', index'
 abbrev pub StChildren : List ℕ → ℕ → ℕ → ℕ → ℕ → ℕ → ℕ → ℕ → ℕ → ℕ → ℕ → ℕ → ℕ → Type 0
-StChildren payload at kind start length next index ans kind' start' length' next' index' = (ans, kind', start', length', next', index') ≡ reached_told (children_at payload at) kind start length next
+StChildren payload at kind start length next index ans kind' start' length' next' index' = (ans, (kind', start', length', next'), index') ≡ told box_words (children_at payload at) (kind, start, length, next)
 
 abbrev pub st-children : Promise
 st-children = record { types = st-children·.ended; Learnt = λ κs a z e. StChildren a.0.now a.1.0 a.1.1.0.now a.1.1.1.0.now a.1.1.1.1.0.now a.1.1.1.1.1.0.now a.1.1.1.1.1.1.0.now z e.1.1.0.now e.1.1.1.0.now e.1.1.1.1.0.now e.1.1.1.1.1.0.now e.1.1.1.1.1.1.0.now }
 
 -- segment_table::walk::st_child: st_child(payload, kind, start, length, index) answers ans, and leaves start', length', index'
 abbrev pub StChild : List ℕ → ℕ → ℕ → ℕ → ℕ → ℕ → ℕ → ℕ → ℕ → Type 0
-StChild payload kind start length index ans start' length' index' = (ans, start', length', index') ≡ place_told (child_place payload kind) start length
+StChild payload kind start length index ans start' length' index' = (ans, (start', length'), index') ≡ told place_words (child_place payload kind) (start, length)
 
 abbrev pub st-child : Promise
 st-child = record { types = st-child·.ended; Learnt = λ κs a z e. StChild a.0.now a.1.0 a.1.1.0.now a.1.1.1.0.now a.1.1.1.1.0.now z e.1.1.0.now e.1.1.1.0.now e.1.1.1.1.0.now }
 
 -- segment_table::walk::st_find_box: st_find_box(bytes, from, to, kind, text-types, start, length, index) answers ans, and leaves start', length', index'
 abbrev pub StFindBox : List ℕ → ℕ → ℕ → ℕ → Bool → ℕ → ℕ → ℕ → ℕ → ℕ → ℕ → ℕ → Type 0
-StFindBox bytes from to kind text-types start length index ans start' length' index' = (ans, start', length', index') ≡ place_told (find_box_place bytes from to kind text-types) start length
+StFindBox bytes from to kind text-types start length index ans start' length' index' = (ans, (start', length'), index') ≡ told place_words (find_box_place bytes from to kind text-types) (start, length)
 
 abbrev pub st-find-box : Promise
 st-find-box = record { types = st-find-box·.ended; Learnt = λ κs a z e. StFindBox a.0.now a.1.0 a.1.1.0 a.1.1.1.0 a.1.1.1.1.0 a.1.1.1.1.1.0.now a.1.1.1.1.1.1.0.now a.1.1.1.1.1.1.1.0.now z e.1.1.1.1.1.0.now e.1.1.1.1.1.1.0.now e.1.1.1.1.1.1.1.0.now }
 
 -- segment_table::walk::st_table_text: st_table_text(file, start, length, index) answers ans, and leaves start', length', index'
 abbrev pub StTableText : List ℕ → ℕ → ℕ → ℕ → ℕ → ℕ → ℕ → ℕ → Type 0
-StTableText file start length index ans start' length' index' = (ans, start', length', index') ≡ place_told (table_text_place file) start length
+StTableText file start length index ans start' length' index' = (ans, (start', length'), index') ≡ told place_words (table_text_place file) (start, length)
 
 abbrev pub st-table-text : Promise
 st-table-text = record { types = st-table-text·.ended; Learnt = λ κs a z e. StTableText a.0.now a.1.0.now a.1.1.0.now a.1.1.1.0.now z e.1.0.now e.1.1.0.now e.1.1.1.0.now }

@@ -7,6 +7,7 @@ ghost use Rattle.audit.specs.Claims.{Claims};
 pub fn all_claims_hold()
     ensures { Claims }
 {
+    refusal::numbers_are_reasons_own();
     rows::maps_meet_the_demands();
     maps::calls_keep_origins();
     cuts::each_cut_is_one_cut();

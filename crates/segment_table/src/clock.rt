@@ -2,7 +2,7 @@
 ghost use Rattle.std.specs.Prelude.{◌≡◌};
 ghost use Rattle.utc.specs.Utc.{utc_second};
 ghost use Rattle.ticks.specs.Ticks.{ticks_to_us};
-ghost use Rattle.told.specs.Told.{us_told};
+ghost use Rattle.told.specs.Told.{told, itself};
 
 // Whether bytes are a creation time by the UTC rule: 20 bytes, YYYY-MM-DDTHH:MM:SSZ.
 // Lent: the bytes. Writes nothing, refuses nothing.
@@ -17,7 +17,7 @@ pub extern "C" fn st_is_utc_second(bytes: &[u8]) -> bool
 // Lent: nothing. Writes us, index. Refuses: 20, 23.
 #[unsafe(no_mangle)]
 pub extern "C" fn st_ticks_to_us(ticks: i64, scale: u64, us: &mut i64, index: &mut u64) -> u64
-    ensures { (result, us.new, index.new) ≡ us_told (ticks_to_us ticks scale) us.old }
+    ensures { (result, us.new, index.new) ≡ told itself (ticks_to_us ticks scale) us.old }
 {
-    told::clock::tell_us(ticks::ticks_to_us(ticks, scale), us, index)
+    told::tell(ticks::ticks_to_us(ticks, scale), us, index)
 }

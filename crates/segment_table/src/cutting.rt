@@ -1,6 +1,6 @@
 // Maps: cut, many cuts, join, merge, and the origin of a frame.
 ghost use Rattle.std.specs.Prelude.{◌≡◌};
-ghost use Rattle.told.specs.Told.{traced_told};
+ghost use Rattle.told.specs.Told.{told, origin_words};
 ghost use Rattle.segment_table.specs.Written.{CutTold, CutsTold, JoinTold, MergeTold, origin_of};
 
 // The frames a..b of a map as a map: each row's overlap, counted from a.
@@ -18,8 +18,8 @@ pub extern "C" fn st_cut(
 ) -> u64
     ensures { CutTold words.now shifts.now a b out_words.old out_shifts.old rows.old result out_words.new out_shifts.new rows.new index.new }
 {
-    let mapped = maps::cut(words, shifts, a, b, out_words, out_shifts);
-    told::cutting::tell_mapped(mapped, rows, index)
+    let answer = maps::cut(words, shifts, a, b, out_words, out_shifts);
+    told::tell(answer, rows, index)
 }
 
 // Cuts of several ranges of a map, which is tested once: of each range the rows that st_cut writes, one cut after the other.
@@ -38,8 +38,8 @@ pub extern "C" fn st_cuts(
 ) -> u64
     ensures { CutsTold words.now shifts.now ranges.now out_words.old out_shifts.old counts.old rows.old result out_words.new out_shifts.new counts.new rows.new index.new }
 {
-    let mapped = cuts::cuts(words, shifts, ranges, out_words, out_shifts, counts);
-    told::cutting::tell_mapped(mapped, rows, index)
+    let answer = cuts::cuts(words, shifts, ranges, out_words, out_shifts, counts);
+    told::tell(answer, rows, index)
 }
 
 // Two maps as one, the second after the first.
@@ -58,7 +58,7 @@ pub extern "C" fn st_join(
 ) -> u64
     ensures { JoinTold words.now shifts.now second_words.now second_shifts.now out_words.old out_shifts.old rows.old result out_words.new out_shifts.new rows.new index.new }
 {
-    let mapped = maps::join(
+    let answer = maps::join(
         words,
         shifts,
         second_words,
@@ -66,7 +66,7 @@ pub extern "C" fn st_join(
         out_words,
         out_shifts,
     );
-    told::cutting::tell_mapped(mapped, rows, index)
+    told::tell(answer, rows, index)
 }
 
 // A map with one row of neighbours that continue: the same source, frames that run on, flag and shift equal.
@@ -82,8 +82,8 @@ pub extern "C" fn st_merge(
 ) -> u64
     ensures { MergeTold words.now shifts.now out_words.old out_shifts.old rows.old result out_words.new out_shifts.new rows.new index.new }
 {
-    let mapped = maps::merge(words, shifts, out_words, out_shifts);
-    told::cutting::tell_mapped(mapped, rows, index)
+    let answer = maps::merge(words, shifts, out_words, out_shifts);
+    told::tell(answer, rows, index)
 }
 
 // Where a frame comes from: its source, its frame there, the shift's flag (1 present, 0 absent) and the shift.
@@ -99,8 +99,8 @@ pub extern "C" fn st_origin(
     shift: &mut i64,
     index: &mut u64,
 ) -> u64
-    ensures { (result, source.new, source_frame.new, flag.new, shift.new, index.new) ≡ traced_told (origin_of words.now shifts.now frame) source.old source_frame.old flag.old shift.old }
+    ensures { (result, (source.new, source_frame.new, flag.new, shift.new), index.new) ≡ told origin_words (origin_of words.now shifts.now frame) (source.old, source_frame.old, flag.old, shift.old) }
 {
-    let traced = maps::origin(words, shifts, frame);
-    told::cutting::tell_traced(traced, source, source_frame, flag, shift, index)
+    let answer = maps::origin(words, shifts, frame);
+    told::several::tell_origin(answer, source, source_frame, flag, shift, index)
 }

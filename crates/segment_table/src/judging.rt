@@ -3,7 +3,7 @@ ghost use Rattle.std.specs.Prelude.{◌≡◌};
 ghost use Rattle.table.specs.Layout.{table_of};
 ghost use Rattle.judge.specs.Video.{nothing, constant, timed};
 ghost use Rattle.judge.specs.Judge.{validate_of};
-ghost use Rattle.told.specs.Told.{checked_told, refusal_told};
+ghost use Rattle.told.specs.Told.{told, itself, unsaid};
 ghost use Rattle.segment_table.specs.Written.{JudgedTold};
 
 use judge::Video;
@@ -20,9 +20,9 @@ pub extern "C" fn st_validate_no_video(
     text: &[u8],
     index: &mut u64,
 ) -> u64
-    ensures { (result, index.new) ≡ refusal_told (validate_of (table_of sources.now segments.now times.now log text.now) nothing) }
+    ensures { (result, tt, index.new) ≡ told unsaid (validate_of (table_of sources.now segments.now times.now log text.now) nothing) tt }
 {
-    let judged = judge::validate(
+    let answer = judge::validate(
         sources,
         segments,
         times,
@@ -31,7 +31,7 @@ pub extern "C" fn st_validate_no_video(
         Video::Nothing,
         &times[..0],
     );
-    told::judging::tell_refusal(judged, index)
+    told::tell_refusal(answer, index)
 }
 
 // Judges a table by a video of video_frames frames at num / den a second: its frame total.
@@ -50,15 +50,15 @@ pub extern "C" fn st_validate_constant(
     frames: &mut u64,
     index: &mut u64,
 ) -> u64
-    ensures { (result, frames.new, index.new) ≡ checked_told (validate_of (table_of sources.now segments.now times.now log text.now) (constant video_frames num den)) frames.old }
+    ensures { (result, frames.new, index.new) ≡ told itself (validate_of (table_of sources.now segments.now times.now log text.now) (constant video_frames num den)) frames.old }
 {
     let video = Video::Constant {
         frames: video_frames,
         num,
         den,
     };
-    let judged = judge::validate(sources, segments, times, log, text, video, &times[..0]);
-    told::tables::tell_checked(judged, frames, index)
+    let answer = judge::validate(sources, segments, times, log, text, video, &times[..0]);
+    told::tell(answer, frames, index)
 }
 
 // Judges a table by a video's frame times, in ticks of scale a second: its frame total. The last frame ends at end.
@@ -78,15 +78,15 @@ pub extern "C" fn st_validate_times(
     frames: &mut u64,
     index: &mut u64,
 ) -> u64
-    ensures { (result, frames.new, index.new) ≡ checked_told (validate_of (table_of sources.now segments.now times.now log text.now) (timed starts.now scale end nominal)) frames.old }
+    ensures { (result, frames.new, index.new) ≡ told itself (validate_of (table_of sources.now segments.now times.now log text.now) (timed starts.now scale end nominal)) frames.old }
 {
     let video = Video::Times {
         scale,
         end,
         nominal,
     };
-    let judged = judge::validate(sources, segments, times, log, text, video, starts);
-    told::tables::tell_checked(judged, frames, index)
+    let answer = judge::validate(sources, segments, times, log, text, video, starts);
+    told::tell(answer, frames, index)
 }
 
 // Judges a table by the timestamps of a MotionCam recording's frames, in nanoseconds: its frame total. One timestamp is
@@ -108,8 +108,8 @@ pub extern "C" fn st_check_mcraw(
 ) -> u64
     ensures { JudgedTold (table_of sources.now segments.now times.now log text.now) timestamps.now work_a.old work_b.old frames.old result work_a.new work_b.new frames.new index.new }
 {
-    let judged = judge::check_mcraw(
+    let answer = judge::check_mcraw(
         sources, segments, times, log, text, timestamps, work_a, work_b,
     );
-    told::tables::tell_checked(judged, frames, index)
+    told::tell(answer, frames, index)
 }

@@ -1,7 +1,7 @@
 // Lists of records: the lookup over a table whose segments are lent as a list of structs.
 ghost use Rattle.std.specs.Prelude.{◌≡◌};
 ghost use Rattle.records.specs.Records.{locate};
-ghost use Rattle.told.specs.Told.{lookup_told};
+ghost use Rattle.told.specs.Told.{told, itself};
 
 use records::TrimSegment;
 
@@ -17,8 +17,8 @@ pub extern "C" fn st_segment_of_frame_records(
     segment: &mut u64,
     index: &mut u64,
 ) -> u64
-    ensures { (result, segment.new, index.new) ≡ lookup_told (locate sources.now text.now records.now log frame) segment.old }
+    ensures { (result, segment.new, index.new) ≡ told itself (locate sources.now text.now records.now log frame) segment.old }
 {
-    let found = records::segment_of_frame_records(sources, text, records, log, frame);
-    told::tables::tell_lookup(found, segment, index)
+    let answer = records::segment_of_frame_records(sources, text, records, log, frame);
+    told::tell(answer, segment, index)
 }

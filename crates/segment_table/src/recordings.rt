@@ -18,8 +18,8 @@ pub extern "C" fn st_mcraw_times(
 ) -> u64
     ensures { McrawTold timestamps.now starts.old work.old frames.old scale.old nominal.old end.old result starts.new work.new frames.new scale.new nominal.new end.new index.new }
 {
-    let times = mcraw::mcraw_times(timestamps, starts, work);
-    told::recordings::tell_times(times, frames, scale, nominal, end, index)
+    let answer = mcraw::mcraw_times(timestamps, starts, work);
+    told::several::tell_times(answer, frames, scale, nominal, end, index)
 }
 
 // The frame times of a moov's first video track: how many, their timescale, the nominal interval and the end; the starts
@@ -50,6 +50,6 @@ pub extern "C" fn st_video_frame_times_of_moov(
 ) -> u64
     ensures { MoovTold standard moov.now starts.old work_a.old work_b.old frames.old scale.old nominal.old end.old result starts.new work_a.new work_b.new frames.new scale.new nominal.new end.new index.new }
 {
-    let times = frame_times::video_frame_times_of_moov(moov, standard, starts, work_a, work_b);
-    told::recordings::tell_moov(times, frames, scale, nominal, end, index)
+    let answer = frame_times::video_frame_times_of_moov(moov, standard, starts, work_a, work_b);
+    told::several::tell_times(answer, frames, scale, nominal, end, index)
 }

@@ -3,7 +3,7 @@ ghost use Rattle.std.specs.Prelude.{◌≡◌};
 ghost use Rattle.rules.specs.Rules.{check_of};
 ghost use Rattle.rules.specs.Lookups.{segment_of_frame, segment_of_time, continues_at};
 ghost use Rattle.table.specs.Layout.{table_of};
-ghost use Rattle.told.specs.Told.{checked_told, lookup_told, continued_told};
+ghost use Rattle.told.specs.Told.{told, itself, yes_or_no};
 ghost use Rattle.segment_table.specs.Written.{RowedTold, IndexingTold};
 
 // Checks a table: its frame total.
@@ -18,9 +18,9 @@ pub extern "C" fn st_check(
     frames: &mut u64,
     index: &mut u64,
 ) -> u64
-    ensures { (result, frames.new, index.new) ≡ checked_told (check_of (table_of sources.now segments.now times.now log text.now)) frames.old }
+    ensures { (result, frames.new, index.new) ≡ told itself (check_of (table_of sources.now segments.now times.now log text.now)) frames.old }
 {
-    told::tables::tell_checked(
+    told::tell(
         table::check(sources, segments, times, log, text),
         frames,
         index,
@@ -40,10 +40,10 @@ pub extern "C" fn st_segment_of_frame(
     segment: &mut u64,
     index: &mut u64,
 ) -> u64
-    ensures { (result, segment.new, index.new) ≡ lookup_told (segment_of_frame (table_of sources.now segments.now times.now log text.now) frame) segment.old }
+    ensures { (result, segment.new, index.new) ≡ told itself (segment_of_frame (table_of sources.now segments.now times.now log text.now) frame) segment.old }
 {
-    let found = lookup::segment_of_frame(sources, segments, times, log, text, frame);
-    told::tables::tell_lookup(found, segment, index)
+    let answer = lookup::segment_of_frame(sources, segments, times, log, text, frame);
+    told::tell(answer, segment, index)
 }
 
 // The segment of each frame of a list, in any order: what st_segment_of_frame answers of it. The table is checked once, also
@@ -64,7 +64,7 @@ pub extern "C" fn st_segments_of_frames(
 ) -> u64
     ensures { IndexingTold (table_of sources.now segments.now times.now log text.now) frames.now out_segments.old written.old result out_segments.new written.new index.new }
 {
-    let found = lookups::segments_of_frames(
+    let answer = lookups::segments_of_frames(
         sources,
         segments,
         times,
@@ -73,7 +73,7 @@ pub extern "C" fn st_segments_of_frames(
         frames,
         out_segments,
     );
-    told::tables::tell_indexed(found, written, index)
+    told::tell(answer, written, index)
 }
 
 // The segment of a time in microseconds: the number of segments that end at or before it, at most the last index.
@@ -89,10 +89,10 @@ pub extern "C" fn st_segment_of_time_us(
     segment: &mut u64,
     index: &mut u64,
 ) -> u64
-    ensures { (result, segment.new, index.new) ≡ lookup_told (segment_of_time (table_of sources.now segments.now times.now log text.now) time) segment.old }
+    ensures { (result, segment.new, index.new) ≡ told itself (segment_of_time (table_of sources.now segments.now times.now log text.now) time) segment.old }
 {
-    let found = lookup::segment_of_time_us(sources, segments, times, log, text, time);
-    told::tables::tell_lookup(found, segment, index)
+    let answer = lookup::segment_of_time_us(sources, segments, times, log, text, time);
+    told::tell(answer, segment, index)
 }
 
 // Whether a segment continues the one before it: the same source, source frames that run on, equal shift. Answers 1 or
@@ -109,10 +109,10 @@ pub extern "C" fn st_continues(
     answer: &mut u64,
     index: &mut u64,
 ) -> u64
-    ensures { (result, answer.new, index.new) ≡ continued_told (continues_at (table_of sources.now segments.now times.now log text.now) segment) answer.old }
+    ensures { (result, answer.new, index.new) ≡ told yes_or_no (continues_at (table_of sources.now segments.now times.now log text.now) segment) answer.old }
 {
-    let continued = lookup::continues(sources, segments, times, log, text, segment as usize);
-    told::tables::tell_continued(continued, answer, index)
+    let continues = lookup::continues(sources, segments, times, log, text, segment as usize);
+    told::tell(continues, answer, index)
 }
 
 // The map of an accepted table: one row a segment, an absent shift as 0.
@@ -131,8 +131,8 @@ pub extern "C" fn st_rows_of_table(
 ) -> u64
     ensures { RowedTold (table_of sources.now segments.now times.now log text.now) out_words.old out_shifts.old rows.old result out_words.new out_shifts.new rows.new index.new }
 {
-    let filled = table_rows::rows_of_table(
+    let answer = table_rows::rows_of_table(
         sources, segments, times, log, text, out_words, out_shifts,
     );
-    told::tables::tell_filled(filled, rows, index)
+    told::tell(answer, rows, index)
 }

@@ -2,7 +2,7 @@
 ghost use Rattle.std.specs.Prelude.{◌≡◌};
 ghost use Rattle.boxes.specs.Boxes.{box_size, children_at};
 ghost use Rattle.boxes.specs.Places.{child_place, find_box_place, table_text_place};
-ghost use Rattle.told.specs.Told.{size_told, reached_told, place_told};
+ghost use Rattle.told.specs.Told.{told, size_words, box_words, place_words};
 
 // The size of the box at the start of data, and of its header, where `remaining` bytes are left of what it is in.
 // Lent: the bytes at hand. Writes size, header, index. Refuses: 30, 31.
@@ -14,9 +14,9 @@ pub extern "C" fn st_box_size(
     header: &mut u64,
     index: &mut u64,
 ) -> u64
-    ensures { (result, size.new, header.new, index.new) ≡ size_told (box_size «data».now remaining) size.old header.old }
+    ensures { (result, (size.new, header.new), index.new) ≡ told size_words (box_size «data».now remaining) (size.old, header.old) }
 {
-    told::walk::tell_size(boxes::box_size(data, remaining), size, header, index)
+    told::several::tell_size(boxes::box_size(data, remaining), size, header, index)
 }
 
 // The box at offset `at` of payload: its type (`kind`, its four bytes, big-endian), where its payload lies, and where the
@@ -33,10 +33,10 @@ pub extern "C" fn st_children(
     next: &mut u64,
     index: &mut u64,
 ) -> u64
-    ensures { (result, kind.new, start.new, length.new, next.new, index.new) ≡ reached_told (children_at payload.now at) kind.old start.old length.old next.old }
+    ensures { (result, (kind.new, start.new, length.new, next.new), index.new) ≡ told box_words (children_at payload.now at) (kind.old, start.old, length.old, next.old) }
 {
-    let reached = boxes::children(payload, at as usize);
-    told::walk::tell_reached(reached, kind, start, length, next, index)
+    let answer = boxes::children(payload, at as usize);
+    told::several::tell_box(answer, kind, start, length, next, index)
 }
 
 // Where the payload of the first child of a type lies in payload; `kind` is the type's four bytes, big-endian. It is 31
@@ -50,9 +50,9 @@ pub extern "C" fn st_child(
     length: &mut u64,
     index: &mut u64,
 ) -> u64
-    ensures { (result, start.new, length.new, index.new) ≡ place_told (child_place payload.now kind) start.old length.old }
+    ensures { (result, (start.new, length.new), index.new) ≡ told place_words (child_place payload.now kind) (start.old, length.old) }
 {
-    told::walk::tell_place(boxes::child_place(payload, kind), start, length, index)
+    told::several::tell_place(boxes::child_place(payload, kind), start, length, index)
 }
 
 // Where the payload of the first box of a type among those of from..to lies in bytes. It is 31 where the boxes end without
@@ -70,10 +70,10 @@ pub extern "C" fn st_find_box(
     length: &mut u64,
     index: &mut u64,
 ) -> u64
-    ensures { (result, start.new, length.new, index.new) ≡ place_told (find_box_place bytes.now from to kind text_types) start.old length.old }
+    ensures { (result, (start.new, length.new), index.new) ≡ told place_words (find_box_place bytes.now from to kind text_types) (start.old, length.old) }
 {
-    let place = boxes::find_box_place(bytes, from as usize, to as usize, kind, text_types);
-    told::walk::tell_place(place, start, length, index)
+    let answer = boxes::find_box_place(bytes, from as usize, to as usize, kind, text_types);
+    told::several::tell_place(answer, start, length, index)
 }
 
 // Where a file's segment table has its text: the payload of the only moov/udta/MTRM box. Where a broken header hides
@@ -86,7 +86,7 @@ pub extern "C" fn st_table_text(
     length: &mut u64,
     index: &mut u64,
 ) -> u64
-    ensures { (result, start.new, length.new, index.new) ≡ place_told (table_text_place file.now) start.old length.old }
+    ensures { (result, (start.new, length.new), index.new) ≡ told place_words (table_text_place file.now) (start.old, length.old) }
 {
-    told::walk::tell_place(boxes::table_text_place(file), start, length, index)
+    told::several::tell_place(boxes::table_text_place(file), start, length, index)
 }

@@ -3,6 +3,8 @@ use Rattle.audit.proofs.all_claims_hold.Goals as goal
 
 pub returns : goal.returns
 returns c = audited (record {
+  own-number = c.numbers_are_reasons_own.ensures.own;
+  number-above = c.numbers_are_reasons_own.ensures.above;
   demands = c.maps_meet_the_demands.ensures;
   laws = c.calls_keep_origins.ensures;
   cuts = c.each_cut_is_one_cut.ensures;

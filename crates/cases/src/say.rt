@@ -2,6 +2,7 @@
 use crate::element::Element;
 use crate::lent::kept;
 use printing::{number, text};
+use refusal::Refusal;
 use std::fmt::Display;
 
 // The most rows of a map, and the words of a row.
@@ -21,14 +22,14 @@ pub fn flag(rt: &impl Print, yes: bool) {
 }
 
 // An answer's beginning: the number and the index of a refusal.
-pub fn refused(rt: &impl Print, refusal: u64, index: usize) {
-    number(rt, refusal);
-    value(rt, index);
+pub fn refused(rt: &impl Print, refusal: Refusal) {
+    number(rt, refusal.reason.number());
+    value(rt, refusal.index);
 }
 
 // The same where accepted, before the values.
 pub fn accepted(rt: &impl Print) {
-    refused(rt, 0, 0);
+    text(rt, b"0 0");
 }
 
 // A value.

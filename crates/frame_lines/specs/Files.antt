@@ -1,16 +1,15 @@
 -- The frame times of a whole file.
-use Rattle.std.specs.Prelude.{ℕ, true, List, [], length, take, drop}
+use Rattle.std.specs.Prelude.{ℕ, true, List, [], length, take, drop, Result, Ok, Err}
 use Rattle.boxes.specs.Bytes.{moov}
 use Rattle.boxes.specs.Places.{find_box_place}
 use Rattle.boxes.specs.declared.Place.{Place}
-use Rattle.boxes.specs.declared.Place.TheVariants.{At, Refused}
-use Rattle.frame_times.specs.declared.FrameTimes.TheVariants as times
+use Rattle.refusal.specs.declared.Refusal.{Refusal}
 use Rattle.frame_times.specs.Times.{Outcome, times_of_moov}
 
 -- of the moov at a place of the file, with composition offsets by the standard, or the refusal of that place
-abbrev pub moov_times : List ℕ → ℕ → Place → Outcome
-moov_times file room (At start len) = times_of_moov true (take len (drop start file)) room
-moov_times file room (Refused n i) = record { answer = times.Refused n i; starts = [] }
+abbrev pub moov_times : List ℕ → ℕ → Result Place Refusal → Outcome
+moov_times file room (Ok place) = times_of_moov true (take place.len (drop place.start file)) room
+moov_times file room (Err refusal) = record { answer = Err refusal; starts = [] }
 
 -- of the first moov among the file's boxes, whose types are text; 36 has its index in the file where no moov is found, else in the moov
 abbrev pub file_times : List ℕ → ℕ → Outcome

@@ -7,36 +7,26 @@ ghost use Rattle.frame_lines.specs.Files.{file_times};
 
 use boxes::read::code;
 use boxes::{Place, find_box_place};
-use choice::TOO_LONG;
-use frame_times::{FrameTimes, video_frame_times_of_moov};
+use frame_times::video_frame_times_of_moov;
 use reading::Ending;
+use refusal::{Reason, Refusal};
+use ticks::FrameTimes;
 
-// How many bytes a file may have; a longer one is refused with TOO_LONG.
+// How many bytes a file may have; a longer one is refused with 30.
 const FILE_BYTES: usize = 32_768;
 
 // The frame times of a file's first moov, with composition offsets by the standard; 31 where there is none, 36 where a bad header stands before it.
+#[tactic(auto, using(boxes::proofs::Within::found_ends))]
 fn times_of_file(
     file: &[u8],
     starts: &mut [i64],
     work_a: &mut [i64],
     work_b: &mut [i64],
-) -> FrameTimes
+) -> Result<FrameTimes, Refusal>
     ensures { OutcomeAnswered (file_times file.now (room starts.old work_a.old work_b.old)) result starts.old starts.new }
 {
-    let p = find_box_place(file, 0, file.len(), code(b"moov"), true);
-    match p {
-        Place::At { start, len } => video_frame_times_of_moov(
-            &file[start..start + len],
-            true,
-            starts,
-            work_a,
-            work_b,
-        ),
-        Place::Refused(number, index) => FrameTimes::Refused {
-            number,
-            index: index as u64,
-        },
-    }
+    let Place { start, len } = find_box_place(file, 0, file.len(), code(b"moov"), true)?;
+    video_frame_times_of_moov(&file[start..start + len], true, starts, work_a, work_b)
 }
 
 // A number on a line of its own.
@@ -57,13 +47,20 @@ fn print_starts(rt: &impl Print, starts: &[i64], frames: usize) {
 }
 
 // The line of a refusal.
-fn print_refusal(rt: &impl Print, n: u64) {
+fn print_refusal(rt: &impl Print, reason: Reason) {
+    let n = reason.number();
     let _ = println!(rt; "refused {n}");
 }
 
 // The line of numbers.
-fn print_numbers(rt: &impl Print, frames: u64, timescale: u64, nominal: i64, end: i64) {
-    let _ = println!(rt; "frames {frames} timescale {timescale} nominal {nominal} end {end}");
+fn print_numbers(rt: &impl Print, times: FrameTimes) {
+    let FrameTimes {
+        frames,
+        scale,
+        nominal,
+        end,
+    } = times;
+    let _ = println!(rt; "frames {frames} timescale {scale} nominal {nominal} end {end}");
 }
 
 // All lines for a file, with room for 1,024 frames.
@@ -72,16 +69,11 @@ fn print_file(rt: &impl Print, file: &[u8]) {
     let mut work_a = [0i64; 1024];
     let mut work_b = [0i64; 1024];
     match times_of_file(file, &mut starts, &mut work_a, &mut work_b) {
-        FrameTimes::Refused { number, index: _ } => print_refusal(rt, number),
-        FrameTimes::Presented {
-            frames,
-            timescale,
-            nominal,
-            end,
-        } => {
-            print_numbers(rt, frames as u64, timescale, nominal, end);
-            print_starts(rt, &starts, frames);
+        Ok(times) => {
+            print_numbers(rt, times);
+            print_starts(rt, &starts, times.frames);
         }
+        Err(refusal) => print_refusal(rt, refusal.reason),
     }
 }
 
@@ -93,7 +85,7 @@ pub fn run(rt: &(impl Input + Print)) {
     let end = input.end;
     match end {
         Ending::Within => print_file(rt, &file[..n]),
-        Ending::Past => print_refusal(rt, TOO_LONG),
+        Ending::Past => print_refusal(rt, Reason::TooLong),
         Ending::Failed => reading::say_failed(rt),
     }
 }

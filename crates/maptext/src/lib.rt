@@ -2,10 +2,14 @@
 #![tactic(auto)]
 
 use choice::MAX_U64;
-use maps::{MOST_ROWS, Traced};
+use maps::MOST_ROWS;
+use refusal::Refusal;
+use rows::Origin;
 
 // A refusal, by its number and index.
-pub fn refuse(rt: &impl Print, number: u64, index: usize) {
+pub fn refuse(rt: &impl Print, refusal: Refusal) {
+    let number = refusal.reason.number();
+    let index = refusal.index;
     let _ = println!(rt; "refused {number} at {index}");
 }
 
@@ -80,17 +84,19 @@ pub fn say_map(rt: &impl Print, u: &[u64], s: &[i64]) {
     }
 }
 
-// Where a frame comes from.
-pub fn say_origin(rt: &impl Print, frame: u64, from: Traced) {
-    match from {
-        Traced::Refused(n, i) => refuse(rt, n, i),
-        Traced::From(source, at, flag, shift) => {
+// Where a frame comes from, or why that isn't answered.
+pub fn say_origin(rt: &impl Print, frame: u64, answer: Result<Origin, Refusal>) {
+    match answer {
+        Ok(origin) => {
+            let at = origin.frame;
+            let source = origin.source;
             let _ = print!(rt; "frame {frame} is frame {at} of source {source}");
-            if flag == 1 {
+            if origin.flag == 1 {
                 printing::text(rt, b", shift ");
-                printing::signed(rt, shift);
+                printing::signed(rt, origin.shift);
             }
             printing::text(rt, b"\n");
         }
+        Err(refusal) => refuse(rt, refusal),
     }
 }

@@ -1,15 +1,16 @@
 // Box sizes and searches on stored cases: stdin has the cases, stdout the answers (compare/README.md).
 #![tactic(auto)]
 
-use boxes::{Place, Reached, Sized};
+use boxes::Place;
 use cases::read::Cursor;
 use cases::{lines, read, say};
 use choice::MAX_U64;
+use refusal::Refusal;
 
 // Whether a part is the one that a place says: those of the bytes, none on a refusal.
-fn is_at(part: &[u8], bytes: &[u8], place: Place) -> bool {
+fn is_at(part: &[u8], bytes: &[u8], place: Result<Place, Refusal>) -> bool {
     match place {
-        Place::At { start, len } => {
+        Ok(Place { start, len }) => {
             if bytes.len() < start {
                 return false;
             }
@@ -18,19 +19,19 @@ fn is_at(part: &[u8], bytes: &[u8], place: Place) -> bool {
             }
             steps::same(part, &bytes[start..start + len])
         }
-        Place::Refused(_, _) => part.len() == 0,
+        Err(_) => part.len() == 0,
     }
 }
 
 // The line of a place, and whether the part that is answered for the same arguments lies there.
-fn say_place(rt: &impl Print, place: Place, kept: bool) {
+fn say_place(rt: &impl Print, place: Result<Place, Refusal>, kept: bool) {
     match place {
-        Place::At { start, len } => {
+        Ok(place) => {
             say::accepted(rt);
-            say::value(rt, start);
-            say::value(rt, len);
+            say::value(rt, place.start);
+            say::value(rt, place.len);
         }
-        Place::Refused(number, index) => say::refused(rt, number, index),
+        Err(refusal) => say::refused(rt, refusal),
     }
     say::end(rt, kept);
 }
@@ -43,12 +44,12 @@ fn box_size(rt: &impl Print, line: &[u8], c: Cursor, bytes: &[u8]) {
         return;
     }
     match boxes::box_size(bytes, remaining.number) {
-        Sized::Box { size, header } => {
+        Ok(found) => {
             say::accepted(rt);
-            say::value(rt, size);
-            say::value(rt, header);
+            say::value(rt, found.size);
+            say::value(rt, found.header);
         }
-        Sized::Refused(number, index) => say::refused(rt, number, index),
+        Err(refusal) => say::refused(rt, refusal),
     }
     say::end(rt, true);
 }
@@ -61,19 +62,14 @@ fn children(rt: &impl Print, line: &[u8], c: Cursor, bytes: &[u8]) {
         return;
     }
     match boxes::children(bytes, at.number as usize) {
-        Reached::Box {
-            kind,
-            start,
-            len,
-            next,
-        } => {
+        Ok(found) => {
             say::accepted(rt);
-            say::value(rt, kind);
-            say::value(rt, start);
-            say::value(rt, len);
-            say::value(rt, next);
+            say::value(rt, found.kind);
+            say::value(rt, found.start);
+            say::value(rt, found.len);
+            say::value(rt, found.next);
         }
-        Reached::Refused(number, index) => say::refused(rt, number, index),
+        Err(refusal) => say::refused(rt, refusal),
     }
     say::end(rt, true);
 }

@@ -5,19 +5,19 @@ use cases::read::Cursor;
 use cases::{lent, lines, read, say, tables};
 use choice::MAX_U64;
 use judge::Video;
-use rules::Checked;
+use refusal::Refusal;
 
 // The most elements of lent room.
 const ROOM: usize = 64;
 
 // The line of a frame total.
-fn say_checked(rt: &impl Print, answer: Checked, kept: bool) {
+fn say_total(rt: &impl Print, answer: Result<u64, Refusal>, kept: bool) {
     match answer {
-        Checked::Frames(n) => {
+        Ok(n) => {
             say::accepted(rt);
             say::value(rt, n);
         }
-        Checked::Refused(number, index) => say::refused(rt, number, index),
+        Err(refusal) => say::refused(rt, refusal),
     }
     say::end(rt, kept);
 }
@@ -40,7 +40,7 @@ fn validate(
         return;
     }
     let answer = judge::validate(sources, u, t, log, text, video, starts);
-    say_checked(rt, answer, true);
+    say_total(rt, answer, true);
 }
 
 // validate_constant TABLE FRAMES NUM DEN
@@ -113,7 +113,7 @@ fn recording_over(
     work_b: &mut [i64],
 ) {
     let answer = judge::check_mcraw(sources, u, t, log, text, timestamps, work_a, work_b);
-    say_checked(rt, answer, lent::cleared(work_a) & lent::cleared(work_b));
+    say_total(rt, answer, lent::cleared(work_a) & lent::cleared(work_b));
 }
 
 // ROOM ROOM after a table and timestamps

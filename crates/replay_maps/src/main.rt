@@ -6,7 +6,7 @@ mod many;
 use cases::read::Cursor;
 use cases::{lent, lines, read, say};
 use choice::MAX_U64;
-use maps::{Mapped, Traced};
+use refusal::Refusal;
 
 // The most elements of a list or of lent room.
 const ROOM: usize = 64;
@@ -28,7 +28,7 @@ fn write(
     t: &[i64],
     ou: &mut [u64],
     os: &mut [i64],
-) -> Mapped {
+) -> Result<usize, Refusal> {
     match w {
         Written::Cut(a, b) => maps::cut(u, s, a, b, ou, os),
         Written::Join => maps::join(u, s, v, t, ou, os),
@@ -37,15 +37,15 @@ fn write(
 }
 
 // The line of that.
-fn say_rows(rt: &impl Print, answer: Mapped, ou: &[u64], os: &[i64]) {
+fn say_rows(rt: &impl Print, answer: Result<usize, Refusal>, ou: &[u64], os: &[i64]) {
     match answer {
-        Mapped::Rows(n) => {
+        Ok(n) => {
             say::accepted(rt);
             say::value(rt, n);
             say::end(rt, say::rows(rt, ou, os, n));
         }
-        Mapped::Refused(number, index) => {
-            say::refused(rt, number, index);
+        Err(refusal) => {
+            say::refused(rt, refusal);
             say::end(rt, say::unwritten(ou, os, 0));
         }
     }
@@ -123,14 +123,14 @@ fn origin(rt: &impl Print, line: &[u8], c: Cursor, u: &[u64], s: &[i64]) {
         return;
     }
     match maps::origin(u, s, frame.number) {
-        Traced::From(source, at, flag, shift) => {
+        Ok(origin) => {
             say::accepted(rt);
-            say::value(rt, source);
-            say::value(rt, at);
-            say::value(rt, flag);
-            say::value(rt, shift);
+            say::value(rt, origin.source);
+            say::value(rt, origin.frame);
+            say::value(rt, origin.flag);
+            say::value(rt, origin.shift);
         }
-        Traced::Refused(number, index) => say::refused(rt, number, index),
+        Err(refusal) => say::refused(rt, refusal),
     }
     say::end(rt, true);
 }

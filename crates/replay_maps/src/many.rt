@@ -1,23 +1,30 @@
 // Many cuts of one map on stored cases.
 use cases::read::Cursor;
 use cases::{lent, read, say};
-use maps::Mapped;
+use refusal::Refusal;
 
 // The most elements of lent room.
 const ROOM: usize = 64;
 
 // The line of n cuts that were written over lent slices.
-fn say_cuts(rt: &impl Print, answer: Mapped, n: usize, ou: &[u64], os: &[i64], counts: &[u64]) {
+fn say_cuts(
+    rt: &impl Print,
+    answer: Result<usize, Refusal>,
+    n: usize,
+    ou: &[u64],
+    os: &[i64],
+    counts: &[u64],
+) {
     match answer {
-        Mapped::Rows(k) => {
+        Ok(k) => {
             say::accepted(rt);
             say::value(rt, k);
             let kept = say::rows(rt, ou, os, k);
             say::list(rt, counts, n);
             say::end(rt, kept & lent::kept(counts, n));
         }
-        Mapped::Refused(number, index) => {
-            say::refused(rt, number, index);
+        Err(refusal) => {
+            say::refused(rt, refusal);
             say::end(rt, say::unwritten(ou, os, 0) & lent::kept(counts, 0));
         }
     }

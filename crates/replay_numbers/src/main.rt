@@ -4,7 +4,6 @@
 use cases::read::Cursor;
 use cases::{lines, read, say};
 use choice::MAX_U64;
-use ticks::Us;
 
 // is_utc_second BYTES
 fn is_utc_second(rt: &impl Print, line: &[u8], c: Cursor) {
@@ -26,11 +25,11 @@ fn ticks_to_us(rt: &impl Print, line: &[u8], c: Cursor) {
         return;
     }
     match ticks::ticks_to_us(t.signed, s.number) {
-        Us::At(us) => {
+        Ok(us) => {
             say::accepted(rt);
             say::value(rt, us);
         }
-        Us::Refused(number, index) => say::refused(rt, number, index),
+        Err(refusal) => say::refused(rt, refusal),
     }
     say::end(rt, true);
 }

@@ -1,15 +1,15 @@
 // The line of a lookup's answer, which the lookups over words and over records share.
 use cases::say;
-use rules::Lookup;
+use refusal::Refusal;
 
 // The line of a segment.
-pub fn say_found(rt: &impl Print, answer: Lookup) {
+pub fn say_found(rt: &impl Print, answer: Result<usize, Refusal>) {
     match answer {
-        Lookup::Index(k) => {
+        Ok(k) => {
             say::accepted(rt);
             say::value(rt, k);
         }
-        Lookup::NoIndex(number, index) => say::refused(rt, number, index),
+        Err(refusal) => say::refused(rt, refusal),
     }
     say::end(rt, true);
 }

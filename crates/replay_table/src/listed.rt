@@ -9,7 +9,7 @@ use crate::found::say_found;
 use cases::read::Cursor;
 use cases::{read, say};
 use records::TrimSegment;
-use rules::Lookup;
+use refusal::Refusal;
 use table::layout::{STAMPS, WORDS};
 
 // The most records of a case: 64 signed words, which is all that there is room for, are nine of seven.
@@ -102,7 +102,7 @@ fn located(
     n: usize,
     log: bool,
     frame: u64,
-) -> Lookup
+) -> Result<usize, Refusal>
     requires { n ≤ 9 }
     ensures { result ≡ locate sources.now text.now (take n list) log frame }
 {

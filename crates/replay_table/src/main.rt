@@ -9,8 +9,7 @@ use cases::read::Cursor;
 use cases::{lent, lines, read, say, tables};
 use choice::MAX_U64;
 use found::say_found;
-use rules::{Checked, Continued};
-use table_rows::Filled;
+use refusal::Refusal;
 
 // The most elements of lent room.
 const ROOM: usize = 64;
@@ -31,11 +30,11 @@ fn check(
         return;
     }
     match table::check(sources, u, t, log, text) {
-        Checked::Frames(n) => {
+        Ok(n) => {
             say::accepted(rt);
             say::value(rt, n);
         }
-        Checked::Refused(number, index) => say::refused(rt, number, index),
+        Err(refusal) => say::refused(rt, refusal),
     }
     say::end(rt, true);
 }
@@ -101,25 +100,25 @@ fn continues(
         return;
     }
     match lookup::continues(sources, u, t, log, text, segment.number as usize) {
-        Continued::Answer(yes) => {
+        Ok(yes) => {
             say::accepted(rt);
             say::value(rt, yes as u64);
         }
-        Continued::NoAnswer(number, index) => say::refused(rt, number, index),
+        Err(refusal) => say::refused(rt, refusal),
     }
     say::end(rt, true);
 }
 
 // The line of rows that were written over lent slices.
-fn say_rows(rt: &impl Print, answer: Filled, ou: &[u64], os: &[i64]) {
+fn say_rows(rt: &impl Print, answer: Result<usize, Refusal>, ou: &[u64], os: &[i64]) {
     match answer {
-        Filled::Rows(n) => {
+        Ok(n) => {
             say::accepted(rt);
             say::value(rt, n);
             say::end(rt, say::rows(rt, ou, os, n));
         }
-        Filled::NoRows(number, index) => {
-            say::refused(rt, number, index);
+        Err(refusal) => {
+            say::refused(rt, refusal);
             say::end(rt, say::unwritten(ou, os, 0));
         }
     }

@@ -1,22 +1,22 @@
 // The segments of a list of frames on stored cases.
 use cases::read::Cursor;
 use cases::{lent, read, say};
-use lookups::Indexed;
+use refusal::Refusal;
 
 // The most elements of lent room.
 const ROOM: usize = 64;
 
 // The line of indices that were written over lent room.
-fn say_indices(rt: &impl Print, answer: Indexed, out: &[u64]) {
+fn say_indices(rt: &impl Print, answer: Result<usize, Refusal>, out: &[u64]) {
     match answer {
-        Indexed::Indices(n) => {
+        Ok(n) => {
             say::accepted(rt);
             say::value(rt, n);
             say::list(rt, out, n);
             say::end(rt, lent::kept(out, n));
         }
-        Indexed::NoIndices(number, index) => {
-            say::refused(rt, number, index);
+        Err(refusal) => {
+            say::refused(rt, refusal);
             say::end(rt, lent::kept(out, 0));
         }
     }

@@ -4,50 +4,32 @@
 use cases::read::Cursor;
 use cases::{lent, lines, read, say};
 use choice::MAX_U64;
-use frame_times::FrameTimes;
-use mcraw::RecordingTimes;
+use refusal::Refusal;
+use ticks::FrameTimes;
 
 // The most elements of lent room.
 const ROOM: usize = 64;
 
-// Frame times, up to the end of the line; whether all after them is as it was lent.
-fn say_times(
-    rt: &impl Print,
-    frames: usize,
-    scale: u64,
-    nominal: i64,
-    end: i64,
-    starts: &[i64],
-) -> bool {
-    say::accepted(rt);
-    say::value(rt, frames);
-    say::value(rt, scale);
-    say::value(rt, nominal);
-    say::value(rt, end);
-    say::list(rt, starts, frames);
-    lent::kept(starts, frames)
-}
-
-// A refusal, up to the end of the line; whether the starts are as they were lent.
-fn say_refusal(rt: &impl Print, number: u64, index: usize, starts: &[i64]) -> bool {
-    say::refused(rt, number, index);
-    lent::kept(starts, 0)
-}
-
-// The answer to a moov.
-fn say_moov(rt: &impl Print, answer: FrameTimes, starts: &[i64]) -> bool {
+// Frame times or a refusal, up to the end of the line; whether all after the starts is as it was lent.
+fn say_times(rt: &impl Print, answer: Result<FrameTimes, Refusal>, starts: &[i64]) -> bool {
     match answer {
-        FrameTimes::Refused { number, index } => say_refusal(rt, number, index as usize, starts),
-        FrameTimes::Presented {
-            frames,
-            timescale,
-            nominal,
-            end,
-        } => say_times(rt, frames, timescale, nominal, end, starts),
+        Ok(times) => {
+            say::accepted(rt);
+            say::value(rt, times.frames);
+            say::value(rt, times.scale);
+            say::value(rt, times.nominal);
+            say::value(rt, times.end);
+            say::list(rt, starts, times.frames);
+            lent::kept(starts, times.frames)
+        }
+        Err(refusal) => {
+            say::refused(rt, refusal);
+            lent::kept(starts, 0)
+        }
     }
 }
 
-// The same over lent slices.
+// The answer to a moov, over lent slices.
 fn moov_over(
     rt: &impl Print,
     moov: &[u8],
@@ -57,7 +39,7 @@ fn moov_over(
     work_b: &mut [i64],
 ) {
     let answer = frame_times::video_frame_times_of_moov(moov, standard, starts, work_a, work_b);
-    let kept = say_moov(rt, answer, starts);
+    let kept = say_times(rt, answer, starts);
     say::end(rt, (kept & lent::cleared(work_a)) & lent::cleared(work_b));
 }
 
@@ -94,23 +76,10 @@ fn moov(rt: &impl Print, line: &[u8], c: Cursor) {
     moov_room(rt, line, b, &bytes[..b.count]);
 }
 
-// The answer to a recording.
-fn say_recording(rt: &impl Print, answer: RecordingTimes, starts: &[i64]) -> bool {
-    match answer {
-        RecordingTimes::Refused(number, index) => say_refusal(rt, number, index, starts),
-        RecordingTimes::Timed {
-            frames,
-            scale,
-            nominal,
-            end,
-        } => say_times(rt, frames, scale, nominal, end, starts),
-    }
-}
-
-// The same over lent slices.
+// The answer to a recording, over lent slices.
 fn recording_over(rt: &impl Print, timestamps: &[i64], starts: &mut [i64], work: &mut [i64]) {
     let answer = mcraw::mcraw_times(timestamps, starts, work);
-    let kept = say_recording(rt, answer, starts);
+    let kept = say_times(rt, answer, starts);
     say::end(rt, kept & lent::cleared(work));
 }
 

@@ -11,8 +11,8 @@
 
 ghost use Rattle.std.specs.Prelude.{◌≤◌, length};
 
-use maps::Mapped;
 use reading::Ending;
+use refusal::Refusal;
 use steps::Step;
 
 // How many bytes of the input are read.
@@ -36,7 +36,7 @@ fn copy_over<T: Copy>(from: &[T], to: &mut [T]) {
 // A call's answer: its rows are kept and printed, a refusal is printed. How many rows the map then has.
 fn keep(
     rt: &impl Print,
-    answer: Mapped,
+    answer: Result<usize, Refusal>,
     had: usize,
     ou: &[u64],
     os: &[i64],
@@ -44,15 +44,15 @@ fn keep(
     s: &mut [i64],
 ) -> usize {
     match answer {
-        Mapped::Refused(n, i) => {
-            maptext::refuse(rt, n, i);
-            had
-        }
-        Mapped::Rows(k) => {
+        Ok(k) => {
             copy_over(maptext::words(ou, k), u);
             copy_over(maptext::shifts(os, k), s);
             maptext::say_map(rt, maptext::words(u, k), maptext::shifts(s, k));
             k
+        }
+        Err(refusal) => {
+            maptext::refuse(rt, refusal);
+            had
         }
     }
 }
@@ -203,8 +203,8 @@ fn do_step(rt: &impl Print, h: Held, step: Step, u: &mut [u64], s: &mut [i64]) -
         Step::Cut(a, b) => do_cut(rt, rows, a, b, u, s),
         Step::Merge => do_merge(rt, rows, u, s),
         Step::Origin(frame) => {
-            let from = maps::origin(maptext::words(u, rows), maptext::shifts(s, rows), frame);
-            maptext::say_origin(rt, frame, from);
+            let origin = maps::origin(maptext::words(u, rows), maptext::shifts(s, rows), frame);
+            maptext::say_origin(rt, frame, origin);
             h
         }
         Step::Join => {

@@ -7,8 +7,9 @@ use Rattle.std.specs.Option.{is_some, ok_or}
 use Prim.Native.Nat.{ℕ}
 use borrow.Author.Tests.{eq-eqb, ne_eqb, not-true, not-false}
 use Rattle.choice.proofs.Tests.{tf}
-use Rattle.boxes.specs.Boxes.{Boxes, bad, box, header_at, after_header, boxes_at, is_text, textual, searched, first_such, first_of}
-use Rattle.boxes.specs.Places.{place, all_of, only_of}
+use Rattle.boxes.specs.Boxes.{Boxes, bad, box, header_at, after_header, boxes_at, is_text, textual, searched, place, first_such, first_of}
+use Rattle.boxes.specs.Places.{all_of, only_of}
+use Rattle.boxes.specs.declared.BoxAt.{BoxAt}
 use Rattle.boxes.specs.declared.Header.{Header}
 use Rattle.boxes.specs.declared.Header.TheVariants.{Whole, Short, Bad}
 use Rattle.boxes.specs.declared.Walk.TheVariants.{Found, Bad as BadAt}
@@ -37,13 +38,13 @@ module _ (kind : ℕ) (s : List ℕ) (at : ℕ) where
   stop true Bad t = refl
   stop false Short t = refl
   stop false Bad t = refl
-  stop text (Whole k start len next) t = absurd (t k start len next refl)
+  stop text (Whole b) t = absurd (t b refl)
 
   none : (h : Header) → Stops h → all_of kind (after_header h at (boxes_at s)) ≡ []
   unfolding all_of
   none Short t = refl
   none Bad t = refl
-  none (Whole k start len next) t = absurd (t k start len next refl)
+  none (Whole b) t = absurd (t b refl)
 
   pub search-stops : (text : Bool) {h : Header} → h ≡ header_at s at → Stops h → first_of kind (searched text (boxes_at s at)) ≡ stop_at h at
   search-stops text {h} e t = rw (at-header s at e) (stop text h t)
@@ -51,26 +52,26 @@ module _ (kind : ℕ) (s : List ℕ) (at : ℕ) where
   all-stops : {h : Header} → h ≡ header_at s at → Stops h → all_of kind (boxes_at s at) ≡ []
   all-stops {h} e t = rw (at-header s at e) (none h t)
 
-  module _ {k a n next : ℕ} (e : Whole k a n next ≡ header_at s at) where
-    module _ (text : Bool) {t : Bool} (i : t ≡ is_text k) where
+  module _ {b : BoxAt} (e : Whole b ≡ header_at s at) where
+    module _ (text : Bool) {t : Bool} (i : t ≡ is_text b.kind) where
       pub search-breaks : text && not t ≡ true → first_of kind (searched text (boxes_at s at)) ≡ BadAt at
       unfolding first_such
-      search-breaks x = rw (at-header s at e, breaks-off text t at k a n (boxes_at s next) i x)
+      search-breaks x = rw (at-header s at e, breaks-off text t at b.kind b.start b.len (boxes_at s b.next) i x)
 
       module _ (x : text && not t ≡ false) where
-        pub search-finds : k ≡ kind → first_of kind (searched text (boxes_at s at)) ≡ Found a n
+        pub search-finds : b.kind ≡ kind → first_of kind (searched text (boxes_at s at)) ≡ Found (place b.start b.len)
         unfolding first_such
-        search-finds z = rw (at-header s at e, goes_on text t at k a n (boxes_at s next) i x, eq-eqb _ _ z)
+        search-finds z = rw (at-header s at e, goes_on text t at b.kind b.start b.len (boxes_at s b.next) i x, eq-eqb _ _ z)
 
-        pub search-passes : (k ≡ kind → ⊥) → first_of kind (searched text (boxes_at s at)) ≡ first_of kind (searched text (boxes_at s next))
+        pub search-passes : (b.kind ≡ kind → ⊥) → first_of kind (searched text (boxes_at s at)) ≡ first_of kind (searched text (boxes_at s b.next))
         unfolding first_such
-        search-passes z = rw (at-header s at e, goes_on text t at k a n (boxes_at s next) i x, ne_eqb _ _ z)
+        search-passes z = rw (at-header s at e, goes_on text t at b.kind b.start b.len (boxes_at s b.next) i x, ne_eqb _ _ z)
 
-    all-finds : k ≡ kind → all_of kind (boxes_at s at) ≡ place a n ∷ all_of kind (boxes_at s next)
+    all-finds : b.kind ≡ kind → all_of kind (boxes_at s at) ≡ place b.start b.len ∷ all_of kind (boxes_at s b.next)
     unfolding all_of
     all-finds t = rw (at-header s at e, eq-eqb _ _ t)
 
-    all-passes : (k ≡ kind → ⊥) → all_of kind (boxes_at s at) ≡ all_of kind (boxes_at s next)
+    all-passes : (b.kind ≡ kind → ⊥) → all_of kind (boxes_at s at) ≡ all_of kind (boxes_at s b.next)
     unfolding all_of
     all-passes t = rw (at-header s at e, ne_eqb _ _ t)
 
@@ -85,14 +86,14 @@ module _ (kind : ℕ) (s : List ℕ) (at : ℕ) {answer : Result Place Refusal} 
   no_more None i e t = rw (all-stops kind s at e t) at i
   no_more (Some p) i e t = rw (all-stops kind s at e t) at i
 
-  module _ {k a n next : ℕ} (e : Whole k a n next ≡ header_at s at) where
-    pub first_one : (found : Option Place) → only_of (with_found found (all_of kind (boxes_at s at))) ≡ answer → is_some found ≡ false → k ≡ kind → only_of (place a n ∷ all_of kind (boxes_at s next)) ≡ answer
+  module _ {b : BoxAt} (e : Whole b ≡ header_at s at) where
+    pub first_one : (found : Option Place) → only_of (with_found found (all_of kind (boxes_at s at))) ≡ answer → is_some found ≡ false → b.kind ≡ kind → only_of (place b.start b.len ∷ all_of kind (boxes_at s b.next)) ≡ answer
     first_one None i f t = rw (all-finds kind s at e t) at i
     first_one (Some p) i f t = tf f
 
-    pub second-one : (found : Option Place) → only_of (with_found found (all_of kind (boxes_at s at))) ≡ answer → is_some found ≡ true → k ≡ kind → refused reason.SeveralTables 0 ≡ answer
+    pub second-one : (found : Option Place) → only_of (with_found found (all_of kind (boxes_at s at))) ≡ answer → is_some found ≡ true → b.kind ≡ kind → refused reason.SeveralTables 0 ≡ answer
     second-one None i f t = tf (sym f)
     second-one (Some p) i f t = rw (all-finds kind s at e t) at i
 
-    pub not-one : (found : Option Place) → only_of (with_found found (all_of kind (boxes_at s at))) ≡ answer → (k ≡ kind → ⊥) → only_of (with_found found (all_of kind (boxes_at s next))) ≡ answer
+    pub not-one : (found : Option Place) → only_of (with_found found (all_of kind (boxes_at s at))) ≡ answer → (b.kind ≡ kind → ⊥) → only_of (with_found found (all_of kind (boxes_at s b.next))) ≡ answer
     not-one found i t = rw (all-passes kind s at e t) at i

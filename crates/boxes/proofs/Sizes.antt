@@ -2,7 +2,7 @@
 use mathlib.Core.Path.{◌≡◌, sym, subst}
 use mathlib.Core.List.{List}
 use Rattle.std.specs.Prelude.{Option, None, Some}
-use Prim.Native.Nat.{ℕ, ◌+◌, ◌-◌, ◌≤◌, ◌<◌}
+use Prim.Native.Nat.{ℕ, ◌+◌, ◌-◌, ◌%◌, ◌^◌, ◌≤◌, ◌<◌}
 use native.Mathlib.Nat.{add-zero}
 use native.Mathlib.Omega.{arith}
 use lib.ListN.{length, take, drop, length-drop}
@@ -58,21 +58,25 @@ module _ (s : List ℕ) (at : ℕ) where
   unfolding header_at
   by_size h k z = rw (le-ltb _ _ h, k, z, from at s)
 
-  -- a size of 32 bits that fits
-  pub plain : {n k : ℕ} → 8 ≤ length s - at → n ≡ be32_at s at → 8 ≤ n → n ≤ length s - at → k ≡ be32_at s (at + 4) → Whole k (at + 8) (n - 8) (at + n) ≡ header_at s at
+  -- a size of 32 bits that fits, by the one test that the code makes
+  pub plain : {n k : ℕ} → 8 ≤ length s - at → length s < 2 ^ 64 → n ≡ be32_at s at → n < 2 ^ 32 → (n + 18446744073709551608) % 2 ^ 64 ≤ length s - at - 8 → k ≡ be32_at s (at + 4)
+      → Whole (record { kind = k; start = at + 8; len = (n + 18446744073709551608) % 2 ^ 64; next = at + n }) ≡ header_at s at
   unfolding header_at fitting_in
-  plain {n} h e b l k =
+  plain {n} h m e u t k =
+      let b : 8 ≤ n = omega arith in
+      let l : n ≤ length s - at = omega arith in
+      let len : (n + 18446744073709551608) % 2 ^ 64 ≡ n - 8 = omega arith in
       let there : be32_at (drop at s) 0 ≡ n = rw (get_or-drop at s 0 0, get_or-drop at s 1 0, get_or-drop at s 2 0, get_or-drop at s 3 0, add-zero) (sym e) in
       let size : Some (record { size = n; header = 8 }) ≡ size_of (drop at s) (length s - at) =
       small (drop at s) (length s - at) (rw length-drop (omega arith)) (rw there (omega arith)) (sym there) (rw (le-ltb n 8 b, le-ltb (length s - at) n l)) in
-      rw (le-ltb _ _ h, sym size, k)
+      rw (le-ltb _ _ h, sym size, k, len)
 
 -- what a whole header says: the payload starts 8 bytes further at least, ends where the next box starts, and that is within the bytes;
 -- of a bad one 8 bytes are there
 abbrev pub Lies : ℕ → ℕ → Header → Type 0
 Lies at l Short = Unit {0}
 Lies at l Bad = at + 8 ≤ l
-Lies at l (Whole kind start len next) = (at + 8 ≤ start) × (start + len ≡ next) × (next ≤ l)
+Lies at l (Whole b) = (at + 8 ≤ b.start) × (b.start + b.len ≡ b.next) × (b.next ≤ l)
 
 by-lies : (l at kind : ℕ) (z : Option BoxSize) → at + 8 ≤ l → Fitting (l - at) z → Lies at l (header_by at kind z)
 by-lies l at kind None h f = h

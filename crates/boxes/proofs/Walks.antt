@@ -5,7 +5,8 @@ use mathlib.Core.List.{List}
 use Prim.Native.Nat.{ℕ, zero, suc, ◌+◌, ◌-◌, ◌≤◌}
 use native.Mathlib.Omega.{arith}
 use lib.ListN.{length}
-use Rattle.boxes.specs.Boxes.{Boxes, box, header_at, after_header, boxes_from, boxes_at, first_such}
+use Rattle.boxes.specs.Boxes.{Boxes, box, header_at, after_header, boxes_from, boxes_at, place, first_such}
+use Rattle.boxes.specs.declared.BoxAt.{BoxAt}
 use Rattle.boxes.specs.declared.Header.{Header}
 use Rattle.boxes.specs.declared.Header.TheVariants.{Whole, Short, Bad}
 use Rattle.boxes.specs.declared.Walk.TheVariants.{Found}
@@ -16,7 +17,7 @@ use Rattle.boxes.proofs.Sizes.{Lies, header-lies, short}
 after_same : (at l : ℕ) (f g : ℕ → Boxes) (h : Header) → Lies at l h → ((k : ℕ) → at + 8 ≤ k → f k ≡ g k) → after_header h at f ≡ after_header h at g
 after_same at l f g Short z e = refl
 after_same at l f g Bad z e = refl
-after_same at l f g (Whole kind start len next) z e = ap (box at kind start len) (e next (omega arith))
+after_same at l f g (Whole b) z e = ap (box at b.kind b.start b.len) (e b.next (omega arith))
 
 enough : (m n : ℕ) (s : List ℕ) (at : ℕ) → length s ≤ m + at → length s ≤ n + at → boxes_from m s at ≡ boxes_from n s at
 unfolding boxes_from
@@ -40,7 +41,7 @@ at-header s at e = rw (unrolled s at, ← e)
 
 -- a header that is not whole, as an `else` knows it
 abbrev pub Stops : Header → Type 0
-Stops h = (kind start len next : ℕ) → h ≡ Whole kind start len next → ⊥
+Stops h = (b : BoxAt) → h ≡ Whole b → ⊥
 
 -- the first box that passes a test from `at` on, by the header at `at`
 module _ (test : ℕ → ℕ → ℕ → Bool) (s : List ℕ) (at : ℕ) where
@@ -48,16 +49,16 @@ module _ (test : ℕ → ℕ → ℕ → Bool) (s : List ℕ) (at : ℕ) where
   unfolding first_such
   stop Short t = refl
   stop Bad t = refl
-  stop (Whole kind start len next) t = absurd (t kind start len next refl)
+  stop (Whole b) t = absurd (t b refl)
 
   pub first_stops : {h : Header} → h ≡ header_at s at → Stops h → first_such test (boxes_at s at) ≡ stop_at h at
   first_stops {h} e t = rw (at-header s at e) (stop h t)
 
-  module _ {k a n next : ℕ} (e : Whole k a n next ≡ header_at s at) where
-    pub first_found : test k a n ≡ true → first_such test (boxes_at s at) ≡ Found a n
+  module _ {b : BoxAt} (e : Whole b ≡ header_at s at) where
+    pub first_found : test b.kind b.start b.len ≡ true → first_such test (boxes_at s at) ≡ Found (place b.start b.len)
     unfolding first_such
     first_found t = rw (at-header s at e, t)
 
-    pub first-passed : test k a n ≡ false → first_such test (boxes_at s at) ≡ first_such test (boxes_at s next)
+    pub first-passed : test b.kind b.start b.len ≡ false → first_such test (boxes_at s at) ≡ first_such test (boxes_at s b.next)
     unfolding first_such
     first-passed t = rw (at-header s at e, t)

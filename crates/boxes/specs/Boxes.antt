@@ -9,6 +9,7 @@ use Rattle.boxes.specs.declared.BoxSize.{BoxSize}
 use Rattle.boxes.specs.declared.Header.{Header}
 use Rattle.boxes.specs.declared.Header.TheVariants.{Whole, Short, Bad}
 use Rattle.boxes.specs.declared.BoxAt.{BoxAt}
+use Rattle.boxes.specs.declared.Place.{Place}
 use Rattle.boxes.specs.declared.Walk.{Walk}
 use Rattle.boxes.specs.declared.Walk.TheVariants.{Found, End, Bad as BadAt}
 
@@ -39,7 +40,7 @@ box_size bytes remaining = if ltb most_bytes (length bytes) then refused reason.
 -- where the payload and the next box are, for a box of a type at `at`
 abbrev pub header_by : ℕ → ℕ → Option BoxSize → Header
 header_by at kind None = Bad
-header_by at kind (Some box) = Whole kind (at + box.header) (box.size - box.header) (at + box.size)
+header_by at kind (Some box) = Whole (record { kind = kind; start = at + box.header; len = box.size - box.header; next = at + box.size })
 
 -- the header at `at`, where all that remains is at hand
 unfoldable pub header_at : List ℕ → ℕ → Header
@@ -51,7 +52,7 @@ header_at s at =
 abbrev pub reached_by : Header → ℕ → Result BoxAt Refusal
 reached_by Short at = refused reason.Missing 0
 reached_by Bad at = refused reason.Broken at
-reached_by (Whole kind start len next) at = Ok (record { kind = kind; start = start; len = len; next = next })
+reached_by (Whole found) at = Ok found
 
 -- `children`, the box at an offset
 unfoldable pub children_at : List ℕ → ℕ → Result BoxAt Refusal
@@ -70,7 +71,7 @@ pub data Boxes : Type 0 where
 abbrev pub after_header : Header → ℕ → (ℕ → Boxes) → Boxes
 after_header Short at next = clean
 after_header Bad at next = bad at
-after_header (Whole kind start len after) at next = box at kind start len (next after)
+after_header (Whole b) at next = box at b.kind b.start b.len (next b.next)
 
 -- the boxes from `at` on, so many at most
 unfoldable pub boxes_from : ℕ → List ℕ → ℕ → Boxes
@@ -102,11 +103,15 @@ abbrev pub searched : Bool → Boxes → Boxes
 searched true b = textual b
 searched false b = b
 
+-- so many bytes from `start` on
+abbrev pub place : ℕ → ℕ → Place
+place start len = record { start = start; len = len }
+
 -- the first box that passes a test on its type, its payload's start and its payload's length, or how the boxes end
 unfoldable pub first_such : (ℕ → ℕ → ℕ → Bool) → Boxes → Walk
 first_such test clean = End
 first_such test (bad at) = BadAt at
-first_such test (box at kind start len rest) = if test kind start len then Found start len else first_such test rest
+first_such test (box at kind start len rest) = if test kind start len then Found (place start len) else first_such test rest
 
 -- the first box of a type
 abbrev pub first_of : ℕ → Boxes → Walk

@@ -5,8 +5,8 @@ use Rattle.refusal.specs.declared.Reason.TheVariants as reason
 use Rattle.refusal.specs.declared.Refusal.{Refusal}
 use Rattle.refusal.specs.Refusals.{refused}
 use Rattle.boxes.specs.Bytes.{mtrm}
-use Rattle.boxes.specs.Boxes.{Boxes, clean, bad, box, boxes_of, box_size}
-use Rattle.boxes.specs.Places.{place, child_place, find_box_place, table_text_place}
+use Rattle.boxes.specs.Boxes.{Boxes, clean, bad, box, boxes_of, place, box_size}
+use Rattle.boxes.specs.Places.{child_place, find_box_place, table_text_place}
 use Rattle.boxes.specs.declared.BoxSize.{BoxSize}
 use Rattle.boxes.specs.declared.Place.{Place}
 

@@ -1,25 +1,30 @@
--- Words of the contracts inside this crate. No public promise names these.
-use Rattle.std.specs.Prelude.{ℕ, ◌+◌, ◌≤◌, Result, Ok, Err}
+-- Words of what inner functions promise each other and the crates above. No call's promise names these.
+use Rattle.std.specs.Prelude.{ℕ, ◌+◌, ◌≤◌, Option, None, Some}
 use Rattle.boxes.specs.declared.Header.{Header}
 use Rattle.boxes.specs.declared.Header.TheVariants.{Whole, Short, Bad}
 use Rattle.boxes.specs.declared.Walk.{Walk}
 use Rattle.boxes.specs.declared.Walk.TheVariants.{Found, End, Bad as BadAt}
 use Rattle.boxes.specs.declared.Place.{Place}
-use Rattle.refusal.specs.declared.Refusal.{Refusal}
 
 -- how a walk ends at a header that isn't whole
 abbrev pub stop_at : Header → ℕ → Walk
 stop_at Bad at = BadAt at
 stop_at Short at = End
-stop_at (Whole kind start len after) at = End
+stop_at (Whole b) at = End
 
 -- how far a walk came: the start of what it found, or the bad header's offset
 abbrev pub offset_in : Walk → ℕ
-offset_in (Found start len) = start
+offset_in (Found p) = p.start
 offset_in End = 0
 offset_in (BadAt at) = at
 
 -- the part at a place lies within so many bytes
-abbrev pub Within : ℕ → Result Place Refusal → Type 0
-Within l (Ok p) = p.start + p.len ≤ l
-Within l (Err refusal) = Unit {0}
+abbrev pub Within : ℕ → Option Place → Type 0
+Within l (Some p) = p.start + p.len ≤ l
+Within l None = Unit {0}
+
+-- a walk stays within so many bytes: what it found, or the bad header's 8 bytes
+abbrev pub Walked : ℕ → Walk → Type 0
+Walked l (Found p) = p.start + p.len ≤ l
+Walked l End = Unit {0}
+Walked l (BadAt at) = at + 8 ≤ l

@@ -1,8 +1,8 @@
 -- The first video track of a moov (ISO/IEC 14496-12, 8.3.1, 8.4.1, 8.4.3).
-use Rattle.std.specs.Prelude.{ℕ, List, Bool, false, length, take, drop, ltb, eqb, if◌then◌else◌}
+use Rattle.std.specs.Prelude.{ℕ, List, Bool, false, length, ltb, eqb, if◌then◌else◌}
 use Rattle.boxes.specs.Bytes.{be32_at, trak, mdia, hdlr, vide}
-use Rattle.boxes.specs.Boxes.{boxes_of, first_such}
-use Rattle.boxes.specs.Places.{child_of}
+use Rattle.boxes.specs.Boxes.{boxes_of, place, first_such}
+use Rattle.boxes.specs.Places.{bytes_at, child_of}
 use Rattle.boxes.specs.declared.Walk.{Walk}
 
 -- a track whose first mdia's first hdlr has `vide` at 8 (8.4.3: version and flags, four bytes, then the handler's type)
@@ -13,7 +13,7 @@ is_video t =
 
 -- the same of a box of some bytes, where it is a trak
 unfoldable pub is_video_track : List ℕ → ℕ → ℕ → ℕ → Bool
-is_video_track s kind start len = if eqb kind trak then is_video (take len (drop start s)) else false
+is_video_track s kind start len = if eqb kind trak then is_video (bytes_at s (place start len)) else false
 
 -- the first video track of a moov
 abbrev pub video_track : List ℕ → Walk

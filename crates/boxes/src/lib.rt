@@ -10,11 +10,12 @@ mod table;
 pub mod track;
 
 ghost use Rattle.std.specs.Prelude.{◌≡◌};
-ghost use Rattle.boxes.specs.Boxes.{box_size, children_at};
+ghost use Rattle.std.specs.Result.{result_ok};
+ghost use Rattle.boxes.specs.Boxes.{box_size, children_at, place};
 ghost use Rattle.boxes.specs.Places.{PartAt, child_place, find_box_place, table_text_place};
 ghost use Rattle.boxes.specs.Examples.{WorkedExamples};
 
-use part::{moved, moved_walk, part, place_of, place_or};
+use part::part;
 use read::code;
 use refusal::{Reason, Refusal};
 use search::{find, find_child};
@@ -31,31 +32,36 @@ pub struct BoxSize {
     pub header: u64,
 }
 
+// The box at an offset: its type, where its payload starts and how long that is, and where the next box is.
+#[derive(Clone, Copy)]
+pub struct BoxAt {
+    pub kind: u32,
+    pub start: usize,
+    pub len: usize,
+    pub next: usize,
+}
+
+impl BoxAt {
+    // Where its payload lies.
+    pub(crate) fn payload(self) -> Place
+        ensures { result ≡ place self.start self.len }
+    {
+        Place {
+            start: self.start,
+            len: self.len,
+        }
+    }
+}
+
 // A box's header.
 #[derive(Clone, Copy)]
 pub enum Header {
-    // A whole header: the box's type, where its payload starts and how long that is, and where the next box is.
-    Whole {
-        kind: u32,
-        start: usize,
-        len: usize,
-        next: usize,
-    },
+    // A whole header, and the box that it begins.
+    Whole(BoxAt),
     // Fewer than 8 bytes are left.
     Short,
     // The header isn't whole, or the size doesn't fit.
     Bad,
-}
-
-// How a walk ends.
-#[derive(Clone, Copy)]
-pub enum Walk {
-    // The box that was looked for: its payload starts at start and is len bytes long.
-    Found { start: usize, len: usize },
-    // Fewer than 8 bytes were left.
-    End,
-    // At offset at stands a header that isn't whole, whose size doesn't fit, or whose type isn't text where it must be.
-    Bad { at: usize },
 }
 
 // Where a part of the caller's bytes lies.
@@ -65,13 +71,15 @@ pub struct Place {
     pub len: usize,
 }
 
-// The box at an offset: its type, where its payload starts and how long that is, and where the next box is.
+// How a walk ends.
 #[derive(Clone, Copy)]
-pub struct BoxAt {
-    pub kind: u32,
-    pub start: usize,
-    pub len: usize,
-    pub next: usize,
+pub enum Walk {
+    // The payload of the box that was looked for.
+    Found(Place),
+    // Fewer than 8 bytes were left.
+    End,
+    // At offset at stands a header that isn't whole, whose size doesn't fit, or whose type isn't text where it must be.
+    Bad { at: usize },
 }
 
 // The size of the box at the start of data and of its header, where remaining bytes are left of what it is in: the Rust's box_size. 30, 31.
@@ -98,17 +106,7 @@ pub fn children(payload: &[u8], at: usize) -> Result<BoxAt, Refusal>
         return Err(Reason::BadSearch.at(0));
     }
     match header_at(payload, at) {
-        Header::Whole {
-            kind,
-            start,
-            len,
-            next,
-        } => Ok(BoxAt {
-            kind,
-            start,
-            len,
-            next,
-        }),
+        Header::Whole(found) => Ok(found),
         Header::Short => Err(Reason::Missing.at(0)),
         Header::Bad => Err(Reason::Broken.at(at)),
     }
@@ -123,15 +121,15 @@ pub fn child_place(payload: &[u8], kind: u32) -> Result<Place, Refusal>
     if payload.len() > MOST_BYTES {
         return Err(Reason::TooLong.at(0));
     }
-    place_of(find_child(payload, kind))
+    find_child(payload, kind).answer()
 }
 
 // That payload, as that part of the caller's bytes; empty on a refusal.
 #[tactic(auto, using(crate::proofs::Within::child_within))]
 pub fn child(payload: &[u8], kind: u32) -> &[u8]
-    ensures { PartAt payload.entry (child_place payload.now kind) result }
+    ensures { PartAt payload.entry (result_ok (child_place payload.now kind)) result }
 {
-    part(payload, child_place(payload, kind))
+    part(payload, child_place(payload, kind).ok())
 }
 
 // Where the payload of the first box of a type among those from start to end lies, in the whole of bytes: the Rust's find_box. 30, 42, 31
@@ -156,15 +154,18 @@ pub fn find_box_place(
         return Err(Reason::BadSearch.at(0));
     }
     let found = find(&bytes[start..end], kind, text_types);
-    place_of(moved_walk(start, found))
+    found.moved(start).answer()
 }
 
 // That payload, as that part of the caller's bytes; empty on a refusal.
 #[tactic(auto, using(crate::proofs::Within::find_box_within))]
 pub fn find_box(bytes: &[u8], start: usize, end: usize, kind: u32, text_types: bool) -> &[u8]
-    ensures { PartAt bytes.entry (find_box_place bytes.now start end kind text_types) result }
+    ensures { PartAt bytes.entry (result_ok (find_box_place bytes.now start end kind text_types)) result }
 {
-    part(bytes, find_box_place(bytes, start, end, kind, text_types))
+    part(
+        bytes,
+        find_box_place(bytes, start, end, kind, text_types).ok(),
+    )
 }
 
 // Where a file's segment table has its text, the payload of the only moov/udta/MTRM: the search of the Rust's read_isobmff. 30, 40, 41.
@@ -175,16 +176,18 @@ pub fn table_text_place(file: &[u8]) -> Result<Place, Refusal>
     if file.len() > MOST_BYTES {
         return Err(Reason::TooLong.at(0));
     }
-    let Place { start, len } = place_or(Reason::NoTable, find(file, code(b"moov"), true))?;
-    moved(start, table_of(&file[start..start + len]))
+    let moov = find(file, code(b"moov"), true);
+    let Place { start, len } = moov.place().ok_or(Reason::NoTable.at(0))?;
+    let table = table_of(&file[start..start + len])?;
+    Ok(table.moved(start))
 }
 
 // That text, as that part of the caller's bytes; empty on a refusal.
 #[tactic(auto, using(crate::proofs::Within::table_text_within))]
 pub fn table_text(file: &[u8]) -> &[u8]
-    ensures { PartAt file.entry (table_text_place file.now) result }
+    ensures { PartAt file.entry (result_ok (table_text_place file.now)) result }
 {
-    part(file, table_text_place(file))
+    part(file, table_text_place(file).ok())
 }
 
 // The definitions give the numbers of specs/Examples.antt.

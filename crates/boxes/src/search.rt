@@ -1,7 +1,7 @@
 // The walk over the boxes of some bytes.
-ghost use Rattle.std.specs.Prelude.{◌≡◌};
+ghost use Rattle.std.specs.Prelude.{◌≡◌, length};
 ghost use Rattle.boxes.specs.Boxes.{boxes_of, searched, first_of, text_byte, is_text};
-ghost use Rattle.boxes.specs.Steps.{stop_at};
+ghost use Rattle.boxes.specs.Steps.{stop_at, Walked};
 
 use crate::size::header_at;
 use crate::{Header, Walk};
@@ -12,13 +12,7 @@ pub(crate) fn stopped(h: Header, at: usize) -> Walk
 {
     match h {
         Header::Bad => Walk::Bad { at },
-        Header::Short => Walk::End,
-        Header::Whole {
-            kind: _,
-            start: _,
-            len: _,
-            next: _,
-        } => Walk::End,
+        Header::Short | Header::Whole(_) => Walk::End,
     }
 }
 
@@ -45,28 +39,23 @@ pub(crate) fn find(s: &[u8], kind: u32, text_types: bool) -> Walk
     let mut at = 0;
     loop {
         let h = header_at(s, at);
-        let Header::Whole {
-            kind: k,
-            start,
-            len,
-            next,
-        } = h
-        else {
+        let Header::Whole(child) = h else {
             break stopped(h, at);
         };
-        if text_types & !is_text(k) {
+        if text_types & !is_text(child.kind) {
             break Walk::Bad { at };
         }
-        if k == kind {
-            break Walk::Found { start, len };
+        if child.kind == kind {
+            break Walk::Found(child.payload());
         }
-        at = next;
+        at = child.next;
     }
 }
 
 // The first child of a type.
 pub fn find_child(s: &[u8], kind: u32) -> Walk
-    ensures { result ≡ first_of kind (boxes_of s.now) }
+    ensures first { result ≡ first_of kind (boxes_of s.now) }
+    ensures stays { Walked (length s.now) result }
 {
     find(s, kind, false)
 }

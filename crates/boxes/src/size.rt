@@ -3,7 +3,7 @@ ghost use Rattle.std.specs.Prelude.{◌≡◌, ◌≤◌, length};
 ghost use Rattle.boxes.specs.Boxes.{fitting_in, size_of, header_at};
 
 use crate::read::{be32, be64};
-use crate::{BoxSize, Header};
+use crate::{BoxAt, BoxSize, Header};
 
 // A size and its header's, where the size is at least the header and at most what remains.
 #[tactic(auto, using(choice::proofs::Tests::tests), unfolding(crate::specs::Boxes::fitting_in))]
@@ -55,16 +55,16 @@ fn any_header_at(s: &[u8], at: usize) -> Header
     let start = at + (header as usize);
     let len = (size - header) as usize;
     let next = at + (size as usize);
-    Header::Whole {
+    Header::Whole(BoxAt {
         kind: be32(s, at + 4),
         start,
         len,
         next,
-    }
+    })
 }
 
 // The header of the box at an offset: a turn of the Rust's children. Nearly every size has 32 bits and fits; such a box is
-// answered here, so that a walk passes it without a call.
+// answered here, so that a walk passes it without a call. A size below 8 wraps, and is more than is left.
 pub(crate) fn header_at(s: &[u8], at: usize) -> Header
     requires { at ≤ length s.now }
     ensures { result ≡ header_at s.now at }
@@ -74,13 +74,14 @@ pub(crate) fn header_at(s: &[u8], at: usize) -> Header
         return Header::Short;
     }
     let size = be32(s, at) as usize;
-    if (size < 8) | (left < size) {
+    let len = size.wrapping_sub(8);
+    if left - 8 < len {
         return any_header_at(s, at);
     }
-    Header::Whole {
+    Header::Whole(BoxAt {
         kind: be32(s, at + 4),
         start: at + 8,
-        len: size - 8,
+        len,
         next: at + size,
-    }
+    })
 }

@@ -3,7 +3,6 @@ ghost use Rattle.std.specs.Prelude.{◌≡◌};
 ghost use Rattle.boxes.specs.Boxes.{boxes_of};
 ghost use Rattle.boxes.specs.Places.{all_of, only_of, table_in};
 
-use crate::part::{moved, place_or};
 use crate::read::code;
 use crate::search::find_child;
 use crate::size::header_at;
@@ -18,22 +17,16 @@ fn only_child(s: &[u8], kind: u32) -> Result<Place, Refusal>
     let mut found = None;
     loop {
         let h = header_at(s, at);
-        let Header::Whole {
-            kind: k,
-            start,
-            len,
-            next,
-        } = h
-        else {
+        let Header::Whole(child) = h else {
             break found.ok_or(Reason::NoTable.at(0));
         };
-        if k == kind {
+        if child.kind == kind {
             if found.is_some() {
                 break Err(Reason::SeveralTables.at(0));
             }
-            found = Some(Place { start, len });
+            found = Some(child.payload());
         }
-        at = next;
+        at = child.next;
     }
 }
 
@@ -42,6 +35,8 @@ fn only_child(s: &[u8], kind: u32) -> Result<Place, Refusal>
 pub(crate) fn table_of(moov: &[u8]) -> Result<Place, Refusal>
     ensures { result ≡ table_in moov.now }
 {
-    let Place { start, len } = place_or(Reason::NoTable, find_child(moov, code(b"udta")))?;
-    moved(start, only_child(&moov[start..start + len], code(b"MTRM")))
+    let udta = find_child(moov, code(b"udta"));
+    let Place { start, len } = udta.place().ok_or(Reason::NoTable.at(0))?;
+    let table = only_child(&moov[start..start + len], code(b"MTRM"))?;
+    Ok(table.moved(start))
 }

@@ -1,12 +1,13 @@
 // The first video track of a moov.
 ghost use Rattle.std.specs.Prelude.{◌≡◌, ◌+◌, ◌≤◌, length};
 ghost use Rattle.boxes.specs.Tracks.{is_video, is_video_track, video_track};
+ghost use Rattle.boxes.specs.Steps.{Walked};
 
-use crate::part::{inner_child, payload};
+use crate::part::inner_child;
 use crate::read::{be32, code};
 use crate::search::stopped;
 use crate::size::header_at;
-use crate::{Header, Walk};
+use crate::{BoxAt, Header, Walk};
 
 // Whether a track is a video track: its first mdia's first hdlr has `vide` at 8.
 #[tactic(auto, using(choice::proofs::Tests::tests), unfolding(crate::specs::Tracks::is_video))]
@@ -22,35 +23,30 @@ fn is_video(trak: &[u8]) -> bool
 
 // Whether a box of a moov is a video track.
 #[tactic(auto, using(choice::proofs::Tests::tests), unfolding(crate::specs::Tracks::is_video_track))]
-fn is_video_track(s: &[u8], kind: u32, start: usize, len: usize) -> bool
-    requires { start + len ≤ length s.now }
-    ensures { result ≡ is_video_track s.now kind start len }
+fn is_video_track(moov: &[u8], child: BoxAt) -> bool
+    requires { child.start + child.len ≤ length moov.now }
+    ensures { result ≡ is_video_track moov.now child.kind child.start child.len }
 {
-    if kind != code(b"trak") {
+    if child.kind != code(b"trak") {
         return false;
     }
-    is_video(payload(s, Walk::Found { start, len }))
+    is_video(&moov[child.start..child.start + child.len])
 }
 
 // The first video track of a moov, as video_frame_times_of_moov looks for it.
 pub fn find_video_track(moov: &[u8]) -> Walk
-    ensures { result ≡ video_track moov.now }
+    ensures first { result ≡ video_track moov.now }
+    ensures stays { Walked (length moov.now) result }
 {
     let mut at = 0;
     loop {
         let h = header_at(moov, at);
-        let Header::Whole {
-            kind,
-            start,
-            len,
-            next,
-        } = h
-        else {
+        let Header::Whole(child) = h else {
             break stopped(h, at);
         };
-        if is_video_track(moov, kind, start, len) {
-            break Walk::Found { start, len };
+        if is_video_track(moov, child) {
+            break Walk::Found(child.payload());
         }
-        at = next;
+        at = child.next;
     }
 }

@@ -9,15 +9,14 @@ use lib.ListN.{length, take, drop}
 use lib.Dec.{ltb}
 use Rattle.slices.specs.Slices.{laid}
 use Rattle.boxes.specs.Boxes.{most_bytes, header_at, boxes_of, searched, first_of, reached_by, children_at}
-use Rattle.boxes.specs.Places.{place_or, place_of, moved_walk, moved_place, child_place, find_box_place}
+use Rattle.boxes.specs.Places.{place_of, moved_walk, moved_place, child_place, find_box_place}
 use Rattle.boxes.specs.declared.Header.{Header}
 use Rattle.boxes.specs.declared.Header.TheVariants.{Whole, Short, Bad}
 use Rattle.boxes.specs.declared.Walk.{Walk}
 use Rattle.boxes.specs.declared.Walk.TheVariants.{Found, End, Bad as BadAt}
-use Rattle.refusal.specs.declared.Reason.TheVariants as reason
 use Rattle.frame_times.specs.Times.{room}
 use Rattle.stops.specs.Stops.{Dividing}
-use Rattle.stops.specs.Undivided.{taken_back, reached_undivided, child_undivided, find_box_undivided, children_undivided}
+use Rattle.stops.specs.Undivided.{taken_back, place_undivided, reached_undivided, child_undivided, find_box_undivided, children_undivided}
 use Rattle.stops.specs.Promises.{ChildPlace, FindBoxPlace, Children, FrameTimesOf}
 use Rattle.stops.proofs.TakenBack.{moov-back}
 
@@ -27,8 +26,8 @@ chosen f true x y x' y' e g = e
 chosen f false x y x' y' e g = g
 
 -- `child`
-place-back : (w : Walk) → taken_back (place_of w) ≡ place_or reason.Missing w
-place-back (Found start len) = refl
+place-back : (w : Walk) → taken_back (place_of w) ≡ place_undivided w
+place-back (Found p) = refl
 place-back End = refl
 place-back (BadAt at) = refl
 
@@ -37,8 +36,8 @@ unfolding child_place child_undivided
 child-back b kind = chosen taken_back (ltb most_bytes (length b)) _ _ _ _ refl (place-back (first_of kind (boxes_of b)))
 
 -- `find_box`
-moved_back : (by : ℕ) (w : Walk) → taken_back (place_of (moved_walk by w)) ≡ moved_place by (place_or reason.Missing w)
-moved_back by (Found start len) = refl
+moved_back : (by : ℕ) (w : Walk) → taken_back (place_of (moved_walk by w)) ≡ moved_place by (place_undivided w)
+moved_back by (Found p) = refl
 moved_back by End = refl
 moved_back by (BadAt at) = refl
 
@@ -53,7 +52,7 @@ find-box-back b start end kind text =
 reached-back : (h : Header) (at : ℕ) → taken_back (reached_by h at) ≡ reached_undivided h
 reached-back Short at = refl
 reached-back Bad at = refl
-reached-back (Whole kind start len next) at = refl
+reached-back (Whole found) at = refl
 
 children-back : (b : List ℕ) (at : ℕ) → taken_back (children_at b at) ≡ children_undivided b at
 unfolding children_at children_undivided

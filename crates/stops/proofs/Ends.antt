@@ -23,7 +23,7 @@ use Rattle.stops.specs.Stops.{ending, Broken, StopsAt}
 abbrev Typed : ℕ → Header → Type 0
 Typed k Short = Unit {0}
 Typed k Bad = Unit {0}
-Typed k (Whole kind start len next) = kind ≡ k
+Typed k (Whole b) = b.kind ≡ k
 
 by-typed : (at k : ℕ) (z : Option BoxSize) → Typed k (header_by at k z)
 by-typed at k None = tt
@@ -45,7 +45,7 @@ after-ends : (s : List ℕ) (at : ℕ) (f : ℕ → Boxes) (h : Header) → head
     → ((k : ℕ) → Ends s (f k)) → Ends s (after_header h at f)
 after-ends s at f Short e l t r = tt
 after-ends s at f Bad e l t r = (l, e)
-after-ends s at f (Whole kind start len next) e l t r = (omega arith, t, r next)
+after-ends s at f (Whole b) e l t r = (omega arith, t, r b.next)
 
 ends-from : (m : ℕ) (s : List ℕ) (at : ℕ) → Ends s (boxes_from m s at)
 unfolding boxes_from
@@ -58,7 +58,7 @@ ends s = ends-from (length s - 0) s 0
 
 -- so where the boxes end at a bad header it is broken, with text types or without
 abbrev BrokenAt : Bool → List ℕ → Walk → Type 0
-BrokenAt text s (Found start len) = Unit {0}
+BrokenAt text s (Found p) = Unit {0}
 BrokenAt text s End = Unit {0}
 BrokenAt text s (BadAt at) = Broken text s at
 
@@ -76,7 +76,7 @@ ending-broken false s (box at k start len rest) e = ending-broken false s rest e
 
 -- a walk that finds nothing ends as the boxes do
 abbrev Comes : Walk → Walk → Type 0
-Comes end (Found start len) = Unit {0}
+Comes end (Found p) = Unit {0}
 Comes end End = end ≡ End
 Comes end (BadAt at) = end ≡ BadAt at
 

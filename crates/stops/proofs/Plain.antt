@@ -9,11 +9,8 @@ use lib.Dec.{ltb}
 use Rattle.choice.specs.Records.{any}
 use Rattle.choice.proofs.Tests.{either}
 use Rattle.signed.specs.Signed.{is_outside}
-use Rattle.tracks.specs.declared.Rows.{Rows}
-use Rattle.tracks.specs.declared.Rows.TheVariants.{Whole, Torn}
+use Rattle.std.specs.Prelude.{Option, None, Some}
 use Rattle.tracks.specs.declared.Edit.{Edit}
-use Rattle.tracks.specs.declared.Edited.{Edited}
-use Rattle.tracks.specs.declared.Edited.TheVariants.{By, Bad}
 use Rattle.tracks.specs.Tables.{optional_rows, entries_of, entry_total, durations, offsets}
 use Rattle.tracks.specs.Edits.{edit_of}
 use Rattle.refusal.specs.declared.Reason.TheVariants as reason
@@ -36,17 +33,17 @@ plain-kept scale nominal e [] = λ e. grind arith
 plain-kept scale nominal e (f ∷ fs) = either Plain (le_z nominal (pos 0)) (λ t e. grind arith) (λ t. plain-placed scale nominal _ _)
 
 -- from the edit list on, the ctts, and the stts
-plain-edit : (e : Edited) (scale : ℕ) (ds : List ℕ) (os : List ℤ) → Plain (of_edit e scale ds os)
-plain-edit Bad scale ds os = λ e. grind arith
-plain-edit (By e) scale ds os = plain-kept scale _ e _
+plain-edit : (e : Option Edit) (scale : ℕ) (ds : List ℕ) (os : List ℤ) → Plain (of_edit e scale ds os)
+plain-edit None scale ds os = λ e. grind arith
+plain-edit (Some e) scale ds os = plain-kept scale _ e _
 
-plain-offsets : (standard : Bool) (r : Rows) (ctts edts : List ℕ) (scale movie : ℕ) (ds : List ℕ) → Plain (of_offsets standard r ctts edts scale movie ds)
-plain-offsets standard Torn ctts edts scale movie ds = λ e. grind arith
-plain-offsets standard (Whole n) ctts edts scale movie ds = plain-edit (edit_of edts scale movie) scale ds (offsets standard n ctts)
+plain-offsets : (standard : Bool) (r : Option ℕ) (ctts edts : List ℕ) (scale movie : ℕ) (ds : List ℕ) → Plain (of_offsets standard r ctts edts scale movie ds)
+plain-offsets standard None ctts edts scale movie ds = λ e. grind arith
+plain-offsets standard (Some n) ctts edts scale movie ds = plain-edit (edit_of edts scale movie) scale ds (offsets standard n ctts)
 
-pub plain-durations : (standard : Bool) (r : Rows) (bytes room movie scale : ℕ) (edts ctts stts : List ℕ) → Plain (of_durations standard r bytes room movie scale edts ctts stts)
-plain-durations standard Torn bytes room movie scale edts ctts stts = λ e. grind arith
-plain-durations standard (Whole n) bytes room movie scale edts ctts stts =
+pub plain-durations : (standard : Bool) (r : Option ℕ) (bytes room movie scale : ℕ) (edts ctts stts : List ℕ) → Plain (of_durations standard r bytes room movie scale edts ctts stts)
+plain-durations standard None bytes room movie scale edts ctts stts = λ e. grind arith
+plain-durations standard (Some n) bytes room movie scale edts ctts stts =
     either Plain (ltb bytes (entry_total (entries_of n stts))) (λ t e. grind arith)
     (λ t. either Plain (ltb room (entry_total (entries_of n stts))) (λ t e. grind arith)
     (λ t. plain-offsets standard (optional_rows ctts) ctts edts scale movie (durations n stts)))

@@ -81,7 +81,7 @@ module _ (b : List ℕ) (at : ℕ) where
   reached-told : (h : Header) → header_at b at ≡ h → Lies at (length b) h → Told reason.Broken BrokenThere (reached_by h at)
   reached-told Short e l = λ n. absurd (grind arith)
   reached-told Bad e l = λ n. (refl, (l, inl e))
-  reached-told (Whole kind start len next) e l = tt
+  reached-told (Whole found) e l = tt
 
   children-told : Told reason.Broken BrokenThere (children_at b at)
   unfolding children_at

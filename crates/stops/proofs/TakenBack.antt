@@ -1,28 +1,25 @@
 -- Frame times with 36 taken back to 31 are those of document 01, down from the moov. Assumes nothing.
-use Rattle.std.specs.Prelude.{if◌then◌else◌}
-use mathlib.Core.Path.{◌≡◌, refl, sym, ap, ◌∙◌, subst}
+use Rattle.std.specs.Prelude.{if◌then◌else◌, Option, None, Some, unwrap_or}
+use mathlib.Core.Path.{◌≡◌, refl, sym, ap, subst}
 use mathlib.Core.Bool.{Bool, true, false, ◌||◌}
 use mathlib.Core.List.{List}
-use Prim.Native.Nat.{ℕ, ◌+◌, ◌<◌}
-use native.Mathlib.Omega.{arith}
-use lib.ListN.{length, get_or}
+use Prim.Native.Nat.{ℕ}
+use lib.ListN.{length}
 use lib.Dec.{ltb, eqb}
-use borrow.Author.Tests.{lt-ltb, ltb-true, leb-false}
-use Rattle.choice.proofs.Tests.{either, tf}
-use Rattle.boxes.specs.Bytes.{mdia, be32_at}
+use Rattle.boxes.specs.Bytes.{mdia}
 use Rattle.boxes.specs.Boxes.{most_bytes, boxes_of, first_of}
 use Rattle.boxes.specs.Places.{child_of}
 use Rattle.boxes.specs.Tracks.{video_track}
 use Rattle.boxes.specs.declared.Walk.{Walk}
 use Rattle.boxes.specs.declared.Walk.TheVariants.{Found, End, Bad as BadAt}
-use Rattle.tracks.specs.Tables.{scale_at, scale_of, has_scale, table_rows}
+use Rattle.tracks.specs.Tables.{timescale, table_rows}
 use Rattle.std.specs.Prelude.{Result, Ok, Err}
 use Rattle.refusal.specs.declared.Reason.{Reason}
 use Rattle.refusal.specs.declared.Reason.TheVariants as reason
 use Rattle.refusal.specs.declared.Refusal.{Refusal}
 use Rattle.refusal.specs.Refusals.{refusal_at}
-use Rattle.frame_times.specs.Times.{Outcome, mvhd, mdhd, minf, stbl, stts, ctts, edts, no_times, required, of_durations, of_tables, of_scale, of_media, of_track, of_movie, times_of_moov}
-use Rattle.stops.specs.Undivided.{undivided, taken_back, required_undivided, tables_undivided, scale_undivided, media_undivided, track_undivided, times_undivided}
+use Rattle.frame_times.specs.Times.{Outcome, mvhd, mdhd, minf, stbl, stts, ctts, edts, no_times, required, with_scale, of_durations, of_tables, of_scale, of_media, of_track, times_of_moov}
+use Rattle.stops.specs.Undivided.{undivided, taken_back, required_undivided, scale_of, tables_undivided, scale_undivided, media_undivided, track_undivided, times_undivided}
 use Rattle.stops.proofs.Answers.{Told}
 use Rattle.stops.proofs.Plain.{Plain, plain-durations}
 
@@ -50,7 +47,7 @@ choice-back false e f = f
 
 required-back : (base : ℕ) (w : Walk) (s : List ℕ) (next : ℕ → List ℕ → Outcome) (next' : List ℕ → Outcome)
     → ((at : ℕ) (t : List ℕ) → Back (next at t) (next' t)) → Back (required base w s next) (required_undivided w s next')
-required-back base (Found start len) s next next' f = f _ _
+required-back base (Found p) s next next' f = f _ _
 required-back base End s next next' f = record { answer = refl; starts = refl }
 required-back base (BadAt at) s next next' f = record { answer = refl; starts = refl }
 
@@ -67,35 +64,23 @@ module _ (standard : Bool) (bytes room movie : ℕ) where
       choice-back (eqb scale 0 || eqb movie 0) (record { answer = refl; starts = refl })
       (required-back base (first_of minf (boxes_of s)) s _ _ (λ at i. required-back at (first_of stbl (boxes_of i)) i _ _ (tables-back scale edts)))
 
+  -- a timescale that isn't whole counts as 0
+  read-back : (scale : Option ℕ) (edts : List ℕ) (base : ℕ) (s : List ℕ)
+      → Back (with_scale scale (λ scale. of_scale standard bytes room movie scale edts base s)) (scale_undivided standard bytes room movie (unwrap_or scale 0) edts s)
+  read-back None edts base s = record { answer = refl; starts = refl }
+  read-back (Some scale) edts base s = scale_back scale edts base s
+
   media-back : (edts : List ℕ) (base : ℕ) (s : List ℕ) → Back (of_media standard bytes room movie edts base s) (media_undivided standard bytes room movie edts s)
   unfolding of_media media_undivided
-  media-back edts base s = required-back base (first_of mdhd (boxes_of s)) s _ _ (λ at h. scale_back (scale_of h) edts base s)
+  media-back edts base s = required-back base (first_of mdhd (boxes_of s)) s _ _ (λ at h. read-back (timescale h) edts base s)
 
   track-back : (base : ℕ) (s : List ℕ) → Back (of_track standard bytes room movie base s) (track_undivided standard bytes room movie s)
   unfolding of_track track_undivided
   track-back base s = required-back base (first_of mdia (boxes_of s)) s _ _ (media-back (child_of edts s))
 
--- a mvhd whose timescale isn't whole has the timescale 0
-scale-short : (h : List ℕ) → (eqb (get_or h 0 0) 1 ≡ true → length h < 24) → (eqb (get_or h 0 0) 1 ≡ false → length h < 16) → scale_of h ≡ 0
-unfolding scale_of
-scale-short h long short =
-    either (λ n. n ≡ 0) (ltb (length h) 4) (λ t. refl)
-    (λ t. either (λ n. n ≡ 0) (eqb (get_or h 0 0) 1) (λ u. at 20 (long u)) (λ u. at 12 (short u)))
-  where
-    at : (k : ℕ) → length h < k + 4 → scale_at h k ≡ 0
-    at k l = λ i. if lt-ltb (length h) (k + 4) l i then 0 else be32_at h k
-
-no-scale : (h : List ℕ) → has_scale h ≡ false → scale_of h ≡ 0
-unfolding has_scale
-no-scale h =
-    let P : Bool → Type 0 = λ b. b ≡ false → scale_of h ≡ 0 in
-    either P (ltb (length h) 16)
-    (λ t e. let l = ltb-true (length h) 16 t in scale-short h (λ u. omega arith) (λ u. l))
-    (λ t. either P (eqb (get_or h 0 0) 1) (λ u e. scale-short h (λ v. leb-false 24 (length h) e) (λ v. tf (sym u ∙ v))) (λ u e. tf e))
-
--- with which every track is refused
+-- with a timescale of 0 every track is refused
 missed : (w : Walk) (s : List ℕ) (next : List ℕ → Outcome) → ((t : List ℕ) → next t ≡ no_times reason.Missing) → required_undivided w s next ≡ no_times reason.Missing
-missed (Found start len) s next f = f _
+missed (Found p) s next f = f _
 missed End s next f = refl
 missed (BadAt at) s next f = refl
 
@@ -111,18 +96,17 @@ unfolding track_undivided media_undivided
 track-none standard bytes room s =
     missed (first_of mdia (boxes_of s)) s _ (λ media. missed (first_of mdhd (boxes_of media)) media _ (λ h. scale-none standard bytes room (scale_of h) (child_of edts s) media))
 
--- so a moov without a whole one is refused either way
-movie-back : (standard : Bool) (moov : List ℕ) (room : ℕ) (h : List ℕ) → Back (of_movie standard moov room h) (required_undivided (video_track moov) moov (track_undivided standard (length moov) room (scale_of h)))
-movie-back standard moov room h =
-    let track = track_undivided standard (length moov) room (scale_of h) in
-    either (λ (o : Outcome). Back o (required_undivided (video_track moov) moov track)) (has_scale h)
-    (λ t. required-back 0 (video_track moov) moov _ _ (track-back standard (length moov) room (scale_of h)))
-    (λ t. subst (Back (no_times reason.Missing))
-    (sym (missed (video_track moov) moov track (λ s. ap (λ (n : ℕ). track_undivided standard (length moov) room n s) (no-scale h t) ∙ track-none standard (length moov) room s)))
-    (record { answer = refl; starts = refl }))
+-- so a moov whose timescale isn't whole is refused either way
+movie-back : (standard : Bool) (moov : List ℕ) (room : ℕ) (scale : Option ℕ)
+    → Back (with_scale scale (λ movie. required 0 (video_track moov) moov (of_track standard (length moov) room movie)))
+    (required_undivided (video_track moov) moov (track_undivided standard (length moov) room (unwrap_or scale 0)))
+movie-back standard moov room None =
+    let track = track_undivided standard (length moov) room 0 in
+    subst (Back (no_times reason.Missing)) (sym (missed (video_track moov) moov track (track-none standard (length moov) room))) (record { answer = refl; starts = refl })
+movie-back standard moov room (Some movie) = required-back 0 (video_track moov) moov _ _ (track-back standard (length moov) room movie)
 
 pub moov-back : (standard : Bool) (moov : List ℕ) (room : ℕ) → Back (times_of_moov standard moov room) (times_undivided standard moov room)
 unfolding times_of_moov times_undivided
 moov-back standard moov room =
     choice-back (ltb most_bytes (length moov)) (record { answer = refl; starts = refl })
-    (required-back 0 (first_of mvhd (boxes_of moov)) moov _ _ (λ at h. movie-back standard moov room h))
+    (required-back 0 (first_of mvhd (boxes_of moov)) moov _ _ (λ at h. movie-back standard moov room (timescale h)))

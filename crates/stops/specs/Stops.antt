@@ -4,6 +4,7 @@ use Rattle.std.specs.Prelude.{ℕ, ◌+◌, ◌-◌, ◌≤◌, Bool, true, fals
 use Rattle.slices.specs.Slices.{laid}
 use Rattle.boxes.specs.Bytes.{be32_at, mdia}
 use Rattle.boxes.specs.Boxes.{Boxes, clean, bad, box, header_at, boxes_of, is_text, searched, first_of}
+use Rattle.boxes.specs.Places.{bytes_at}
 use Rattle.boxes.specs.Tracks.{video_track}
 use Rattle.boxes.specs.declared.Header.TheVariants.{Bad}
 use Rattle.boxes.specs.declared.Place.{Place}
@@ -40,8 +41,8 @@ pub record Part : Type 0 where
 abbrev pub whole_part : List ℕ → Part
 whole_part moov = record { base = 0; bytes = moov }
 
-abbrev pub inner_part : Part → ℕ → ℕ → Part
-inner_part p start len = record { base = p.base + start; bytes = take len (drop start p.bytes) }
+abbrev pub inner_part : Part → Place → Part
+inner_part p q = record { base = p.base + q.start; bytes = bytes_at p.bytes q }
 
 -- a search for a box that has to be there: the part of the moov that is walked over, and how the walk for the box ends
 pub record Search : Type 0 where
@@ -53,7 +54,7 @@ search_for kind p = record { part = p; walk = first_of kind (boxes_of p.bytes) }
 
 -- the searches in the part that a walk found; none where it found none
 abbrev pub found_in : Part → Walk → (Part → List Search) → List Search
-found_in p (Found start len) inner = inner (inner_part p start len)
+found_in p (Found q) inner = inner (inner_part p q)
 found_in p End inner = []
 found_in p (BadAt at) inner = []
 

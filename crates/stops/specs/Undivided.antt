@@ -1,13 +1,14 @@
 -- The answers of document 01, where 31 isn't divided: however a walk ends without a box that has to be there, it is 31. And 36 taken back to it.
 -- Frame times have `standard` as in frame_times/specs/Times.antt: without it they are document 01's.
-use Rattle.std.specs.Prelude.{ℕ, ◌-◌, Bool, ◌||◌, List, length, take, drop, ltb, eqb, if◌then◌else◌, Result, Ok, Err}
+use Rattle.std.specs.Prelude.{ℕ, ◌-◌, Bool, ◌||◌, List, length, ltb, eqb, if◌then◌else◌, unwrap_or, Result, Ok, Err}
+use Rattle.std.specs.Option.{ok_or}
 use Rattle.refusal.specs.declared.Reason.{Reason}
 use Rattle.refusal.specs.declared.Reason.TheVariants as reason
 use Rattle.refusal.specs.declared.Refusal.{Refusal}
 use Rattle.refusal.specs.Refusals.{refusal_at, refused}
 use Rattle.boxes.specs.Bytes.{mdia}
-use Rattle.boxes.specs.Boxes.{most_bytes, header_at, boxes_of, searched, first_of}
-use Rattle.boxes.specs.Places.{place, place_or, in_part, child_of}
+use Rattle.boxes.specs.Boxes.{most_bytes, header_at, boxes_of, searched, place, first_of}
+use Rattle.boxes.specs.Places.{found_place, bytes_at, in_part, child_of}
 use Rattle.boxes.specs.Tracks.{video_track}
 use Rattle.boxes.specs.declared.Header.{Header}
 use Rattle.boxes.specs.declared.Header.TheVariants.{Whole, Short, Bad}
@@ -15,7 +16,7 @@ use Rattle.boxes.specs.declared.Place.{Place}
 use Rattle.boxes.specs.declared.BoxAt.{BoxAt}
 use Rattle.boxes.specs.declared.Walk.{Walk}
 use Rattle.boxes.specs.declared.Walk.TheVariants.{Found, End, Bad as BadAt}
-use Rattle.tracks.specs.Tables.{scale_of, table_rows}
+use Rattle.tracks.specs.Tables.{timescale, table_rows}
 use Rattle.frame_times.specs.Times.{Outcome, mvhd, mdhd, minf, stbl, stts, ctts, edts, no_times, of_durations}
 
 -- a refusal with 36 taken back to 31, whose index is 0
@@ -28,21 +29,25 @@ abbrev pub taken_back : {A : Type 0} → Result A Refusal → Result A Refusal
 taken_back (Ok a) = Ok a
 taken_back (Err refusal) = Err (undivided refusal.reason refusal.index)
 
+-- the place of what a walk found; missing, however it ends without it
+abbrev pub place_undivided : Walk → Result Place Refusal
+place_undivided w = ok_or (found_place w) (refusal_at reason.Missing 0)
+
 -- `child`, `find_box` and `children`
 unfoldable pub child_undivided : List ℕ → ℕ → Result Place Refusal
-child_undivided payload kind = if ltb most_bytes (length payload) then refused reason.TooLong 0 else place_or reason.Missing (first_of kind (boxes_of payload))
+child_undivided payload kind = if ltb most_bytes (length payload) then refused reason.TooLong 0 else place_undivided (first_of kind (boxes_of payload))
 
 unfoldable pub find_box_undivided : List ℕ → ℕ → ℕ → ℕ → Bool → Result Place Refusal
 find_box_undivided bytes start end kind text =
     if ltb most_bytes (length bytes) then refused reason.TooLong 0
     else if ltb (length bytes) end then refused reason.BadSearch 0
     else if ltb end start then refused reason.BadSearch 0
-    else in_part bytes (Ok (place start (end - start))) (λ s. place_or reason.Missing (first_of kind (searched text (boxes_of s))))
+    else in_part bytes (Ok (place start (end - start))) (λ s. place_undivided (first_of kind (searched text (boxes_of s))))
 
 abbrev pub reached_undivided : Header → Result BoxAt Refusal
 reached_undivided Short = refused reason.Missing 0
 reached_undivided Bad = refused reason.Missing 0
-reached_undivided (Whole kind start len next) = Ok (record { kind = kind; start = start; len = len; next = next })
+reached_undivided (Whole found) = Ok found
 
 unfoldable pub children_undivided : List ℕ → ℕ → Result BoxAt Refusal
 children_undivided payload at =
@@ -52,12 +57,16 @@ children_undivided payload at =
 
 -- frame times: a box that has to be there goes on with its payload; without it there are no times
 abbrev pub required_undivided : Walk → List ℕ → (List ℕ → Outcome) → Outcome
-required_undivided (Found start len) s next = next (take len (drop start s))
+required_undivided (Found p) s next = next (bytes_at s p)
 required_undivided End s next = no_times reason.Missing
 required_undivided (BadAt at) s next = no_times reason.Missing
 
 abbrev pub in_child_undivided : ℕ → List ℕ → (List ℕ → Outcome) → Outcome
 in_child_undivided kind s next = required_undivided (first_of kind (boxes_of s)) s next
+
+-- a timescale; 0 where it isn't whole
+abbrev pub scale_of : List ℕ → ℕ
+scale_of h = unwrap_or (timescale h) 0
 
 unfoldable pub tables_undivided : Bool → ℕ → ℕ → ℕ → ℕ → List ℕ → List ℕ → Outcome
 tables_undivided standard bytes room movie scale edts tables = in_child_undivided stts tables (λ d. of_durations standard (table_rows d) bytes room movie scale edts (child_of ctts tables) d)

@@ -5,9 +5,9 @@ use Rattle.boxes.proofs.Searches.{with_found}
 use Rattle.boxes.proofs.table.only_child.Given as goal
 
 -- the only one of what was found and of what is left is the only one of all
-abbrev pub invariant-loop-k : goal.invariant-loop-k
-invariant-loop-k l = (l.at ≤ length l.s) × (only_of (with_found l.found (all_of l.kind (boxes_at l.s l.at))) ≡ only_of (all_of l.kind (boxes_of l.s)))
+abbrev pub invariant-loop-child : goal.invariant-loop-child
+invariant-loop-child l = (l.at ≤ length l.s) × (only_of (with_found l.found (all_of l.kind (boxes_at l.s l.at))) ≡ only_of (all_of l.kind (boxes_of l.s)))
 
 -- a turn for 8 of the bytes left
-abbrev pub decreases-loop-k : goal.decreases-loop-k
-decreases-loop-k l = (length l.s - l.at) / 8
+abbrev pub decreases-loop-child : goal.decreases-loop-child
+decreases-loop-child l = (length l.s - l.at) / 8

@@ -1,11 +1,9 @@
 -- The numbers of document 01 on ticks and near ends, those that it marks and some at the limits. They are the contract of `worked_examples_hold`.
-use Rattle.std.specs.Prelude.{Bool, true, false, List, [], ◌∷◌, ◌*◌, pos, neg_ℤ, ℤ, Result, Ok}
+use Rattle.std.specs.Prelude.{Bool, true, false, List, [], ◌∷◌, ℕ, ◌*◌, pos, neg_ℤ, ℤ, Option, Some, None, Result, Ok}
 use Rattle.choice.specs.Worked.{Worked, is, AllRight}
 use Rattle.refusal.specs.declared.Reason.TheVariants as reason
 use Rattle.refusal.specs.declared.Refusal.{Refusal}
 use Rattle.refusal.specs.Refusals.{refused}
-use Rattle.ticks.specs.declared.MediaTicks.{MediaTicks}
-use Rattle.ticks.specs.declared.MediaTicks.TheVariants.{Are, Beyond}
 use Rattle.ticks.specs.Ticks.{ticks_to_us, ends_near, media_ticks}
 
 abbrev pub times : List (Worked (Result ℤ Refusal))
@@ -40,13 +38,13 @@ ends =
     ∷ is (ends_near (pos 0) (pos 0) (neg_ℤ (pos 1)) 1999999) false
     ∷ []
 
-abbrev pub edits : List (Worked MediaTicks)
+abbrev pub edits : List (Worked (Option ℕ))
 edits =
-    is (media_ticks 1000 30000 600) (Are 50000)
-    ∷ is (media_ticks 1 1 2) (Are 1)
-    ∷ is (media_ticks 1 1 3) (Are 0)
-    ∷ is (media_ticks 9223372036854775807 1 1) (Are 9223372036854775807)
-    ∷ is (media_ticks 9223372036854775808 1 1) Beyond
+    is (media_ticks 1000 30000 600) (Some 50000)
+    ∷ is (media_ticks 1 1 2) (Some 1)
+    ∷ is (media_ticks 1 1 3) (Some 0)
+    ∷ is (media_ticks 9223372036854775807 1 1) (Some 9223372036854775807)
+    ∷ is (media_ticks 9223372036854775808 1 1) None
     ∷ []
 
 abbrev pub WorkedExamples : Type 0

@@ -1,5 +1,5 @@
 -- Time of a frame: ticks of a scale in microseconds, and what is near the end of a video. And an edit's time in media ticks.
-use Rattle.std.specs.Prelude.{ℕ, ◌+◌, ◌*◌, ◌/◌, ◌^◌, Bool, eqb, ltb, ℤ, pos, nat_abs, ◌+ℤ◌, ◌-ℤ◌, ◌*ℤ◌, if◌then◌else◌, Result, Ok}
+use Rattle.std.specs.Prelude.{ℕ, ◌+◌, ◌*◌, ◌/◌, ◌^◌, Bool, eqb, ltb, ℤ, pos, nat_abs, ◌+ℤ◌, ◌-ℤ◌, ◌*ℤ◌, if◌then◌else◌, Option, Some, None, Result, Ok}
 use Rattle.std.specs.Int.Signed.{le_z}
 use Rattle.choice.specs.Choice.{when}
 use Rattle.refusal.specs.declared.Refusal.{Refusal}
@@ -9,8 +9,6 @@ use Rattle.signed.specs.declared.Held.{Held}
 use Rattle.signed.specs.declared.Held.TheVariants.{Is, Outside}
 use Rattle.signed.specs.Signed.{within}
 use Rattle.signed.specs.Rounded.{rounded}
-use Rattle.ticks.specs.declared.MediaTicks.{MediaTicks}
-use Rattle.ticks.specs.declared.MediaTicks.TheVariants.{Are, Beyond}
 
 -- the largest scale
 abbrev pub largest_scale : ℕ
@@ -37,5 +35,5 @@ abbrev pub edit_ticks : ℕ → ℕ → ℕ → ℕ
 edit_ticks duration timescale movie = (duration * timescale + movie / 2) / movie
 
 -- the same where an i64 holds it
-unfoldable pub media_ticks : ℕ → ℕ → ℕ → MediaTicks
-media_ticks duration timescale movie = if ltb (edit_ticks duration timescale movie) (2 ^ 63) then Are (edit_ticks duration timescale movie) else Beyond
+unfoldable pub media_ticks : ℕ → ℕ → ℕ → Option ℕ
+media_ticks duration timescale movie = if ltb (edit_ticks duration timescale movie) (2 ^ 63) then Some (edit_ticks duration timescale movie) else None

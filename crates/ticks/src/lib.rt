@@ -27,13 +27,6 @@ pub struct FrameTimes {
     pub end: i64,
 }
 
-// Media ticks below 2^63, or none where an i64 doesn't hold them.
-#[derive(Clone, Copy)]
-pub enum MediaTicks {
-    Are(u64),
-    Beyond,
-}
-
 // A number that may be below 0 as the difference plus - minus.
 #[derive(Clone, Copy)]
 struct Allowance {
@@ -152,9 +145,9 @@ pub fn ends_near(us: i64, end: Big, nominal: i64, scale: u64) -> bool
     near_across(a, b, plus, minus)
 }
 
-// A duration of the movie in the media's ticks, from `video_frame_times_of_moov` of the Rust.
+// A duration of the movie in the media's ticks, where an i64 holds it, from `video_frame_times_of_moov` of the Rust.
 #[tactic(auto, using(crate::proofs::Edits::quotients))]
-pub fn edit_ticks(duration: u64, scale: u64, movie: u64) -> MediaTicks
+pub fn edit_ticks(duration: u64, scale: u64, movie: u64) -> Option<u64>
     requires { (scale < 2 ^ 32) × (0 < movie) × (movie < 2 ^ 32) }
     ensures { result ≡ media_ticks duration scale movie }
 {
@@ -164,13 +157,13 @@ pub fn edit_ticks(duration: u64, scale: u64, movie: u64) -> MediaTicks
     };
     let t = wide::quotient(wide::add(wide::product(duration, scale), half), movie);
     if t.hi != 0 {
-        return MediaTicks::Beyond;
+        return None;
     }
     let lo = t.lo;
     if lo < 0x8000_0000_0000_0000 {
-        return MediaTicks::Are(lo);
+        return Some(lo);
     }
-    MediaTicks::Beyond
+    None
 }
 
 // The definitions give the numbers of specs/Examples.antt.

@@ -1,4 +1,4 @@
-use Rattle.std.proofs.Common.{arith, w64}
+use Rattle.std.proofs.Common.{rules, arith, w64}
 use mir.Facts.{to_z_pos}
 use Rattle.tracks.proofs.EntryLaws.{lay-more, lay-fill, lay-skip, lay-end}
 use Rattle.tracks.proofs.tables.lay.Goals as goal
@@ -6,18 +6,17 @@ use Rattle.tracks.proofs.tables.lay.Goals as goal
 pub returns-then-most-sum : goal.returns-then-most-sum
 returns-then-most-sum c =
     record {
-      frames = lay-more _ _ _ _ _ _ _ _ c.loop-left.invariant (λ z. omega arith) _ _ c.be32-count.ensures c.be32-value.ensures c.if-most-sum.true;
+      frames = lay-more _ _ _ _ _ _ _ c.loop-run.invariant _ _ c.in-Some.ensures.steps c.if-most-sum.true;
       laid = λ h. absurd (omega arith);
     }
 
-pub loop-left-preserved-then-sum-out : goal.loop-left-preserved-then-sum-out
-loop-left-preserved-then-sum-out c =
-    lay-fill _ _ _ _ _ _ _ _ c.loop-left.invariant (λ z. omega arith) _ _ c.be32-count.ensures c.be32-value.ensures c.if-most-sum.false c.fill.new.xs
-    c.if-sum-out.true c.fill.ensures (to_z_pos w64 {n = c.be32-value.result} (omega arith))
+pub loop-run-preserved-then-sum-out : goal.loop-run-preserved-then-sum-out
+loop-run-preserved-then-sum-out c =
+    lay-fill _ _ _ _ _ _ _ c.loop-run.invariant _ _ c.in-Some.ensures.steps c.if-most-sum.false c.fill.new.self
+    c.if-sum-out.true (c.fill.ensures.after (search rules)) (to_z_pos w64 {n = c.in-Some.run'.value} (omega arith))
 
-pub loop-left-preserved : goal.loop-left-preserved
-loop-left-preserved c =
-    lay-skip _ _ _ _ _ _ _ _ c.loop-left.invariant (λ z. omega arith) _ _ c.be32-count.ensures c.be32-value.ensures c.if-most-sum.false c.if-sum-out.false
+pub loop-run-preserved : goal.loop-run-preserved
+loop-run-preserved c = lay-skip _ _ _ _ _ _ _ c.loop-run.invariant _ _ c.in-Some.ensures.steps c.if-most-sum.false c.if-sum-out.false
 
 pub returns : goal.returns
-returns c = lay-end _ _ _ _ _ _ _ _ c.loop-left.invariant (omega arith)
+returns c = lay-end _ _ _ _ _ _ _ c.loop-run.invariant c.in-None.ensures.steps.0

@@ -1,0 +1,132 @@
+// The entries of a table, and the frames that they are for.
+ghost use Rattle.std.specs.Prelude.{◌≡◌, ◌-◌, ◌*◌, ◌%◌, ◌≤◌, length};
+
+use boxes::read::be32;
+
+// An entry: for how many frames it is, and their value.
+#[derive(Clone, Copy)]
+pub struct Run {
+    pub count: usize,
+    pub value: u32,
+}
+
+// A table's payload, and how many entries it has, all of which are there.
+#[derive(Clone, Copy)]
+pub struct Table<'a> {
+    pub payload: &'a [u8],
+    pub rows: usize,
+    ghost there: { rows * 8 ≤ length payload.now - 8 },
+}
+
+// The entries that a walk hasn't passed: those from at to end.
+#[derive(Clone, Copy)]
+pub struct Runs<'a> {
+    pub payload: &'a [u8],
+    pub at: usize,
+    pub end: usize,
+    ghost ordered: { at ≤ end },
+    ghost there: { end - at ≤ length payload.now - at },
+    ghost whole: { (end - at) % 8 ≡ 0 },
+}
+
+// The frames that a walk hasn't passed: what is left of an entry, and the entries after it.
+#[derive(Clone, Copy)]
+pub struct Frames<'a> {
+    pub run: Run,
+    pub after: Runs<'a>,
+}
+
+impl<'a> Table<'a> {
+    ghost use Rattle.tracks.specs.Tables.{table_rows, optional_rows, entries_of, durations};
+    ghost use Rattle.tracks.specs.Steps.{Opened};
+    ghost use Rattle.tracks.specs.Walking.{runs_left, frames_left};
+
+    // The table of a payload whose entries are all there: one length tells.
+    #[tactic(auto, using(choice::proofs::Tests::tests), unfolding(crate::specs::Tables::table_rows))]
+    pub fn of(payload: &'a [u8]) -> Option<Table<'a>>
+        ensures { Opened payload.now (table_rows payload.now) result }
+    {
+        if payload.len() < 8 {
+            return None;
+        }
+        let rows = be32(payload, 4) as usize;
+        if payload.len() < rows * 8 + 8 {
+            return None;
+        }
+        Some(Table { payload, rows })
+    }
+
+    // The same of a table that may be absent.
+    #[tactic(auto, using(choice::proofs::Tests::tests), unfolding(crate::specs::Tables::optional_rows))]
+    pub fn of_optional(payload: &'a [u8]) -> Option<Table<'a>>
+        ensures { Opened payload.now (optional_rows payload.now) result }
+    {
+        if payload.len() < 4 {
+            return Some(Table { payload, rows: 0 });
+        }
+        Table::of(payload)
+    }
+
+    // Its entries, in order.
+    pub fn runs(self) -> Runs<'a>
+        ensures { runs_left result ≡ entries_of self.entry.rows self.entry.payload.now }
+    {
+        Runs {
+            payload: self.payload,
+            at: 8,
+            end: self.rows * 8 + 8,
+        }
+    }
+
+    // The values of its frames, in order.
+    pub fn frames(self) -> Frames<'a>
+        ensures { frames_left result ≡ durations self.entry.rows self.entry.payload.now }
+    {
+        Frames {
+            run: Run { count: 0, value: 0 },
+            after: self.runs(),
+        }
+    }
+}
+
+impl Iterator for Runs<'_> {
+    ghost use Rattle.std.specs.Iterator.{YieldsFirst, item_count};
+    ghost use Rattle.tracks.specs.Walking.{runs_left};
+
+    type Item = Run;
+
+    ghost next_gives = { YieldsFirst runs_left };
+
+    ghost remaining = { item_count runs_left };
+
+    fn next(&mut self) -> Option<Run> {
+        let at = self.at;
+        if at == self.end {
+            return None;
+        }
+        self.at += 8;
+        Some(Run {
+            count: be32(self.payload, at) as usize,
+            value: be32(self.payload, at + 4),
+        })
+    }
+}
+
+impl Iterator for Frames<'_> {
+    ghost use Rattle.std.specs.Iterator.{YieldsFirst, item_count};
+    ghost use Rattle.tracks.specs.Walking.{frames_left};
+
+    type Item = u32;
+
+    ghost next_gives = { YieldsFirst frames_left };
+
+    ghost remaining = { item_count frames_left };
+
+    fn next(&mut self) -> Option<u32> {
+        while self.run.count == 0 {
+            self.run = self.after.next()?;
+        }
+        self.run.count -= 1;
+        Some(self.run.value)
+    }
+}

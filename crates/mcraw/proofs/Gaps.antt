@@ -18,10 +18,10 @@ use Rattle.refusal.specs.declared.Reason.TheVariants as reason
 use Rattle.refusal.specs.declared.Refusal.{Refusal}
 use Rattle.refusal.specs.Refusals.{refused, first_refused}
 use Rattle.choice.proofs.Tests.{decide}
-use Rattle.signed.proofs.Bits.{lt-read}
+use Rattle.signed.specs.Steps.{I64}
+use Rattle.signed.proofs.Bits.{read, lt-read}
 use Rattle.signed.proofs.Order.{not-lt-le}
-use Rattle.order.specs.Order.{Asc, count_by}
-use Rattle.order.specs.Steps.{count_lt}
+use Rattle.order.specs.Order.{Asc}
 use Rattle.order.proofs.Sorted.{least-lower}
 use Rattle.mcraw.specs.Mcraw.{falls, gaps}
 
@@ -65,18 +65,9 @@ less-below (negsuc a) (negsuc b) = sign (ltb (suc b) (suc a)) ∙ leb-suc-suc (s
     sign true = refl
     sign false = le-ltb (suc b - suc a) 0 (omega arith)
 
--- the interval before timestamp i is below 0 exactly where it falls
-pub falls_at : (l : List ℤ) (i : ℕ) → 0 < i → i < length l → lt_z (get_or (gaps l) (i - 1) (pos 0)) (pos 0) ≡ lt_z (get_or l i (pos 0)) (get_or l (i - 1) (pos 0))
-falls_at l i from h = ap (λ (g : ℤ). lt_z g (pos 0)) (gap_at l i from h) ∙ less-below (get_or l i (pos 0)) (get_or l (i - 1) (pos 0))
-
--- where none is, nothing is refused
-pub none-falls : (l : List ℤ) (i : ℕ) → 0 ≡ count_lt (pos 0) l → Ok tt ≡ first_refused falls i l
-unfolding count_by first_refused when
-none-falls [] i e = refl
-none-falls (g ∷ l) i e =
-    decide (lt_z g (pos 0))
-    (λ t. let some : 0 ≡ suc (count_lt (pos 0) l) = rw t at e in absurd (omega arith))
-    (λ t. rw t (none-falls l (suc i) (rw t at e)))
+-- the same, as the code tests the two by what is read back of them
+below-read : (y x : ℤ) (v : Bool) → I64 y → I64 x → lt_z (read y) (read x) ≡ v → lt_z (y -ℤ x) (pos 0) ≡ v
+below-read y x v p q t = less-below y x ∙ lt-read y x p q v t
 
 -- ---- a loop over the timestamps: `first_refused falls i (drop (i - 1) (gaps ts)) ≡ r`, with r the whole answer
 module _ (ts : List ℤ) (i : ℕ) (r : Result (Unit {0}) Refusal) where
@@ -93,16 +84,18 @@ module _ (ts : List ℤ) (i : ℕ) (r : Result (Unit {0}) Refusal) where
         ∙ ap (λ g. first_refused falls i (g ∷ drop (suc (i - 1)) (gaps ts))) (gap_at ts i from inside)
         ∙ ap (λ n. first_refused falls i ((get_or ts i (pos 0) -ℤ get_or ts (i - 1) (pos 0)) ∷ drop n (gaps ts))) e
 
-    pub fall-turn : lt_z (get_or ts i (pos 0)) (get_or ts (i - 1) (pos 0)) ≡ false → first_refused falls i (drop (i - 1) (gaps ts)) ≡ r
-        → first_refused falls (i + 1) (drop (i + 1 - 1) (gaps ts)) ≡ r
-    unfolding first_refused when
-    fall-turn t e =
-        ap (λ n. first_refused falls n (drop (i + 1 - 1) (gaps ts))) (add-one i)
-        ∙ sym (rest ∙ rw (less-below (get_or ts i (pos 0)) (get_or ts (i - 1) (pos 0)), t)) ∙ e
+    module _ (fits : I64 (get_or ts i (pos 0))) (fits-before : I64 (get_or ts (i - 1) (pos 0))) where
+      pub fall-turn : lt_z (read (get_or ts i (pos 0))) (read (get_or ts (i - 1) (pos 0))) ≡ false → first_refused falls i (drop (i - 1) (gaps ts)) ≡ r
+          → first_refused falls (i + 1) (drop (i + 1 - 1) (gaps ts)) ≡ r
+      unfolding first_refused when
+      fall-turn t e =
+          ap (λ n. first_refused falls n (drop (i + 1 - 1) (gaps ts))) (add-one i)
+          ∙ sym (rest ∙ rw (below-read (get_or ts i (pos 0)) (get_or ts (i - 1) (pos 0)) false fits fits-before t)) ∙ e
 
-    pub fall-hit : lt_z (get_or ts i (pos 0)) (get_or ts (i - 1) (pos 0)) ≡ true → first_refused falls i (drop (i - 1) (gaps ts)) ≡ r → refused reason.Falling i ≡ r
-    unfolding first_refused when
-    fall-hit t e = sym (rest ∙ rw (less-below (get_or ts i (pos 0)) (get_or ts (i - 1) (pos 0)), t)) ∙ e
+      pub fall-hit : lt_z (read (get_or ts i (pos 0))) (read (get_or ts (i - 1) (pos 0))) ≡ true → first_refused falls i (drop (i - 1) (gaps ts)) ≡ r
+          → refused reason.Falling i ≡ r
+      unfolding first_refused when
+      fall-hit t e = sym (rest ∙ rw (below-read (get_or ts i (pos 0)) (get_or ts (i - 1) (pos 0)) true fits fits-before t)) ∙ e
 
 -- timestamps of which none falls ascend
 pub no-fall : (ts : List ℤ) (i : ℕ) → first_refused falls i (gaps ts) ≡ Ok tt → Asc ts
@@ -118,4 +111,4 @@ no-fall (x ∷ (y ∷ l)) i e =
     ((up, least-lower x y l up tail.0), tail))
 
 -- what the loop that looks for a fall takes from a turn
-pub ruleset falling = (none-falls, fall-turn, fall-hit, fall-end, lt-read)
+pub ruleset falling = (fall-turn, fall-hit, fall-end)

@@ -1,6 +1,6 @@
 -- What a sum or difference that an i64 may not hold says of its range. Assumes nothing.
 use mathlib.Core.Path.{◌≡◌, sym, ap, ◌∙◌}
-use mathlib.Core.Bool.{Bool, true, false}
+use mathlib.Core.Bool.{true, false}
 use mathlib.Core.List.{List}
 use Prim.Native.Nat.{ℕ, ◌^◌}
 use native.Mathlib.Omega.{arith}
@@ -9,13 +9,14 @@ use lib.Dec.{ltb}
 use lib.IntN.{ℤ, pos, ◌+ℤ◌, ◌-ℤ◌}
 use lib.Signed.{mag}
 use mir.Syntax.{w64}
-use mir.Val.{SFits}
-use Rattle.choice.proofs.Tests.{decide, called}
+use mir.Val.{SFits, of_z}
+use Rattle.choice.proofs.Tests.{decide}
 use Rattle.signed.specs.declared.Held.{Held}
 use Rattle.signed.specs.declared.Held.TheVariants.{Is, Outside}
 use Rattle.signed.specs.Signed.{within, eq_z, is_outside}
 use Rattle.signed.specs.Steps.{I64}
 use Rattle.signed.proofs.Bits.{read, reads, back}
+use Rattle.signed.proofs.Order.{eq_z-no}
 use Rattle.signed.proofs.Ranges.{in-range, out_of_range}
 use Rattle.mcraw.specs.Mcraw.{first, last, span, nominal, end}
 
@@ -40,8 +41,8 @@ pub span-held : (ts : List ℤ) (r : Held) (y : ℤ) → I64 (last ts) → I64 (
 unfolding span
 span-held ts r y p q e g = held (span ts) y (sym (rw (back (last ts) p, back (first ts) q) at e) ∙ g)
 
-pub stands : (ts : List ℤ) (m : ℤ) (t v : Bool) → SFits w64 m → m ≡ nominal ts → t ≡ eq_z (read m) (pos 0) → t ≡ v → eq_z (nominal ts) (pos 0) ≡ v
-stands ts m t v f b e h = ap (λ (z : ℤ). eq_z z (pos 0)) (sym (reads f ∙ b)) ∙ called e h
+pub moves : (ts : List ℤ) (m : ℤ) → m ≡ nominal ts → (of_z w64 m ≡ 0 → ⊥) → eq_z (nominal ts) (pos 0) ≡ false
+moves ts m b e = eq_z-no (nominal ts) (pos 0) (λ z. e (ap (of_z w64) (b ∙ z)))
 
 module _ (ts : List ℤ) (s m : ℤ) (f : SFits w64 s) (g : SFits w64 m) (a : s ≡ span ts) (b : m ≡ nominal ts) (r : Held) (e : r ≡ within (read s +ℤ read m)) where
   is-end : r ≡ within (end ts)

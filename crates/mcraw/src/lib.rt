@@ -1,10 +1,9 @@
 // The frame times of a MotionCam recording, of its frames' timestamps in nanoseconds.
 #![tactic(auto)]
 
-ghost use Rattle.std.specs.Prelude.{◌≡◌, ◌-◌, ◌≤◌, length, pos};
+ghost use Rattle.std.specs.Prelude.{◌≡◌, ◌-◌, ◌≤◌, length};
 ghost use Rattle.signed.specs.Steps.{I64};
 ghost use Rattle.slices.specs.Slices.{laid, All};
-ghost use Rattle.order.specs.Steps.{count_lt};
 ghost use Rattle.mcraw.specs.Mcraw.{gaps, starts_of, nominal, fall_of, mcraw_times, starts_written, McrawAnswers};
 ghost use Rattle.mcraw.specs.Examples.{WorkedExamples};
 
@@ -17,40 +16,15 @@ pub const MOST_TIMESTAMPS: usize = 16_777_216;
 
 pub const NANOSECONDS: u64 = 1_000_000_000;
 
-// How many timestamps lie below the one before them. It ends at none of them, so that several can be compared at a time.
-fn count_falls(ts: &[i64]) -> usize
-    ensures { result ≡ count_lt (pos 0) (gaps ts.now) }
-{
-    let mut n: usize = 0;
-    let mut i: usize = 1;
-    while i < ts.len() {
-        let x = ts[i];
-        let earlier = ts[i - 1];
-        if x < earlier {
-            n += 1;
-        }
-        i += 1;
-    }
-    n
-}
-
 // The first timestamp that lies below the one before it.
 #[tactic(auto, using(crate::proofs::Gaps::falling), unfolding(crate::specs::Mcraw::fall_of))]
 fn first_fall(ts: &[i64]) -> Result<(), Refusal>
     ensures { result ≡ fall_of ts.now }
 {
-    if count_falls(ts) == 0 {
-        return Ok(());
-    }
-    let mut i: usize = 1;
-    while i < ts.len() {
-        let before = i - 1;
-        let x = ts[i];
-        let y = ts[before];
-        if x < y {
+    for i in 1..ts.len() {
+        if ts[i] < ts[i - 1] {
             return Err(Reason::Falling.at(i));
         }
-        i += 1;
     }
     Ok(())
 }
@@ -60,10 +34,8 @@ fn write_intervals(ts: &[i64], out: &mut [i64])
     requires { (length out.old ≡ length ts.now - 1) × All I64 (gaps ts.now) }
     ensures { out.new ≡ gaps ts.now }
 {
-    let mut i: usize = 1;
-    while i < ts.len() {
+    for i in 1..ts.len() {
         out[i - 1] = ts[i] - ts[i - 1];
-        i += 1;
     }
 }
 
@@ -82,10 +54,8 @@ fn write_starts(ts: &[i64], starts: &mut [i64])
     requires { (length ts.now ≤ length starts.old) × All I64 (starts_of ts.now) }
     ensures { starts.new ≡ laid (starts_of ts.now) starts.old }
 {
-    let mut i: usize = 0;
-    while i < ts.len() {
+    for i in 0..ts.len() {
         starts[i] = ts[i] - ts[0];
-        i += 1;
     }
 }
 
@@ -109,7 +79,7 @@ fn times_of(ts: &[i64], room: usize, work: &mut [i64]) -> Result<FrameTimes, Ref
         return Err(Reason::NoRoom.at(0));
     }
     let nominal = middle_interval(ts, &mut work[..n - 1]);
-    if signed::same(nominal, 0) {
+    if nominal == 0 {
         return Err(Reason::Missing.at(0));
     }
     let Held::Is(end) = signed::sum(span, nominal) else {

@@ -1,11 +1,8 @@
-use Rattle.std.proofs.Common.{◌≡◌, ◌-◌, ◌<◌, length, drop}
+use Rattle.std.proofs.Common.{◌≡◌, ◌-◌, drop}
 use Rattle.refusal.specs.Refusals.{first_refused}
 use Rattle.mcraw.specs.Mcraw.{falls, gaps, fall_of}
 use Rattle.mcraw.proofs.first_fall.Given as goal
 
 -- the first refused of the intervals that are left is that of all
 abbrev pub invariant-loop-i : goal.invariant-loop-i
-invariant-loop-i l = (0 < l.i) × (first_refused falls l.i (drop (l.i - 1) (gaps l.ts)) ≡ fall_of l.ts)
-
-abbrev pub decreases-loop-i : goal.decreases-loop-i
-decreases-loop-i l = length l.ts - l.i
+invariant-loop-i l = first_refused falls l.i (drop (l.i - 1) (gaps l.ts)) ≡ fall_of l.ts

@@ -1,4 +1,4 @@
-use Rattle.std.proofs.Common.{false, length, w64, FitsSigned, arith, sym, ap, ◌∙◌, length-take}
+use Rattle.std.proofs.Common.{length, w64, FitsSigned, arith, sym, ap, ◌∙◌, length-take}
 use Rattle.std.specs.Prelude.{Ok, Err}
 use borrow.Author.Tests.{ltb-false}
 use Rattle.choice.proofs.Tests.{or-false}
@@ -6,7 +6,7 @@ use Rattle.signed.proofs.Bits.{back}
 use Rattle.mcraw.specs.Mcraw.{span, end, fall_of, times_of}
 use Rattle.mcraw.proofs.Gaps.{no-fall}
 use Rattle.mcraw.proofs.Spans.{gaps-fit}
-use Rattle.mcraw.proofs.Holds.{inside, stands, span-held, end-held, end-lost}
+use Rattle.mcraw.proofs.Holds.{inside, moves, span-held, end-held, end-lost}
 use Rattle.mcraw.proofs.Answers.{late, timed}
 use Rattle.mcraw.proofs.times_of.Goals as goal
 
@@ -26,7 +26,7 @@ returns-in_default-sum c =
     let m-in : FitsSigned w64 m.result = record { sfits = m.type_inv } in
     ap Err c.at-in_default-sum.ensures
     ∙ late ts c.args.room (length c.args.work.now) (omega arith) (omega arith) (sym c.in_ok-first_fall.ensures) sp.0 c.if-room-n.false
-    (stands ts m.result c.same.result false m-in m.ensures c.same.ensures c.if-same.false)
+    (moves ts m.result m.ensures c.if-nominal-eq0.false)
     (end-lost ts c.in-Is.span m.result s-in m-in sp.1 m.ensures c.sum.result c.sum.ensures c.in_default-sum.is)
 
 pub returns : goal.returns
@@ -40,4 +40,4 @@ returns c =
     let e = end-held ts c.in-Is.span m.result s-in m-in sp.1 m.ensures c.sum.result c.sum.ensures c.in-Is-sum.end c.in-Is-sum.is in
     (λ i. Ok (record { frames = length ts; scale = 1000000000; nominal = (back m.result m.type_inv ∙ m.ensures) i; end = (back c.in-Is-sum.end (rw e.1 (inside (end ts) e.0)) ∙ e.1) i }))
     ∙ timed ts c.args.room (length c.args.work.now) (omega arith) (omega arith) (sym c.in_ok-first_fall.ensures) sp.0 c.if-room-n.false
-    (stands ts m.result c.same.result false m-in m.ensures c.same.ensures c.if-same.false) e.0
+    (moves ts m.result m.ensures c.if-nominal-eq0.false) e.0

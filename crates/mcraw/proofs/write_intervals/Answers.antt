@@ -32,7 +32,7 @@ pub overflow_sub-out-in-loop-i : goal.overflow_sub-out-in-loop-i
 overflow_sub-out-in-loop-i c =
     let l = c.loop-i in
     let ts = c.args.ts.now in
-    let in-range = fits ts l.i l.invariant.0 c.loop-i-test.true c.requires.1 in
+    let in-range = fits ts l.i (omega arith) c.loop-i-test.true c.requires.1 in
     rw (back (get_or ts l.i (pos 0)) (omega arith), back (get_or ts (l.i - 1) (pos 0)) (omega arith)) (record { sfits = in-range })
 
 pub loop-i-preserved : goal.loop-i-preserved
@@ -41,12 +41,12 @@ loop-i-preserved c =
     let ts = c.args.ts.now in
     let x = get_or ts l.i (pos 0) in
     let y = get_or ts (l.i - 1) (pos 0) in
-    let in-range = fits ts l.i l.invariant.0 c.loop-i-test.true c.requires.1 in
+    let in-range = fits ts l.i (omega arith) c.loop-i-test.true c.requires.1 in
     rw (back x (omega arith), back y (omega arith), back (x -ℤ y) in-range)
-    (omega arith, omega arith, next ts c.args.out.now l.out l.i l.invariant.0 c.loop-i-test.true c.requires.0 l.invariant.2)
+    (next ts c.args.out.now l.out l.i (omega arith) c.loop-i-test.true c.requires.0 l.invariant)
 
 pub returns : goal.returns
 returns c =
     let l = c.loop-i in
     let ts = c.args.ts.now in
-    l.invariant.2 ∙ whole (gaps ts) c.args.out.now (l.i - 1) (omega (arith, length-gaps ts)) (omega arith)
+    l.invariant ∙ whole (gaps ts) c.args.out.now (l.i - 1) (omega (arith, length-gaps ts)) (omega arith)

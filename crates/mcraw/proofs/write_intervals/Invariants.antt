@@ -1,11 +1,7 @@
-use Rattle.std.proofs.Common.{◌≡◌, ◌-◌, ◌≤◌, ◌<◌, ◌++◌, length, take, drop}
+use Rattle.std.proofs.Common.{◌≡◌, ◌-◌, ◌++◌, take, drop}
 use Rattle.mcraw.specs.Mcraw.{gaps}
 use Rattle.mcraw.proofs.write_intervals.Given as goal
 
 -- the first i - 1 intervals are written
 abbrev pub invariant-loop-i : goal.invariant-loop-i
-invariant-loop-i l =
-    (0 < l.i) × (l.i - 1 ≤ length l.ts - 1) × (l.out ≡ take (l.i - 1) (gaps l.ts) ++ drop (l.i - 1) l.fn.out)
-
-abbrev pub decreases-loop-i : goal.decreases-loop-i
-decreases-loop-i l = length l.ts - l.i
+invariant-loop-i l = l.out ≡ take (l.i - 1) (gaps l.ts) ++ drop (l.i - 1) l.fn.out

@@ -19,15 +19,13 @@ loop-i-preserved c =
     let x = get_or ts l.i (pos 0) in
     let f = get_or ts 0 (pos 0) in
     let inside : l.i < length ts = c.loop-i-test.true in
-    rw (back x (omega arith), back f (omega arith), back (x -ℤ f) (start_fits ts l.i inside c.requires.1)) (
-      omega arith,
-      ap (set l.starts l.i) (sym (start-at ts l.i inside))
-          ∙ ap (λ t. set t l.i (get_or (starts_of ts) l.i (pos 0))) l.invariant.1
-          ∙ copy_more (starts_of ts) c.args.starts.now l.i (pos 0) (omega (arith, length-starts ts)) (omega arith),
-    )
+    rw (back x (omega arith), back f (omega arith), back (x -ℤ f) (start_fits ts l.i inside c.requires.1))
+    (ap (set l.starts l.i) (sym (start-at ts l.i inside))
+    ∙ ap (λ t. set t l.i (get_or (starts_of ts) l.i (pos 0))) l.invariant
+    ∙ copy_more (starts_of ts) c.args.starts.now l.i (pos 0) (omega (arith, length-starts ts)) (omega arith))
 
 pub returns : goal.returns
 returns c =
     let l = c.loop-i in
     let ts = c.args.ts.now in
-    l.invariant.1 ∙ copy-all (starts_of ts) c.args.starts.now l.i (omega (arith, length-starts ts))
+    l.invariant ∙ copy-all (starts_of ts) c.args.starts.now l.i (omega (arith, length-starts ts))

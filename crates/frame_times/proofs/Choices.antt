@@ -4,7 +4,7 @@ use mathlib.Core.Path.{◌≡◌, ◌∙◌}
 use mathlib.Core.Bool.{true, false}
 use Prim.Native.Nat.{ℕ, ◌≤◌, ◌^◌}
 use lib.IntN.{ℤ, pos}
-use lib.Signed.{le_z, lt_z, mag}
+use lib.Signed.{le_z, mag}
 use lib.Dec.{ltb}
 use borrow.Author.Tests.{ltb-true, ltb-false}
 use native.Mathlib.Omega.{arith}
@@ -13,23 +13,14 @@ use Rattle.signed.specs.Signed.{within}
 use Rattle.signed.specs.declared.Held.TheVariants.{Is, Outside}
 use Rattle.signed.specs.Steps.{I64}
 use Rattle.tracks.specs.declared.Edit.{Edit}
-use Rattle.frame_times.specs.Frames.{in_edit, capped, time_origin, max_z, min_z}
+use Rattle.frame_times.specs.Frames.{before_end, in_edit, time_origin, max_z, min_z}
 
 module _ (e : Edit) (c : ℤ) where
-  pub in-ending : le_z e.time c ≡ true → e.endless ≡ false → in_edit e c ≡ lt_z c e.end
-  in-ending p q = (λ i. if p i then if e.endless then true else lt_z c e.end else false) ∙ (λ i. if q i then true else lt_z c e.end)
+  pub in-ending : le_z e.time c ≡ true → in_edit e c ≡ before_end e.end c
+  in-ending p = λ i. if p i then before_end e.end c else false
 
   pub out-before : le_z e.time c ≡ false → in_edit e c ≡ false
-  out-before p = λ i. if p i then if e.endless then true else lt_z c e.end else false
-
-  pub cap-endless : e.endless ≡ true → capped e c ≡ c
-  cap-endless q = λ i. if q i then c else min_z c e.end
-
-  pub cap-under : e.endless ≡ false → le_z c e.end ≡ true → capped e c ≡ c
-  cap-under q p = (λ i. if q i then c else min_z c e.end) ∙ (λ i. if p i then c else e.end)
-
-  pub cap-past : e.endless ≡ false → le_z c e.end ≡ false → capped e c ≡ e.end
-  cap-past q p = (λ i. if q i then c else min_z c e.end) ∙ (λ i. if p i then c else e.end)
+  out-before p = λ i. if p i then before_end e.end c else false
 
   pub origin-edited : (b : ℤ) → e.edited ≡ true → time_origin e c b ≡ max_z c b
   origin-edited b q = λ i. if q i then max_z c b else pos 0
@@ -38,6 +29,12 @@ module _ (e : Edit) (c : ℤ) where
   origin-none b q = λ i. if q i then max_z c b else pos 0
 
 module _ (a b : ℤ) where
+  pub min-first : le_z a b ≡ true → min_z a b ≡ a
+  min-first p = λ i. if p i then a else b
+
+  pub min-second : le_z a b ≡ false → min_z a b ≡ b
+  min-second p = λ i. if p i then a else b
+
   pub max-second : le_z a b ≡ true → max_z a b ≡ b
   max-second p = λ i. if p i then b else a
 

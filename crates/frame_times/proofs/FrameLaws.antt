@@ -1,6 +1,6 @@
 -- The frames of a track, those that are kept, and the last of them. Assumes nothing.
-use Rattle.std.specs.Prelude.{if◌then◌else◌}
-use mathlib.Core.Path.{◌≡◌, refl, sym, ◌∙◌, subst}
+use Rattle.std.specs.Prelude.{if◌then◌else◌, Option, None, Some, IfSome}
+use mathlib.Core.Path.{◌≡◌, refl, sym, ap, ◌∙◌, subst}
 use mathlib.Core.Bool.{Bool, true, false}
 use mathlib.Core.List.{List, [], ◌∷◌, ◌++◌, map}
 use Prim.Native.Nat.{ℕ, ◌+◌, ◌<◌}
@@ -18,7 +18,7 @@ use Rattle.tracks.specs.Tables.{offset_of}
 use Rattle.tracks.specs.Steps.{Sound}
 use Rattle.order.specs.Order.{sorted, mode}
 use Rattle.order.proofs.Mode.{mode-sorted}
-use Rattle.frame_times.specs.Frames.{Frame, frames_from, in_edit, kept, cts_of, last_of, end_of}
+use Rattle.frame_times.specs.Frames.{Frame, frames_from, before_end, in_edit, kept, cts_of, last_of, end_of}
 use Rattle.frame_times.specs.Steps.{Near, Good, Showable}
 use Rattle.frame_times.specs.Times.{no_times, shown, of_kept}
 use Rattle.frame_times.proofs.Choices.{in-ending, out-before}
@@ -43,18 +43,18 @@ module _ (e : Edit) (f : Frame) (fs : List Frame) where
   unfolding kept
   kept-no p = λ i. if p i then f ∷ kept e fs else kept e fs
 
-in-under : (e : Edit) (c : ℤ) → e.endless ≡ false → in_edit e c ≡ true → le_z c e.end ≡ true
-in-under e c q p =
+in-under : (e : Edit) (end c : ℤ) → e.end ≡ Some end → in_edit e c ≡ true → le_z c end ≡ true
+in-under e end c q p =
     decide (le_z e.time c)
-    (λ t. lt-le c e.end (sym (in-ending e c t q) ∙ p))
+    (λ t. lt-le c end (sym (in-ending e c t ∙ ap (λ (o : Option ℤ). before_end o c) q) ∙ p))
     (λ t. tf (sym p ∙ out-before e c t))
 
 -- no kept time is past the media end
-kept_under : (e : Edit) (fs : List Frame) → e.endless ≡ false → All (λ x. le_z x e.end ≡ true) (cts_of (kept e fs))
+kept_under : (e : Edit) (end : ℤ) (fs : List Frame) → e.end ≡ Some end → All (λ x. le_z x end ≡ true) (cts_of (kept e fs))
 unfolding kept
-kept_under e [] q = tt
-kept_under e (f ∷ fs) q =
-    either (λ l. All (λ x. le_z x e.end ≡ true) (cts_of l)) (in_edit e f.cts) (λ p. (in-under e f.cts q p, kept_under e fs q)) (λ p. kept_under e fs q)
+kept_under e end [] q = tt
+kept_under e end (f ∷ fs) q =
+    either (λ l. All (λ x. le_z x end ≡ true) (cts_of l)) (in_edit e f.cts) (λ p. (in-under e end f.cts q p, kept_under e end fs q)) (λ p. kept_under e end fs q)
 
 -- ---- the last frame
 pub last_snoc : (f : Frame) (fs : List Frame) (g : Frame) → last_of f (fs ++ g ∷ []) ≡ (if le_z (last_of f fs).cts g.cts then g else last_of f fs)
@@ -93,6 +93,11 @@ near-all : (fs : List Frame) → All Good fs → All Near (cts_of fs)
 near-all [] a = tt
 near-all (f ∷ fs) a = (a.0.cts-near, near-all fs a.1)
 
+-- what is so of every end that there may be
+if_some : (o : Option ℤ) {P : ℤ → Type 0} → ((z : ℤ) → o ≡ Some z → P z) → IfSome o P
+if_some None f = tt
+if_some (Some z) f = f z refl
+
 -- what `show` asks
 pub showable : (e : Edit) (all : List Frame) (fs : List Frame) → fs ≡ kept e all → 0 < length fs → All Good fs → Sound e → Showable (cts_of fs) (first_of fs) (end-of fs) e
 showable e all [] k h a s = absurd (omega arith)
@@ -105,7 +110,7 @@ showable e all (f ∷ fs) k h a s =
       near_first = omega (arith, a.0.decode-near);
       near_last = ended (last_of f fs).cts (last_of f fs).duration g.cts-near g.short;
       to_last = le-all (last_of f fs).cts (end_of (last_of f fs)) (cts_of (f ∷ fs)) (le-plus (last_of f fs).cts (last_of f fs).duration g.cts-near g.short) (l.0, l.1);
-      to_end = λ q. subst (λ l. All (λ x. le_z x e.end ≡ true) (cts_of l)) (sym k) (kept_under e all q);
+      to_end = if_some e.end (λ end q. subst (λ l. All (λ x. le_z x end ≡ true) (cts_of l)) (sym k) (kept_under e end all q));
     }
 
 -- ---- the answers

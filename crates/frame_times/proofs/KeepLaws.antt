@@ -1,12 +1,12 @@
 -- The pass over the frames, turn by turn. Assumes nothing.
-use Rattle.std.specs.Prelude.{if◌then◌else◌}
+use Rattle.std.specs.Prelude.{if◌then◌else◌, Option, Some, None, MatchOption, unwrap_or}
 use mathlib.Core.Path.{◌≡◌, refl, sym, ap, ◌∙◌, subst}
 use mathlib.Core.Bool.{Bool, true, false}
 use mathlib.Core.List.{List, [], ◌∷◌, ◌++◌, append_assoc, append-nil, map, map-append}
-use Prim.Native.Nat.{ℕ, ◌+◌, ◌-◌, ◌*◌, ◌≤◌, ◌<◌, ◌^◌}
+use Prim.Native.Nat.{ℕ, ◌+◌, ◌*◌, ◌≤◌, ◌<◌, ◌^◌}
 use native.Mathlib.Omega.{arith}
 use native.Mathlib.Numerals.{add-one}
-use lib.ListN.{length, take, set, length-set, length-append, length-take, length-drop, length-map}
+use lib.ListN.{length, take, drop, get_or, set, length-set, length-append, length-take, length-map}
 use lib.Seq.{take-suc-set}
 use lib.IntN.{ℤ, pos, ◌+ℤ◌}
 use lib.Signed.{le_z}
@@ -19,9 +19,8 @@ use mir.Facts.{to_z_pos}
 use Rattle.choice.proofs.Tests.{decide}
 use Rattle.slices.proofs.Every.{all_append}
 use Rattle.tracks.specs.declared.Edit.{Edit}
-use Rattle.tracks.specs.declared.Cursor.{Cursor}
-use Rattle.tracks.specs.Tables.{offset_of, entries_of, entry_total, per_frame, durations}
-use Rattle.tracks.specs.Steps.{rest, There, Next, at_first, offset_wrap, wrapped}
+use Rattle.tracks.specs.Tables.{offset_of, entries_of, entry_total, durations}
+use Rattle.tracks.specs.Steps.{offset_wrap, wrapped}
 use Rattle.tracks.proofs.OffsetLaws.{offset_wrapped}
 use Rattle.tracks.proofs.EntryLaws.{length-per-frame}
 use Rattle.frame_times.specs.declared.Kept.{Kept}
@@ -33,22 +32,22 @@ use Rattle.frame_times.proofs.FrameLaws.{frames-step, kept-yes, kept-no, last_sn
 -- ---- one kept frame more
 module _ (k : Kept) (t : ℕ) (c : ℤ) (d : ℕ) where
   abbrev later : Kept
-  later = if le_z k.last c then record { count = k.count + 1; first = k.first; last = c; lasts = d } else record { count = k.count + 1; first = k.first; last = k.last; lasts = k.lasts }
+  later = if le_z k.last c then record { count = k.count + 1; first = k.first; last = c; last_duration = d } else record { count = k.count + 1; first = k.first; last = k.last; last_duration = k.last_duration }
 
-  pub with_first : k.count ≡ 0 → kept_with k t c d ≡ record { count = 1; first = t; last = c; lasts = d }
+  pub with_first : k.count ≡ 0 → kept_with k t c d ≡ record { count = 1; first = t; last = c; last_duration = d }
   unfolding kept_with
-  with_first h = λ i. if eq-eqb k.count 0 h i then record { count = 1; first = t; last = c; lasts = d } else later
+  with_first h = λ i. if eq-eqb k.count 0 h i then record { count = 1; first = t; last = c; last_duration = d } else later
 
   module _ (h : k.count ≡ 0 → ⊥) where
     with-more : kept_with k t c d ≡ later
     unfolding kept_with
-    with-more = λ i. if ne_eqb k.count 0 h i then record { count = 1; first = t; last = c; lasts = d } else later
+    with-more = λ i. if ne_eqb k.count 0 h i then record { count = 1; first = t; last = c; last_duration = d } else later
 
-    pub with-last : le_z k.last c ≡ true → kept_with k t c d ≡ record { count = k.count + 1; first = k.first; last = c; lasts = d }
-    with-last p = with-more ∙ (λ i. if p i then record { count = k.count + 1; first = k.first; last = c; lasts = d } else record { count = k.count + 1; first = k.first; last = k.last; lasts = k.lasts })
+    pub with-last : le_z k.last c ≡ true → kept_with k t c d ≡ record { count = k.count + 1; first = k.first; last = c; last_duration = d }
+    with-last p = with-more ∙ (λ i. if p i then record { count = k.count + 1; first = k.first; last = c; last_duration = d } else record { count = k.count + 1; first = k.first; last = k.last; last_duration = k.last_duration })
 
-    pub with-other : le_z k.last c ≡ false → kept_with k t c d ≡ record { count = k.count + 1; first = k.first; last = k.last; lasts = k.lasts }
-    with-other p = with-more ∙ (λ i. if p i then record { count = k.count + 1; first = k.first; last = c; lasts = d } else record { count = k.count + 1; first = k.first; last = k.last; lasts = k.lasts })
+    pub with-other : le_z k.last c ≡ false → kept_with k t c d ≡ record { count = k.count + 1; first = k.first; last = k.last; last_duration = k.last_duration }
+    with-other p = with-more ∙ (λ i. if p i then record { count = k.count + 1; first = k.first; last = c; last_duration = d } else record { count = k.count + 1; first = k.first; last = k.last; last_duration = k.last_duration })
 
 -- a time stored after those at the front
 front-more : (fs : List Frame) (f : Frame) (n : ℕ) (times : List ℤ) → n < length times → take n times ≡ cts_of fs → take (n + 1) (set times n f.cts) ≡ cts_of (fs ++ f ∷ [])
@@ -77,31 +76,25 @@ pub told-first : (fs : List Frame) (k : Kept) (times : List ℤ) → Told fs k t
 told-first [] k times h n = absurd (n h.count)
 told-first (f ∷ fs) k times h n = ap pos h.ends.0
 
-pub told-last : (fs : List Frame) (k : Kept) (times : List ℤ) → Told fs k times → (k.count ≡ 0 → ⊥) → k.last +ℤ pos k.lasts ≡ end-of fs
+pub told-last : (fs : List Frame) (k : Kept) (times : List ℤ) → Told fs k times → (k.count ≡ 0 → ⊥) → k.last +ℤ pos k.last_duration ≡ end-of fs
 told-last [] k times h n = absurd (n h.count)
 told-last (f ∷ fs) k times h n = λ i. h.ends.1 i +ℤ pos (h.ends.2 i)
 
 -- ---- the loop
-pub record Keeping (u : Bool) (e : Edit) (stts ctts : List ℕ) (whole : List Frame) (times₀ times : List ℤ) (ds os : Cursor) (k : Kept) (t i : ℕ) : Type 0 where
-  pub to : i ≤ length times₀
+pub record Keeping (u : Bool) (e : Edit) (whole : List Frame) (times₀ times : List ℤ) (ds : List ℕ) (os : List ℕ) (k : Kept) (t i : ℕ) : Type 0 where
   pub long : length times ≡ length times₀
-  pub ds-there : There stts ds
-  pub os-there : There ctts os
-  pub left : length (rest stts ds) + i ≡ length times₀
+  pub left : length ds + i ≡ length times₀
   pub small : t ≤ i * 4294967296
   pub done : List Frame
   pub few : length done ≤ i
-  pub is : done ++ kept e (frames_from t (rest stts ds) (map (offset_of u) (rest ctts os))) ≡ whole
+  pub is : done ++ kept e (frames_from t ds (map (offset_of u) os)) ≡ whole
   pub told : Told done k times
 
-pub keep-start : (u : Bool) (e : Edit) (stts ctts : List ℕ) (n m : ℕ) (times : List ℤ) (k : Kept) → k.count ≡ 0 → n * 8 ≤ length stts - 8 → m * 8 ≤ length ctts - 8 → length times ≡ entry_total (entries_of n stts)
-    → Keeping u e stts ctts (kept e (frames_from 0 (durations n stts) (map (offset_of u) (per_frame (entries_of m ctts))))) times times (at_first n) (at_first m) k 0 0
-keep-start u e stts ctts n m times k z a b l =
+pub keep-start : (u : Bool) (e : Edit) (n : ℕ) (stts : List ℕ) (os : List ℕ) (times : List ℤ) (k : Kept) → k.count ≡ 0 → length times ≡ entry_total (entries_of n stts)
+    → Keeping u e (kept e (frames_from 0 (durations n stts) (map (offset_of u) os))) times times (durations n stts) os k 0 0
+keep-start u e n stts os times k z l =
     record {
-      to = omega arith;
       long = refl;
-      ds-there = a;
-      os-there = b;
       left = omega (arith, l, length-per-frame (entries_of n stts));
       small = omega arith;
       done = [];
@@ -110,22 +103,30 @@ keep-start u e stts ctts n m times k z a b l =
       told = record { count = z; front = ap (λ c. take c times) z; ends = tt; good = tt };
     }
 
-module _ (u : Bool) (e : Edit) (stts ctts : List ℕ) (whole : List Frame) (times₀ times : List ℤ) (ds os : Cursor) (k : Kept) (t i : ℕ) (h : Keeping u e stts ctts whole times₀ times ds os k t i)
-    (more : i < length times₀) (most : length times₀ ≤ 16777216) (ds' os' : Cursor) (nd : Next stts ds ds') (no : Next ctts os os') (fd : ds'.value < 2 ^ 32) (fo : os'.value < 2 ^ 32) where
+-- the next offset, 0 where there is none
+pub offset-next : (os os' : List ℕ) (r : Option ℕ) → MatchOption r ((os ≡ []) × (os' ≡ [])) (λ x. os ≡ x ∷ os') → (unwrap_or r 0 ≡ get_or os 0 0) × (os' ≡ drop 1 os)
+offset-next os os' None h = (ap (λ l. get_or l 0 0) (sym h.0), h.1 ∙ ap (drop 1) (sym h.0))
+offset-next os os' (Some x) h = (ap (λ l. get_or l 0 0) (sym h), ap (drop 1) (sym h))
+
+module _ (u : Bool) (e : Edit) (whole : List Frame) (times₀ times : List ℤ) (ds os : List ℕ) (k : Kept) (t i : ℕ) (h : Keeping u e whole times₀ times ds os k t i)
+    (most : length times₀ ≤ 16777216) {d : ℕ} {ds' : List ℕ} (nd : ds ≡ d ∷ ds') {o : ℕ} {os' : List ℕ} (no : (o ≡ get_or os 0 0) × (os' ≡ drop 1 os)) (fd : d < 2 ^ 32) (fo : o < 2 ^ 32) where
+  more : i < length times₀
+  more = omega (arith, h.left, ap length nd)
+
   -- the frame
   abbrev frame : Frame
-  frame = record { decode = t; cts = pos t +ℤ offset_of u os'.value; duration = ds'.value }
+  frame = record { decode = t; cts = pos t +ℤ offset_of u o; duration = d }
 
   pub frame-good : Good frame
-  frame-good = record { decode-near = omega (arith, h.small); cts-near = composed-near t (offset_of u os'.value) (omega (arith, h.small)) (offset-small u os'.value fo); short = fd }
+  frame-good = record { decode-near = omega (arith, h.small, more); cts-near = composed-near t (offset_of u o) (omega (arith, h.small, more)) (offset-small u o fo); short = fd }
 
   -- its composition time, as the code adds it up
-  module _ {wrap : ℕ} {o : ℤ} (w : wrap ≡ offset_wrap u) (oi : I64 o) (oe : o ≡ wrapped wrap os'.value) where
+  module _ {wrap : ℕ} {z : ℤ} (w : wrap ≡ offset_wrap u) (oi : I64 z) (oe : z ≡ wrapped wrap o) where
     abbrev added : ℤ
-    added = to_z w64 t +ℤ read o
+    added = to_z w64 t +ℤ read z
 
     sum_is : added ≡ frame.cts
-    sum_is = λ i. to_z_pos w64 {n = t} (omega (arith, frame-good.decode-near)) i +ℤ (back o oi ∙ oe ∙ ap (λ n. wrapped n os'.value) w ∙ offset_wrapped u os'.value) i
+    sum_is = λ i. to_z_pos w64 {n = t} (omega (arith, frame-good.decode-near)) i +ℤ (back z oi ∙ oe ∙ ap (λ n. wrapped n o) w ∙ offset_wrapped u o) i
 
     pub cts-fits : I64 added
     cts-fits = subst I64 (sym sum_is) (omega (arith, frame-good.cts-near))
@@ -133,43 +134,36 @@ module _ (u : Bool) (e : Edit) (stts ctts : List ℕ) (whole : List Frame) (time
     pub cts-is : read added ≡ frame.cts
     cts-is = back added cts-fits ∙ sum_is
 
-  here : frames_from t (rest stts ds) (map (offset_of u) (rest ctts os)) ≡ frame ∷ frames_from (t + ds'.value) (rest stts ds') (map (offset_of u) (rest ctts os'))
-  here = frames-step u t (rest stts ds) (rest ctts os) (omega (arith, h.left))
-      ∙ sym (λ i. record { decode = t; cts = pos t +ℤ offset_of u (no.value i); duration = nd.value i } ∷ frames_from (t + nd.value i) (nd.rest i) (map (offset_of u) (no.rest i)))
+  here : frames_from t ds (map (offset_of u) os) ≡ frame ∷ frames_from (t + d) ds' (map (offset_of u) os')
+  here = frames-step u t ds os (omega (arith, h.left, more))
+      ∙ (λ i. record { decode = t; cts = pos t +ℤ offset_of u (sym no.0 i); duration = get_or (nd i) 0 0 } ∷ frames_from (t + get_or (nd i) 0 0) (drop 1 (nd i)) (map (offset_of u) (sym no.1 i)))
 
-  after : length (rest stts ds') + (i + 1) ≡ length times₀
-  after = omega (arith, ap length nd.rest, length-drop 1 (rest stts ds), h.left)
+  pub room : k.count < length times
+  room = omega (arith, h.few, h.told.count, h.long, more)
 
   pub kept-turn : in_edit e frame.cts ≡ true
-      → Keeping u e stts ctts whole times₀ (set times k.count frame.cts) ds' os' (kept_with k t frame.cts ds'.value) (t + ds'.value) (i + 1)
+      → Keeping u e whole times₀ (set times k.count frame.cts) ds' os' (kept_with k t frame.cts d) (t + d) (i + 1)
   kept-turn p =
-      let room : k.count < length times = omega (arith, h.few, h.told.count, h.long) in
       record {
-        to = omega arith;
         long = length-set times k.count frame.cts ∙ h.long;
-        ds-there = nd.there;
-        os-there = no.there;
-        left = after;
+        left = omega (arith, h.left, ap length nd);
         small = omega (arith, h.small);
         done = h.done ++ frame ∷ [];
         few = omega (arith, h.few, length-append h.done (frame ∷ []));
-        is = append_assoc h.done (frame ∷ []) (kept e (frames_from (t + ds'.value) (rest stts ds') (map (offset_of u) (rest ctts os'))))
-            ∙ ap (λ l. h.done ++ l) (sym (ap (kept e) here ∙ kept-yes e frame (frames_from (t + ds'.value) (rest stts ds') (map (offset_of u) (rest ctts os'))) p)) ∙ h.is;
+        is = append_assoc h.done (frame ∷ []) (kept e (frames_from (t + d) ds' (map (offset_of u) os')))
+            ∙ ap (λ l. h.done ++ l) (sym (ap (kept e) here ∙ kept-yes e frame (frames_from (t + d) ds' (map (offset_of u) os')) p)) ∙ h.is;
         told = told_more h.done frame k times h.told frame-good room;
       }
 
-  pub left-turn : in_edit e frame.cts ≡ false → Keeping u e stts ctts whole times₀ times ds' os' k (t + ds'.value) (i + 1)
+  pub left-turn : in_edit e frame.cts ≡ false → Keeping u e whole times₀ times ds' os' k (t + d) (i + 1)
   left-turn p =
       record {
-        to = omega arith;
         long = h.long;
-        ds-there = nd.there;
-        os-there = no.there;
-        left = after;
+        left = omega (arith, h.left, ap length nd);
         small = omega (arith, h.small);
         done = h.done;
         few = omega (arith, h.few);
-        is = ap (λ l. h.done ++ l) (sym (ap (kept e) here ∙ kept-no e frame (frames_from (t + ds'.value) (rest stts ds') (map (offset_of u) (rest ctts os'))) p)) ∙ h.is;
+        is = ap (λ l. h.done ++ l) (sym (ap (kept e) here ∙ kept-no e frame (frames_from (t + d) ds' (map (offset_of u) os')) p)) ∙ h.is;
         told = h.told;
       }
 
@@ -178,17 +172,16 @@ unfolding kept frames_from
 none_left e t [] os h = refl
 none_left e t (d ∷ ds) os h = absurd (omega arith)
 
-pub keep-end : (u : Bool) (e : Edit) (stts ctts : List ℕ) (whole : List Frame) (times₀ times : List ℤ) (ds os : Cursor) (k : Kept) (t i : ℕ) → Keeping u e stts ctts whole times₀ times ds os k t i → length times₀ ≤ i → Told whole k times
-keep-end u e stts ctts whole times₀ times ds os k t i h l =
-    let n : length (rest stts ds) ≡ 0 = omega (arith, h.left) in
-    subst (λ fs. Told fs k times) (sym (append-nil h.done) ∙ ap (λ x. h.done ++ x) (sym (none_left e t (rest stts ds) (map (offset_of u) (rest ctts os)) n)) ∙ h.is) h.told
+pub keep-end : (u : Bool) (e : Edit) (whole : List Frame) (times₀ times : List ℤ) (ds os : List ℕ) (k : Kept) (t i : ℕ) → Keeping u e whole times₀ times ds os k t i → ds ≡ [] → Told whole k times
+keep-end u e whole times₀ times ds os k t i h n =
+    subst (λ fs. Told fs k times) (sym (append-nil h.done) ∙ ap (λ x. h.done ++ x) (sym (none_left e t ds (map (offset_of u) os) (ap length n))) ∙ h.is) h.told
 
 -- what k tells of some frames lies near 0
 pub record Bounded (k : Kept) : Type 0 where
   pub first_small : k.first ≤ 2 ^ 56
-  pub lasts-small : k.lasts < 2 ^ 32
+  pub last_duration-small : k.last_duration < 2 ^ 32
   pub last_inside : I64 k.last
-  pub end_fits : I64 (k.last +ℤ pos k.lasts)
+  pub end_fits : I64 (k.last +ℤ pos k.last_duration)
 
 pub told-bounded : (fs : List Frame) (k : Kept) (times : List ℤ) → Told fs k times → (k.count ≡ 0 → ⊥) → Bounded k
 told-bounded [] k times h n = absurd (n h.count)
@@ -197,7 +190,7 @@ told-bounded (f ∷ fs) k times h n =
     let e = ended (last_of f fs).cts (last_of f fs).duration g.cts-near g.short in
     record {
       first_small = omega (arith, h.ends.0, h.good.0.decode-near);
-      lasts-small = omega (arith, h.ends.2, g.short);
+      last_duration-small = omega (arith, h.ends.2, g.short);
       last_inside = subst I64 (sym h.ends.1) (omega (arith, g.cts-near));
       end_fits = subst I64 (sym (told-last (f ∷ fs) k times h n)) (omega arith);
     }
@@ -216,16 +209,16 @@ module _ (fs : List Frame) (k : Kept) (times : List ℤ) (h : Told fs k times) (
   bounded = told-bounded fs k times h n
 
   abbrev last_sum : ℤ
-  last_sum = read k.last +ℤ to_z w64 k.lasts
+  last_sum = read k.last +ℤ to_z w64 k.last_duration
 
-  sum-is : last_sum ≡ k.last +ℤ pos k.lasts
-  sum-is = λ i. back k.last bounded.last_inside i +ℤ to_z_pos w64 {n = k.lasts} (omega (arith, bounded.lasts-small)) i
+  sum-is : last_sum ≡ k.last +ℤ pos k.last_duration
+  sum-is = λ i. back k.last bounded.last_inside i +ℤ to_z_pos w64 {n = k.last_duration} (omega (arith, bounded.last_duration-small)) i
 
   pub some-kept : 0 < length fs
   some-kept = omega (arith, h.count, n)
 
-  pub lasts-fit : SFits w64 (pos k.lasts)
-  lasts-fit = record { sfits = omega (arith, bounded.lasts-small) }
+  pub duration-fits : SFits w64 (pos k.last_duration)
+  duration-fits = record { sfits = omega (arith, bounded.last_duration-small) }
 
   pub first_read : to_z w64 k.first ≡ first_of fs
   first_read = to_z_pos w64 {n = k.first} (omega (arith, bounded.first_small)) ∙ told-first fs k times h n

@@ -3,4 +3,4 @@ pub mod Nearness
 pub mod FrameLaws
 pub mod KeepLaws
 pub mod ShowLaws
-pub mod TrackLaws
+pub mod Outcomes

@@ -1,5 +1,5 @@
 -- Why the test of the end is the test of every start: no kept time is above the end, and none is far from 0. Assumes nothing.
-use Rattle.std.specs.Prelude.{if◌then◌else◌}
+use Rattle.std.specs.Prelude.{if◌then◌else◌, Option, None, Some, IfSome}
 use mathlib.Core.Path.{◌≡◌, refl, sym, ap, ◌∙◌, subst}
 use mathlib.Core.Bool.{true, false, ◌||◌}
 use mathlib.Core.List.{List, [], ◌∷◌, ◌++◌, map, map-append}
@@ -25,7 +25,7 @@ use Rattle.slices.specs.Slices.{All, laid}
 use Rattle.slices.proofs.Every.{all-at, all_of, all-weaken}
 use Rattle.slices.proofs.Laid.{set-laid}
 use Rattle.order.specs.Order.{sorted}
-use Rattle.order.proofs.Sorted.{all-sorted, length-sorted}
+use Rattle.order.proofs.Sorted.{all-sorted}
 use Rattle.tracks.specs.declared.Edit.{Edit}
 use Rattle.std.specs.Prelude.{Result, Ok}
 use Rattle.ticks.specs.declared.FrameTimes.{FrameTimes}
@@ -34,7 +34,9 @@ use Rattle.refusal.specs.declared.Refusal.{Refusal}
 use Rattle.frame_times.specs.Frames.{capped, time_origin, moved_time, max_z}
 use Rattle.frame_times.specs.Steps.{Near, Ended, Showable, Movable, OutcomeAnswered}
 use Rattle.frame_times.specs.Times.{Outcome, placed, shown, no_times}
-use Rattle.frame_times.proofs.Choices.{held, not-held, cap-endless, cap-under, cap-past, origin-edited, origin-none, max-first, max-second}
+use Rattle.frame_times.proofs.Choices.{held, not-held, origin-edited, origin-none, min-first, min-second, max-first, max-second}
+use Rattle.std.proofs.lemmas.Option.{IfSome_then}
+use Rattle.tracks.specs.Steps.{EditTicks}
 
 -- at most 2^61 from 0
 pub record Mid (z : ℤ) : Type 0 where
@@ -62,25 +64,22 @@ origin-mid e a b h k =
 between : (z y : ℤ) → I64 z → 2 ^ 63 ≤ up z → up z < up y → Mid y → Mid z
 between z y f l h m = record { inside = f; low = omega arith; high = omega (arith, m.high) }
 
-capped-mid : (e : Edit) (last : ℤ) → I64 e.end → le_z (pos 0) e.end ≡ true → Ended last → Mid (capped e last)
-capped-mid e last f h k =
-    let m = mid last k in
-    let z : 2 ^ 63 ≤ up e.end = omega (arith, le_up (pos 0) e.end h) in
-    decide e.endless
-    (λ p. subst Mid (sym (cap-endless e last p)) m)
-    (λ p. decide (le_z last e.end)
-    (λ q. subst Mid (sym (cap-under e last p q)) m)
-    (λ q. subst Mid (sym (cap-past e last p q)) (between e.end last f z (gt-up last e.end f q) m)))
+capped-mid : (end : Option ℤ) (last : ℤ) → IfSome end EditTicks → Ended last → Mid (capped end last)
+capped-mid None last t k = mid last k
+capped-mid (Some end) last t k =
+    let z : 2 ^ 63 ≤ up end = omega (arith, le_up (pos 0) end t.above) in
+    decide (le_z last end)
+    (λ q. subst Mid (sym (min-first last end q)) (mid last k))
+    (λ q. subst Mid (sym (min-second last end q)) (between end last t.fits z (gt-up last end t.fits q) (mid last k)))
 
 -- a time is at most the capped end
-under-cap : (e : Edit) (last x : ℤ) → le_z x last ≡ true → (e.endless ≡ false → le_z x e.end ≡ true) → le_z x (capped e last) ≡ true
-under-cap e last x h k =
+under-cap : (end : Option ℤ) (last x : ℤ) → le_z x last ≡ true → IfSome end (λ z. le_z x z ≡ true) → le_z x (capped end last) ≡ true
+under-cap None last x h k = h
+under-cap (Some end) last x h k =
     let P : ℤ → Type 0 = λ z. le_z x z ≡ true in
-    decide e.endless
-    (λ p. subst P (sym (cap-endless e last p)) h)
-    (λ p. decide (le_z last e.end)
-    (λ q. subst P (sym (cap-under e last p q)) h)
-    (λ q. subst P (sym (cap-past e last p q)) (k p)))
+    decide (le_z last end)
+    (λ q. subst P (sym (min-first last end q)) h)
+    (λ q. subst P (sym (min-second last end q)) k)
 
 -- the difference of two that are at most 2^61 from 0
 apart : (x o : ℤ) → Mid x → Mid o → Difference x o (x -ℤ o)
@@ -129,7 +128,7 @@ showable-sorted l first last e s = record {
   near_first = s.near_first;
   near_last = s.near_last;
   to_last = all-sorted (λ x. le_z x last ≡ true) l s.to_last;
-  to_end = λ p. all-sorted (λ x. le_z x e.end ≡ true) l (s.to_end p);
+  to_end = IfSome_then e.end s.to_end (λ end. all-sorted (λ x. le_z x end ≡ true) l);
 }
 
 all_map : (P : ℤ → Type 0) (f : ℤ → ℤ) (l : List ℤ) → All (λ x. P (f x)) l → All P (map f l)
@@ -143,38 +142,38 @@ module _ (times : List ℤ) (first last : ℤ) (e : Edit) (s : Showable times fi
   o-mid : Mid (from-0 e first times)
   o-mid = origin-mid e (get_or times 0 (pos 0)) first (all-at Near times 0 (pos 0) s.near_times some) s.near_first
 
-  cap-mid : Mid (capped e last)
-  cap-mid = capped-mid e last s.sound.end_fits s.sound.end-above s.near_last
+  cap-mid : Mid (capped e.end last)
+  cap-mid = capped-mid e.end last s.sound.end s.near_last
 
-  pub end-apart : Difference (capped e last) (from-0 e first times) (capped e last -ℤ from-0 e first times)
-  end-apart = apart (capped e last) (from-0 e first times) cap-mid o-mid
+  pub end-apart : Difference (capped e.end last) (from-0 e first times) (capped e.end last -ℤ from-0 e first times)
+  end-apart = apart (capped e.end last) (from-0 e first times) cap-mid o-mid
 
-  pub shown-out : (scale : ℕ) (nominal : ℤ) → 2 ^ 63 ≤ mag (moved_time (from-0 e first times) e.empty (capped e last)) → shown scale nominal e first last times ≡ no_times reason.Outside
+  pub shown-out : (scale : ℕ) (nominal : ℤ) → 2 ^ 63 ≤ mag (moved_time (from-0 e first times) e.empty (capped e.end last)) → shown scale nominal e first last times ≡ no_times reason.Outside
   unfolding shown
-  shown-out scale nominal h = placed-out scale nominal (moved_time (from-0 e first times) e.empty (capped e last)) (map (moved_time (from-0 e first times) e.empty) times) h
+  shown-out scale nominal h = placed-out scale nominal (moved_time (from-0 e first times) e.empty (capped e.end last)) (map (moved_time (from-0 e first times) e.empty) times) h
 
-  module _ (fits : I64 (moved_time (from-0 e first times) e.empty (capped e last))) where
+  module _ (fits : I64 (moved_time (from-0 e first times) e.empty (capped e.end last))) where
     pub times-move : All (Movable (from-0 e first times) e.empty) times
     times-move =
-        let up-empty : 2 ^ 63 ≤ up e.empty = omega (arith, le_up (pos 0) e.empty s.sound.empty-above) in
+        let up-empty : 2 ^ 63 ≤ up e.empty = omega (arith, le_up (pos 0) e.empty s.sound.empty.above) in
         all_of (Movable (from-0 e first times) e.empty) times (pos 0)
-        (λ k h. under-fits (from-0 e first times) e.empty (capped e last) o-mid cap-mid s.sound.empty-fits up-empty fits (get_or times k (pos 0))
+        (λ k h. under-fits (from-0 e first times) e.empty (capped e.end last) o-mid cap-mid s.sound.empty.fits up-empty fits (get_or times k (pos 0))
         (mid-near (get_or times k (pos 0)) (all-at Near times k (pos 0) s.near_times h))
-        (under-cap e last (get_or times k (pos 0)) (all-at (λ x. le_z x last ≡ true) times k (pos 0) s.to_last h)
-        (λ p. all-at (λ x. le_z x e.end ≡ true) times k (pos 0) (s.to_end p) h)))
+        (under-cap e.end last (get_or times k (pos 0)) (all-at (λ x. le_z x last ≡ true) times k (pos 0) s.to_last h)
+        (IfSome_then e.end s.to_end (λ end a. all-at (λ x. le_z x end ≡ true) times k (pos 0) a h))))
 
     pub shown-in : (scale : ℕ) (nominal : ℤ)
         → shown scale nominal e first last times
-        ≡ record { answer = presented (length times) scale nominal (moved_time (from-0 e first times) e.empty (capped e last)); starts = map (moved_time (from-0 e first times) e.empty) times }
+        ≡ record { answer = presented (length times) scale nominal (moved_time (from-0 e first times) e.empty (capped e.end last)); starts = map (moved_time (from-0 e first times) e.empty) times }
     unfolding shown
     shown-in scale nominal =
         let f = moved_time (from-0 e first times) e.empty in
-        placed-in scale nominal (f (capped e last)) (map f times) fits
+        placed-in scale nominal (f (capped e.end last)) (map f times) fits
         (all_map I64 f times (all-weaken (Movable (from-0 e first times) e.empty) (λ x. I64 (f x)) times (λ x m. m.1) times-move))
-        ∙ ap (λ n. record { answer = presented n scale nominal (f (capped e last)); starts = map f times }) (length-map times f)
+        ∙ ap (λ n. record { answer = presented n scale nominal (f (capped e.end last)); starts = map f times }) (length-map times f)
 
-pub movable-as : (o o' d d' : ℤ) (l l' : List ℤ) → o' ≡ o → d' ≡ d → l' ≡ l → All (Movable o d) l → All (Movable o' d') l'
-movable-as o o' d d' l l' p q r m = rw (p, q, r) m
+movable-as : (o o' d d' : ℤ) (l : List ℤ) → o' ≡ o → d' ≡ d → All (Movable o d) l → All (Movable o' d') l
+movable-as o o' d d' l p q m = rw (p, q) m
 
 -- ---- placing starts, one after the other
 module _ (f : ℤ → ℤ) (times out₀ : List ℤ) (i : ℕ) (out : List ℤ) where
@@ -185,50 +184,42 @@ module _ (f : ℤ → ℤ) (times out₀ : List ℤ) (i : ℕ) (out : List ℤ) 
       let s : map f (take (i + 1) times) ≡ map f (take i times) ++ v ∷ [] = rw add-one (ap (map f) (take-suc times i (pos 0) h) ∙ map-append f (take i times) (get_or times i (pos 0) ∷ [])) in
       ap (λ l. set l i v) e ∙ ap (λ j. set (laid (map f (take i times)) out₀) j v) (sym n) ∙ set-laid (map f (take i times)) out₀ v (omega arith) ∙ ap (λ l. laid l out₀) (sym s)
 
--- the sorted times, the origin and the capped end, as the code has them
-pub record Showing (times new : List ℤ) (first last : ℤ) (e : Edit) (o cap : ℤ) : Type 0 where
-  pub given : Showable times first last e
-  pub some₀ : 0 < length times
+-- the times, the origin and the capped end, as the code has them
+pub record Showing (times : List ℤ) (first last : ℤ) (e : Edit) (o cap : ℤ) : Type 0 where
+  pub able : Showable times first last e
+  pub some : 0 < length times
   pub first_fits : SFits w64 first
   pub last_fits : SFits w64 last
-  pub order : new ≡ sorted times
   pub origin_fits : I64 o
-  pub origin : o ≡ time_origin e (read (get_or new 0 (pos 0))) (read first)
+  pub origin : o ≡ time_origin e (read (get_or times 0 (pos 0))) (read first)
   pub cap_fits : I64 cap
-  pub cap_is : cap ≡ capped e (read last)
+  pub cap_is : cap ≡ capped e.end (read last)
 
-pub showing : {times new : List ℤ} {first last : ℤ} {e : Edit} {o cap : ℤ} → Showable times first last e → 0 < length times → SFits w64 first → SFits w64 last → new ≡ sorted times
-    → I64 o → o ≡ time_origin e (read (get_or new 0 (pos 0))) (read first) → I64 cap → cap ≡ capped e (read last) → Showing times new first last e o cap
-showing g s f l n x o y c = record { given = g; some₀ = s; first_fits = f; last_fits = l; order = n; origin_fits = x; origin = o; cap_fits = y; cap_is = c }
+pub showing : {times : List ℤ} {first last : ℤ} {e : Edit} {o cap : ℤ} → Showable times first last e → 0 < length times → SFits w64 first → SFits w64 last
+    → I64 o → o ≡ time_origin e (read (get_or times 0 (pos 0))) (read first) → I64 cap → cap ≡ capped e.end (read last) → Showing times first last e o cap
+showing g s f l x o y c = record { able = g; some = s; first_fits = f; last_fits = l; origin_fits = x; origin = o; cap_fits = y; cap_is = c }
 
-module _ {times new : List ℤ} {first last : ℤ} {e : Edit} {o cap : ℤ} (h : Showing times new first last e o cap) where
+module _ {times : List ℤ} {first last : ℤ} {e : Edit} {o cap : ℤ} (h : Showing times first last e o cap) where
   abbrev pub org : ℤ
-  org = from-0 e first (sorted times)
+  org = from-0 e first times
 
   abbrev pub top : ℤ
-  top = capped e last
-
-  pub some : 0 < length (sorted times)
-  some = rw (length-sorted times) h.some₀
-
-  pub able : Showable (sorted times) first last e
-  able = showable-sorted times first last e h.given
+  top = capped e.end last
 
   pub org-read : read o ≡ org
   org-read =
-      let here : get_or new 0 (pos 0) ≡ get_or (sorted times) 0 (pos 0) = ap (λ (l : List ℤ). get_or l 0 (pos 0)) h.order in
-      let inside : I64 (get_or (sorted times) 0 (pos 0)) = omega (arith, all-at Near (sorted times) 0 (pos 0) able.near_times some) in
-      let least : read (get_or new 0 (pos 0)) ≡ get_or (sorted times) 0 (pos 0) = ap read here ∙ back (get_or (sorted times) 0 (pos 0)) inside in
+      let inside : I64 (get_or times 0 (pos 0)) = omega (arith, all-at Near times 0 (pos 0) h.able.near_times h.some) in
+      let least : read (get_or times 0 (pos 0)) ≡ get_or times 0 (pos 0) = back (get_or times 0 (pos 0)) inside in
       back o h.origin_fits ∙ h.origin ∙ (λ i. time_origin e (least i) (reads h.first_fits i))
 
   pub cap-read : read cap ≡ top
-  cap-read = back cap h.cap_fits ∙ h.cap_is ∙ ap (capped e) (reads h.last_fits)
+  cap-read = back cap h.cap_fits ∙ h.cap_is ∙ ap (capped e.end) (reads h.last_fits)
 
   pub empty-read : read e.empty ≡ e.empty
-  empty-read = back e.empty able.sound.empty-fits
+  empty-read = back e.empty h.able.sound.empty.fits
 
   pub top-apart : I64 (top -ℤ org)
-  top-apart = (end-apart (sorted times) first last e able some).inside
+  top-apart = (end-apart times first last e h.able h.some).inside
 
   pub apart_fits : SFits w64 (read cap -ℤ read o)
   apart_fits = rw (org-read, cap-read) (record { sfits = top-apart })
@@ -240,8 +231,8 @@ module _ {times new : List ℤ} {first last : ℤ} {e : Edit} {o cap : ℤ} (h :
   pub summed : {r : Held} → r ≡ within (read (read cap -ℤ read o) +ℤ read e.empty) → r ≡ within end_is
   summed q = q ∙ (λ i. within (((λ j. read (cap-read j -ℤ org-read j)) ∙ back (top -ℤ org) top-apart) i +ℤ empty-read i))
 
-  pub refused_is : (scale : ℕ) (nominal : ℤ) → Outside ≡ within end_is → shown scale nominal e first last (sorted times) ≡ no_times reason.Outside
-  refused_is scale nominal q = shown-out (sorted times) first last e able some scale nominal (not-held end_is q)
+  pub refused_is : (scale : ℕ) (nominal : ℤ) → Outside ≡ within end_is → shown scale nominal e first last times ≡ no_times reason.Outside
+  refused_is scale nominal q = shown-out times first last e h.able h.some scale nominal (not-held end_is q)
 
   module _ {z : ℤ} (q : Is z ≡ within end_is) where
     pub end-fits : I64 end_is
@@ -250,14 +241,14 @@ module _ {times new : List ℤ} {first last : ℤ} {e : Edit} {o cap : ℤ} (h :
     pub end-read : read z ≡ end_is
     end-read = ap read (held end_is q).0 ∙ back end_is end-fits
 
-    pub placeable : All (Movable (read o) (read e.empty)) new
-    placeable = movable-as org (read o) e.empty (read e.empty) (sorted times) new org-read empty-read h.order (times-move (sorted times) first last e able some end-fits)
+    pub placeable : All (Movable (read o) (read e.empty)) times
+    placeable = movable-as org (read o) e.empty (read e.empty) times org-read empty-read (times-move times first last e h.able h.some end-fits)
 
-    pub answers : (scale : ℕ) (nominal : ℤ) {l l' : List ℤ} → SFits w64 nominal → l' ≡ laid (map (moved_time (read o) (read e.empty)) new) l
-        → OutcomeAnswered (shown scale nominal e first last (sorted times)) (presented (length new) scale (read nominal) (read z)) l l'
+    pub answers : (scale : ℕ) (nominal : ℤ) {l l' : List ℤ} → SFits w64 nominal → l' ≡ laid (map (moved_time (read o) (read e.empty)) times) l
+        → OutcomeAnswered (shown scale nominal e first last times) (presented (length times) scale (read nominal) (read z)) l l'
     answers scale nominal {l} {l'} f p =
-        let s = shown-in (sorted times) first last e able some end-fits scale nominal in
+        let s = shown-in times first last e h.able h.some end-fits scale nominal in
         record {
-          answer = (λ i. presented (length (h.order i)) scale (reads f i) (end-read i)) ∙ ap (λ (o : Outcome). o.answer) (sym s);
-          starts = p ∙ (λ i. laid (map (moved_time (org-read i) (empty-read i)) (h.order i)) l) ∙ ap (λ (o : Outcome). laid o.starts l) (sym s);
+          answer = (λ i. presented (length times) scale (reads f i) (end-read i)) ∙ ap (λ (o : Outcome). o.answer) (sym s);
+          starts = p ∙ (λ i. laid (map (moved_time (org-read i) (empty-read i)) times) l) ∙ ap (λ (o : Outcome). laid o.starts l) (sym s);
         }

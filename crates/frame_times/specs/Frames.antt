@@ -1,5 +1,5 @@
 -- The frames of a track: when each is decoded and composed, which of them an edit keeps, and where those lie (ISO/IEC 14496-12, 8.6.1 and 8.6.6).
-use Rattle.std.specs.Prelude.{ℕ, ◌+◌, Bool, true, false, List, [], ◌∷◌, map, get_or, drop, ℤ, pos, ◌+ℤ◌, ◌-ℤ◌, if◌then◌else◌}
+use Rattle.std.specs.Prelude.{ℕ, ◌+◌, Bool, true, false, List, [], ◌∷◌, map, get_or, drop, Option, None, Some, ℤ, pos, ◌+ℤ◌, ◌-ℤ◌, if◌then◌else◌}
 use Rattle.std.specs.Int.Signed.{le_z, lt_z}
 use Rattle.tracks.specs.declared.Edit.{Edit}
 
@@ -15,9 +15,14 @@ unfoldable pub frames_from : ℕ → List ℕ → List ℤ → List Frame
 frames_from t [] os = []
 frames_from t (d ∷ ds) os = record { decode = t; cts = pos t +ℤ get_or os 0 (pos 0); duration = d } ∷ frames_from (t + d) ds (drop 1 os)
 
+-- before the media end; an open one is never reached
+abbrev pub before_end : Option ℤ → ℤ → Bool
+before_end None c = true
+before_end (Some end) c = lt_z c end
+
 -- kept: time <= cts < media end
 abbrev pub in_edit : Edit → ℤ → Bool
-in_edit e c = if le_z e.time c then if e.endless then true else lt_z c e.end else false
+in_edit e c = if le_z e.time c then before_end e.end c else false
 
 -- the frames that are kept
 unfoldable pub kept : Edit → List Frame → List Frame
@@ -44,8 +49,9 @@ abbrev pub min_z : ℤ → ℤ → ℤ
 min_z a b = if le_z a b then a else b
 
 -- capped at the media end
-abbrev pub capped : Edit → ℤ → ℤ
-capped e z = if e.endless then z else min_z z e.end
+abbrev pub capped : Option ℤ → ℤ → ℤ
+capped None z = z
+capped (Some end) z = min_z z end
 
 -- with an edit the larger of the least kept cts and the decode time of the first kept frame, without one 0
 abbrev pub time_origin : Edit → ℤ → ℤ → ℤ

@@ -1,5 +1,5 @@
 -- What the inner functions promise each other: what the pass over the frames tells, and how far from 0 its numbers lie.
-use Rattle.std.specs.Prelude.{ℕ, ◌+◌, ◌≤◌, ◌<◌, ◌^◌, ◌≡◌, true, false, List, [], ◌∷◌, length, take, ℤ, ◌-ℤ◌, eqb, if◌then◌else◌, Result}
+use Rattle.std.specs.Prelude.{IfSome, ℕ, ◌+◌, ◌≤◌, ◌<◌, ◌^◌, ◌≡◌, true, List, [], ◌∷◌, length, take, ℤ, ◌-ℤ◌, eqb, if◌then◌else◌, Result}
 use Rattle.std.specs.Int.Signed.{le_z, mag}
 use Rattle.signed.specs.Steps.{I64}
 use Rattle.slices.specs.Slices.{laid, All}
@@ -27,14 +27,14 @@ pub record Good (f : Frame) : Type 0 where
 -- one kept frame more
 unfoldable pub kept_with : Kept → ℕ → ℤ → ℕ → Kept
 kept_with k t c d =
-    if eqb k.count 0 then record { count = 1; first = t; last = c; lasts = d }
-    else if le_z k.last c then record { count = k.count + 1; first = k.first; last = c; lasts = d }
-    else record { count = k.count + 1; first = k.first; last = k.last; lasts = k.lasts }
+    if eqb k.count 0 then record { count = 1; first = t; last = c; last_duration = d }
+    else if le_z k.last c then record { count = k.count + 1; first = k.first; last = c; last_duration = d }
+    else record { count = k.count + 1; first = k.first; last = k.last; last_duration = k.last_duration }
 
 -- k tells of kept frames when the first is decoded, and the last one's time and duration
 abbrev pub Ends : List Frame → Kept → Type 0
 Ends [] k = Unit {0}
-Ends (f ∷ fs) k = (k.first ≡ f.decode) × (k.last ≡ (last_of f fs).cts) × (k.lasts ≡ (last_of f fs).duration)
+Ends (f ∷ fs) k = (k.first ≡ f.decode) × (k.last ≡ (last_of f fs).cts) × (k.last_duration ≡ (last_of f fs).duration)
 
 -- kept frames, their composition times at the front of a slice, and what k tells of them
 pub record Told (fs : List Frame) (k : Kept) (times : List ℤ) : Type 0 where
@@ -54,7 +54,7 @@ pub record Showable (times : List ℤ) (first last : ℤ) (e : Edit) : Type 0 wh
   pub near_first : Near first
   pub near_last : Ended last
   pub to_last : All (λ x. le_z x last ≡ true) times
-  pub to_end : e.endless ≡ false → All (λ x. le_z x e.end ≡ true) times
+  pub to_end : IfSome e.end (λ end. All (λ x. le_z x end ≡ true) times)
 
 -- an outcome was answered: r is its answer, and its starts are laid over what was lent
 pub record OutcomeAnswered (o : Outcome) (r : Result FrameTimes Refusal) (before after : List ℤ) : Type 0 where

@@ -1,6 +1,6 @@
 -- The frame times of a moov: what is answered, from its bytes down to its frames. With `standard` composition offsets are read by the standard, else by the Rust
 -- (`offsets` of tracks/specs/Tables.antt); nothing else goes by it.
-use Rattle.std.specs.Prelude.{ℕ, ◌+◌, min, ◌≡◌, Bool, ◌||◌, List, [], ◌∷◌, map, length, get_or, ℤ, pos, ltb, eqb, if◌then◌else◌, Result, Ok, Err}
+use Rattle.std.specs.Prelude.{ℕ, ◌+◌, min, ◌≡◌, Bool, ◌||◌, List, [], ◌∷◌, map, length, get_or, ℤ, pos, ltb, eqb, if◌then◌else◌, Option, None, Some, Result, Ok, Err}
 use Rattle.std.specs.Int.Signed.{le_z}
 use Rattle.choice.specs.Records.{any}
 use Rattle.refusal.specs.declared.Reason.{Reason}
@@ -12,16 +12,12 @@ use Rattle.slices.specs.Slices.{laid, zeros}
 use Rattle.order.specs.Order.{sorted, mode}
 use Rattle.boxes.specs.Bytes.{mdia}
 use Rattle.boxes.specs.Boxes.{most_bytes, boxes_of, first_of}
-use Rattle.boxes.specs.Places.{place_or, part_of, child_of}
+use Rattle.boxes.specs.Places.{bytes_at, child_of}
 use Rattle.boxes.specs.Tracks.{video_track}
 use Rattle.boxes.specs.declared.Walk.{Walk}
 use Rattle.boxes.specs.declared.Walk.TheVariants.{Found, End, Bad as BadAt}
-use Rattle.tracks.specs.declared.Rows.{Rows}
-use Rattle.tracks.specs.declared.Rows.TheVariants.{Whole, Torn}
 use Rattle.tracks.specs.declared.Edit.{Edit}
-use Rattle.tracks.specs.declared.Edited.{Edited}
-use Rattle.tracks.specs.declared.Edited.TheVariants.{By, Bad}
-use Rattle.tracks.specs.Tables.{scale_of, has_scale, table_rows, optional_rows, entries_of, entry_total, durations, offsets}
+use Rattle.tracks.specs.Tables.{timescale, table_rows, optional_rows, entries_of, entry_total, durations, offsets}
 use Rattle.tracks.specs.Edits.{edit_of}
 use Rattle.ticks.specs.declared.FrameTimes.{FrameTimes}
 use Rattle.frame_times.specs.Frames.{Frame, frames_from, kept, cts_of, last_of, end_of, capped, time_origin, moved_time}
@@ -69,7 +65,7 @@ placed scale nominal end starts =
 
 -- the answer of kept frames: the first one's decode time, where the last one ends, and the composition times, ascending
 abbrev pub shown_from : ℕ → ℤ → Edit → ℤ → List ℤ → ℤ → Outcome
-shown_from scale nominal e last times o = placed scale nominal (moved_time o e.empty (capped e last)) (map (moved_time o e.empty) times)
+shown_from scale nominal e last times o = placed scale nominal (moved_time o e.empty (capped e.end last)) (map (moved_time o e.empty) times)
 
 unfoldable pub shown : ℕ → ℤ → Edit → ℤ → ℤ → List ℤ → Outcome
 shown scale nominal e first last times = shown_from scale nominal e last times (time_origin e (get_or times 0 (pos 0)) first)
@@ -86,19 +82,19 @@ abbrev pub of_frames : ℕ → Edit → List ℕ → List ℤ → Outcome
 of_frames scale e ds os = of_kept scale (mode (map pos ds)) e (kept e (frames_from 0 ds os))
 
 -- of durations, offsets and an edit list that may be refused
-abbrev pub of_edit : Edited → ℕ → List ℕ → List ℤ → Outcome
-of_edit Bad scale ds os = no_times reason.Missing
-of_edit (By e) scale ds os = of_frames scale e ds os
+abbrev pub of_edit : Option Edit → ℕ → List ℕ → List ℤ → Outcome
+of_edit None scale ds os = no_times reason.Missing
+of_edit (Some e) scale ds os = of_frames scale e ds os
 
 -- past the room test: of a ctts that may be torn, and then of the edit list
-abbrev pub of_offsets : Bool → Rows → List ℕ → List ℕ → ℕ → ℕ → List ℕ → Outcome
-of_offsets standard Torn ctts edts scale movie ds = no_times reason.Missing
-of_offsets standard (Whole n) ctts edts scale movie ds = of_edit (edit_of edts scale movie) scale ds (offsets standard n ctts)
+abbrev pub of_offsets : Bool → Option ℕ → List ℕ → List ℕ → ℕ → ℕ → List ℕ → Outcome
+of_offsets standard None ctts edts scale movie ds = no_times reason.Missing
+of_offsets standard (Some n) ctts edts scale movie ds = of_edit (edit_of edts scale movie) scale ds (offsets standard n ctts)
 
 -- of a stts that may be torn: more frames than the moov has bytes are refused, and then more than there is room for
-abbrev pub of_durations : Bool → Rows → ℕ → ℕ → ℕ → ℕ → List ℕ → List ℕ → List ℕ → Outcome
-of_durations standard Torn bytes room movie scale edts ctts stts = no_times reason.Missing
-of_durations standard (Whole n) bytes room movie scale edts ctts stts =
+abbrev pub of_durations : Bool → Option ℕ → ℕ → ℕ → ℕ → ℕ → List ℕ → List ℕ → List ℕ → Outcome
+of_durations standard None bytes room movie scale edts ctts stts = no_times reason.Missing
+of_durations standard (Some n) bytes room movie scale edts ctts stts =
     if ltb bytes (entry_total (entries_of n stts)) then no_times reason.Missing
     else if ltb room (entry_total (entries_of n stts)) then no_times reason.NoRoom
     else of_offsets standard (optional_rows ctts) ctts edts scale movie (durations n stts)
@@ -106,7 +102,7 @@ of_durations standard (Whole n) bytes room movie scale edts ctts stts =
 -- a box that has to be there, in the part that starts at `base` of the moov: its payload goes on, with where that starts in the moov.
 -- Where it isn't, 31 after a clean end; after a bad header 36, with the header's offset in the moov
 abbrev pub required : ℕ → Walk → List ℕ → (ℕ → List ℕ → Outcome) → Outcome
-required base (Found start len) s next = next (base + start) (part_of s (place_or reason.Missing (Found start len)))
+required base (Found p) s next = next (base + p.start) (bytes_at s p)
 required base End s next = no_times reason.Missing
 required base (BadAt at) s next = no_times_at reason.Broken (base + at)
 
@@ -118,6 +114,11 @@ in_child kind base s next = required base (first_of kind (boxes_of s)) s next
 unfoldable pub of_tables : Bool → ℕ → ℕ → ℕ → ℕ → List ℕ → ℕ → List ℕ → Outcome
 of_tables standard bytes room movie scale edts base tables = in_child stts base tables (λ at d. of_durations standard (table_rows d) bytes room movie scale edts (child_of ctts tables) d)
 
+-- a timescale that has to be whole
+abbrev pub with_scale : Option ℕ → (ℕ → Outcome) → Outcome
+with_scale None next = no_times reason.Missing
+with_scale (Some scale) next = next scale
+
 -- of a mdia, which has the timescale and, two boxes below, the stbl; neither timescale may be 0
 abbrev pub of_scale : Bool → ℕ → ℕ → ℕ → ℕ → List ℕ → ℕ → List ℕ → Outcome
 of_scale standard bytes room movie scale edts base media =
@@ -125,7 +126,7 @@ of_scale standard bytes room movie scale edts base media =
     else in_child minf base media (λ at i. in_child stbl at i (of_tables standard bytes room movie scale edts))
 
 unfoldable pub of_media : Bool → ℕ → ℕ → ℕ → List ℕ → ℕ → List ℕ → Outcome
-of_media standard bytes room movie edts base media = in_child mdhd base media (λ at h. of_scale standard bytes room movie (scale_of h) edts base media)
+of_media standard bytes room movie edts base media = in_child mdhd base media (λ at h. with_scale (timescale h) (λ scale. of_scale standard bytes room movie scale edts base media))
 
 -- of a video track, whose edts may be absent
 unfoldable pub of_track : Bool → ℕ → ℕ → ℕ → ℕ → List ℕ → Outcome
@@ -133,9 +134,7 @@ of_track standard bytes room movie base track = in_child mdia base track (of_med
 
 -- of a mvhd, which has the movie's timescale; where that isn't whole no track is looked for. That it isn't 0 is tested with the track's own
 abbrev pub of_movie : Bool → List ℕ → ℕ → List ℕ → Outcome
-of_movie standard moov room h =
-    if has_scale h then required 0 (video_track moov) moov (of_track standard (length moov) room (scale_of h))
-    else no_times reason.Missing
+of_movie standard moov room h = with_scale (timescale h) (λ movie. required 0 (video_track moov) moov (of_track standard (length moov) room movie))
 
 -- of a moov: its mvhd, then its first video track
 unfoldable pub times_of_moov : Bool → List ℕ → ℕ → Outcome

@@ -2,14 +2,16 @@
 #![tactic(auto)]
 
 mod frames;
+mod moov;
+mod part;
 mod times;
 mod track;
 
 ghost use Rattle.frame_times.specs.Times.{MoovAnswers};
 
+use moov::of_moov;
 use refusal::Refusal;
 use ticks::FrameTimes;
-use track::of_moov;
 
 // The frames that are kept: how many, when the first is decoded, and of the last the composition time and the duration.
 #[derive(Clone, Copy)]
@@ -17,7 +19,7 @@ pub struct Kept {
     pub count: usize,
     pub first: u64,
     pub last: i64,
-    pub lasts: u64,
+    pub last_duration: u64,
 }
 
 // The frames that a moov's first video track presents, and over starts where each starts; on a refusal starts are as lent. Both working

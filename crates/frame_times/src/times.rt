@@ -1,14 +1,16 @@
 // Starts and the end, from the composition times that are kept.
-ghost use Rattle.std.specs.Prelude.{◌≡◌, map, ◌-◌, ◌*◌, ◌≤◌, ◌<◌, length, pos};
+ghost use Rattle.std.specs.Prelude.{◌≡◌, map, ◌-◌, ◌≤◌, ◌<◌, length, pos};
 ghost use Rattle.slices.specs.Slices.{All, laid};
-ghost use Rattle.order.specs.Order.{Asc, sorted, mode};
-ghost use Rattle.tracks.specs.Tables.{entries_of, entry_total, durations, offsets};
+ghost use Rattle.order.specs.Order.{Asc, mode};
+ghost use Rattle.tracks.specs.Tables.{entries_of, entry_total, durations};
 ghost use Rattle.tracks.specs.Steps.{Sound};
 ghost use Rattle.frame_times.specs.Frames.{time_origin, capped, moved_time, max_z};
-ghost use Rattle.frame_times.specs.Times.{shown, of_frames};
+ghost use Rattle.frame_times.specs.Times.{shown};
+ghost use Rattle.frame_times.specs.Found.{times_of_timing};
 ghost use Rattle.frame_times.specs.Steps.{Movable, Showable, OutcomeAnswered};
 
 use crate::frames::keep;
+use crate::track::Timing;
 use refusal::{Reason, Refusal};
 use signed::Held;
 use ticks::FrameTimes;
@@ -22,62 +24,55 @@ fn larger(a: i64, b: i64) -> i64
 }
 
 // Where the starts count from, with the least composition time and the first decode time that are kept.
-fn origin_of(e: Edit, least: i64, first: i64) -> i64
-    ensures { result ≡ time_origin e least first }
+fn origin_of(edit: Edit, least: i64, first: i64) -> i64
+    ensures { result ≡ time_origin edit least first }
 {
-    if e.edited {
+    if edit.edited {
         return larger(least, first);
     }
     0
 }
 
 // A time, at most the media end.
-fn capped_at(e: Edit, z: i64) -> i64
-    ensures { result ≡ capped e z }
+fn capped_at(end: Option<i64>, z: i64) -> i64
+    ensures { result ≡ capped end z }
 {
-    if e.endless {
-        return z;
-    }
-    if z <= e.end {
-        return z;
-    }
-    e.end
-}
-
-// Writes the times, each less o and d later, over the first of out.
-fn place(times: &[i64], o: i64, d: i64, out: &mut [i64])
-    requires times_in_bounds { length times.now ≤ length out.old }
-    requires all { All (λ x. Movable o d x) times.now }
-    ensures { out.new ≡ laid (map (moved_time o d) times.now) out.old }
-{
-    let mut i: usize = 0;
-    while i < times.len() {
-        out[i] = (times[i] - o) + d;
-        i += 1;
+    match end {
+        Some(end) if end < z => end,
+        Some(_) | None => z,
     }
 }
 
-// Answers with the composition times that are kept, which are sorted on the way, and writes the starts. No start is past the end, so that the end alone is tested.
+// Writes the times, each less the origin and later by the empty ticks, over the first of starts.
+fn write_starts(times: &[i64], origin: i64, empty: i64, starts: &mut [i64])
+    requires times_in_bounds { length times.now ≤ length starts.old }
+    requires all { All (λ x. Movable origin empty x) times.now }
+    ensures { starts.new ≡ laid (map (moved_time origin empty) times.now) starts.old }
+{
+    for i in 0..times.len() {
+        starts[i] = (times[i] - origin) + empty;
+    }
+}
+
+// Answers with the composition times that are kept, in ascending order, and writes the starts. No start is past the end, so that the end alone is tested.
 fn show(
-    times: &mut [i64],
-    scratch: &mut [i64],
+    times: &[i64],
     first: i64,
     last: i64,
-    e: Edit,
+    edit: Edit,
     nominal: i64,
     scale: u64,
     starts: &mut [i64],
 ) -> Result<FrameTimes, Refusal>
-    requires { Showable times.old first last e × (0 < length times.old) × (length times.old ≤ length scratch.old) × (length times.old ≤ length starts.old) }
-    ensures { OutcomeAnswered (shown scale nominal e first last (sorted times.old)) result starts.old starts.new }
+    requires { Showable times.now first last edit × (0 < length times.now) × (length times.now ≤ length starts.old) }
+    ensures { OutcomeAnswered (shown scale nominal edit first last times.now) result starts.old starts.new }
 {
-    order::sort(times, scratch);
-    let o = origin_of(e, times[0], first);
-    let empty = e.empty;
-    let Held::Is(end) = signed::sum(capped_at(e, last) - o, empty) else {
+    let origin = origin_of(edit, times[0], first);
+    let empty = edit.empty;
+    let Held::Is(end) = signed::sum(capped_at(edit.end, last) - origin, empty) else {
         return Err(Reason::Outside.at(0));
     };
-    place(times, o, empty, starts);
+    write_starts(times, origin, empty, starts);
     Ok(FrameTimes {
         frames: times.len(),
         scale,
@@ -100,40 +95,29 @@ fn nominal_of(durations: &[i64]) -> i64
 
 // Answers with two whole tables and an edit. b has the durations: their sort takes both working slices, and so the stts is walked again beside the ctts.
 pub(crate) fn present(
-    stts: &[u8],
-    n: usize,
-    ctts: &[u8],
-    m: usize,
-    standard: bool,
-    e: Edit,
+    timing: Timing<'_>,
     scale: u64,
     starts: &mut [i64],
     a: &mut [i64],
     b: &mut [i64],
 ) -> Result<FrameTimes, Refusal>
-    requires n_in_bounds { (n * 8 ≤ length stts.now - 8) × (m * 8 ≤ length ctts.now - 8) × (length a.old ≡ entry_total (entries_of n stts.now)) × (length a.old ≤ 16777216) × (length a.old ≤ length starts.old) }
-    requires b_value { (b.old ≡ map pos (durations n stts.now)) × Sound e }
-    ensures { OutcomeAnswered (of_frames scale e (durations n stts.now) (offsets standard m ctts.now)) result starts.old starts.new }
+    requires in_bounds { (length a.old ≡ entry_total (entries_of timing.durations.rows timing.durations.payload.now)) × (length a.old ≤ 16777216) × (length a.old ≤ length starts.old) }
+    requires b_value { (b.old ≡ map pos (durations timing.durations.rows timing.durations.payload.now)) × Sound timing.edit }
+    ensures { OutcomeAnswered (times_of_timing timing.entry scale) result starts.old starts.new }
 {
     order::sort_any(b, a);
     let nominal = nominal_of(b);
     if nominal <= 0 {
         return Err(Reason::Missing.at(0));
     }
-    let k = keep(stts, n, ctts, m, standard, e, a);
+    let k = keep(timing, a);
     let count = k.count;
     if count == 0 {
         return Err(Reason::Missing.at(0));
     }
-    let last = k.last + (k.lasts as i64);
-    show(
-        &mut a[..count],
-        b,
-        k.first as i64,
-        last,
-        e,
-        nominal,
-        scale,
-        starts,
-    )
+    let times = &mut a[..count];
+    order::sort(times, b);
+    let first = k.first as i64;
+    let last = k.last + (k.last_duration as i64);
+    show(times, first, last, timing.edit, nominal, scale, starts)
 }

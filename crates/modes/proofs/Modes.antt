@@ -1,5 +1,5 @@
 -- Both readings of a moov are the same where no offset of version 0 has its top bit set. Assumes nothing.
-use Rattle.std.specs.Prelude.{if◌then◌else◌}
+use Rattle.std.specs.Prelude.{if◌then◌else◌, Option, None, Some}
 use mathlib.Core.Path.{◌≡◌, refl, ap, ◌∙◌}
 use mathlib.Core.Bool.{Bool, true, false, ◌||◌}
 use mathlib.Core.List.{List, [], ◌∷◌, map}
@@ -13,17 +13,15 @@ use Rattle.refusal.specs.declared.Reason.TheVariants as reason
 use Rattle.slices.specs.Slices.{All}
 use Rattle.boxes.specs.Bytes.{mdia}
 use Rattle.boxes.specs.Boxes.{most_bytes, boxes_of, first_of}
-use Rattle.boxes.specs.Places.{place_or, part_of, child_of}
+use Rattle.boxes.specs.Places.{found_place, part_of, child_of}
 use Rattle.boxes.specs.Tracks.{video_track}
 use Rattle.boxes.specs.declared.Walk.{Walk}
 use Rattle.boxes.specs.declared.Walk.TheVariants.{Found, End, Bad as BadAt}
-use Rattle.tracks.specs.declared.Rows.{Rows}
-use Rattle.tracks.specs.declared.Rows.TheVariants.{Whole, Torn}
-use Rattle.tracks.specs.Tables.{scale_of, has_scale, table_rows, optional_rows, entries_of, entry_total, per_frame, durations, offset_of, offsets}
+use Rattle.tracks.specs.Tables.{timescale, table_rows, optional_rows, entries_of, entry_total, per_frame, durations, offset_of, offsets}
 use Rattle.tracks.specs.Edits.{edit_of}
 use Rattle.tracks.proofs.EntryLaws.{all-per-frame}
 use Rattle.tracks.proofs.OffsetLaws.{same-offset}
-use Rattle.frame_times.specs.Times.{Outcome, no_times, required, mvhd, mdhd, minf, stbl, stts, ctts, edts, of_edit, of_offsets, of_durations, of_tables, of_scale, of_media, of_track, times_of_moov}
+use Rattle.frame_times.specs.Times.{Outcome, no_times, required, with_scale, mvhd, mdhd, minf, stbl, stts, ctts, edts, of_edit, of_offsets, of_durations, of_tables, of_scale, of_media, of_track, times_of_moov}
 use Rattle.modes.specs.Modes.{ctts_of, TopClear, NoTopBit}
 
 same-offsets : (l : List ℕ) → All TopClear l → map (offset_of true) l ≡ map (offset_of false) l
@@ -32,7 +30,7 @@ same-offsets (x ∷ l) h = λ i. same-offset x h.0 i ∷ same-offsets l h.1 i
 
 -- what has to be the same: the offsets of a ctts that is whole
 abbrev Same : List ℕ → Type 0
-Same c = (n : ℕ) → optional_rows c ≡ Whole n → offsets true n c ≡ offsets false n c
+Same c = (n : ℕ) → optional_rows c ≡ Some n → offsets true n c ≡ offsets false n c
 
 same_of : (c : List ℕ) → NoTopBit c → Same c
 same_of c h n e =
@@ -42,19 +40,23 @@ same_of c h n e =
     (λ t. ap by t)
 
 -- from the tables up to the moov
-same_in : (base : ℕ) (w : Walk) (s : List ℕ) (f g : ℕ → List ℕ → Outcome) → ((at : ℕ) → f at (part_of s (place_or reason.Missing w)) ≡ g at (part_of s (place_or reason.Missing w))) → required base w s f ≡ required base w s g
-same_in base (Found a n) s f g h = h (base + a)
+same_in : (base : ℕ) (w : Walk) (s : List ℕ) (f g : ℕ → List ℕ → Outcome) → ((at : ℕ) → f at (part_of s (found_place w)) ≡ g at (part_of s (found_place w))) → required base w s f ≡ required base w s g
+same_in base (Found p) s f g h = h (base + p.start)
 same_in base End s f g h = refl
 same_in base (BadAt at) s f g h = refl
 
-module _ (bytes room movie : ℕ) where
-  by_rows : (r : Rows) (c ed : List ℕ) (scale : ℕ) (ds : List ℕ) → ((n : ℕ) → r ≡ Whole n → offsets true n c ≡ offsets false n c) → of_offsets true r c ed scale movie ds ≡ of_offsets false r c ed scale movie ds
-  by_rows Torn c ed scale ds h = refl
-  by_rows (Whole n) c ed scale ds h = ap (of_edit (edit_of ed scale movie) scale ds) (h n refl)
+same-scale : (s : Option ℕ) (f g : ℕ → Outcome) → ((scale : ℕ) → f scale ≡ g scale) → with_scale s f ≡ with_scale s g
+same-scale None f g h = refl
+same-scale (Some scale) f g h = h scale
 
-  by-durations : (r : Rows) (scale : ℕ) (ed c d : List ℕ) → Same c → of_durations true r bytes room movie scale ed c d ≡ of_durations false r bytes room movie scale ed c d
-  by-durations Torn scale ed c d h = refl
-  by-durations (Whole n) scale ed c d h =
+module _ (bytes room movie : ℕ) where
+  by_rows : (r : Option ℕ) (c ed : List ℕ) (scale : ℕ) (ds : List ℕ) → ((n : ℕ) → r ≡ Some n → offsets true n c ≡ offsets false n c) → of_offsets true r c ed scale movie ds ≡ of_offsets false r c ed scale movie ds
+  by_rows None c ed scale ds h = refl
+  by_rows (Some n) c ed scale ds h = ap (of_edit (edit_of ed scale movie) scale ds) (h n refl)
+
+  by-durations : (r : Option ℕ) (scale : ℕ) (ed c d : List ℕ) → Same c → of_durations true r bytes room movie scale ed c d ≡ of_durations false r bytes room movie scale ed c d
+  by-durations None scale ed c d h = refl
+  by-durations (Some n) scale ed c d h =
       ap (λ (o : Outcome). if ltb bytes (entry_total (entries_of n d)) then no_times reason.Missing else if ltb room (entry_total (entries_of n d)) then no_times reason.NoRoom else o)
       (by_rows (optional_rows c) c ed scale (durations n d) h)
 
@@ -69,7 +71,7 @@ module _ (bytes room movie : ℕ) where
 
   by-media : (ed : List ℕ) (base : ℕ) (m : List ℕ) → Same (child_of ctts (child_of stbl (child_of minf m))) → of_media true bytes room movie ed base m ≡ of_media false bytes room movie ed base m
   unfolding of_media
-  by-media ed base m h = same_in base (first_of mdhd (boxes_of m)) m _ _ (λ at. by-scale (scale_of (child_of mdhd m)) ed base m h)
+  by-media ed base m h = same_in base (first_of mdhd (boxes_of m)) m _ _ (λ at. same-scale (timescale (child_of mdhd m)) _ _ (λ scale. by-scale scale ed base m h))
 
   by-track : (base : ℕ) (t : List ℕ) → Same (child_of ctts (child_of stbl (child_of minf (child_of mdia t)))) → of_track true bytes room movie base t ≡ of_track false bytes room movie base t
   unfolding of_track
@@ -81,5 +83,5 @@ unfolding times_of_moov
 modes_agree moov room h =
     ap (λ (o : Outcome). if ltb most_bytes (length moov) then no_times reason.TooLong else o)
     (same_in 0 (first_of mvhd (boxes_of moov)) moov _ _
-    (λ at. ap (λ (o : Outcome). if has_scale (child_of mvhd moov) then o else no_times reason.Missing)
-    (same_in 0 (video_track moov) moov _ _ (λ at'. by-track (length moov) room (scale_of (child_of mvhd moov)) at' (part_of moov (place_or reason.Missing (video_track moov))) (same_of _ h)))))
+    (λ at. same-scale (timescale (child_of mvhd moov)) _ _
+    (λ movie. same_in 0 (video_track moov) moov _ _ (λ at'. by-track (length moov) room movie at' (part_of moov (found_place (video_track moov))) (same_of _ h)))))

@@ -1,17 +1,16 @@
 -- Where the standard's reading of composition offsets and the Rust's are the same (document 02, d).
-use Rattle.std.specs.Prelude.{ℕ, ◌<◌, ◌^◌, ◌≡◌, List, get_or}
-use Rattle.refusal.specs.declared.Reason.TheVariants as reason
+use Rattle.std.specs.Prelude.{ℕ, ◌<◌, ◌^◌, ◌≡◌, List, get_or, Some}
 use Rattle.slices.specs.Slices.{All}
 use Rattle.boxes.specs.Bytes.{mdia}
-use Rattle.boxes.specs.Places.{place_or, part_of, child_of}
+use Rattle.boxes.specs.Places.{found_place, part_of, child_of}
 use Rattle.boxes.specs.Tracks.{video_track}
-use Rattle.tracks.specs.declared.Rows.TheVariants.{Whole}
-use Rattle.tracks.specs.Tables.{Entry, optional_rows, entries_of}
+use Rattle.tracks.specs.declared.entries.Run.{Run}
+use Rattle.tracks.specs.Tables.{optional_rows, entries_of}
 use Rattle.frame_times.specs.Times.{minf, stbl, ctts}
 
 -- the ctts of a moov's first video track; empty where there is none
 abbrev pub ctts_of : List ℕ → List ℕ
-ctts_of moov = child_of ctts (child_of stbl (child_of minf (child_of mdia (part_of moov (place_or reason.Missing (video_track moov))))))
+ctts_of moov = child_of ctts (child_of stbl (child_of minf (child_of mdia (part_of moov (found_place (video_track moov))))))
 
 -- four bytes whose top bit isn't set
 abbrev pub TopClear : ℕ → Type 0
@@ -19,4 +18,4 @@ TopClear x = x < 2 ^ 31
 
 -- no entry of a whole ctts of version 0 has an offset with its top bit set: those for no frames, and those past the last frame, count too
 abbrev pub NoTopBit : List ℕ → Type 0
-NoTopBit c = (n : ℕ) → optional_rows c ≡ Whole n → get_or c 0 0 ≡ 0 → All (λ (e : Entry). TopClear e.value) (entries_of n c)
+NoTopBit c = (n : ℕ) → optional_rows c ≡ Some n → get_or c 0 0 ≡ 0 → All (λ (e : Run). TopClear e.value) (entries_of n c)

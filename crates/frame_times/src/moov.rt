@@ -1,0 +1,63 @@
+// From the moov to its first video track, in the order of the Rust.
+ghost use Rattle.std.specs.Prelude.{◌≡◌, ℕ, Bool};
+ghost use Rattle.frame_times.specs.Times.{room, times_of_moov};
+ghost use Rattle.frame_times.specs.Found.{of_found};
+ghost use Rattle.frame_times.specs.Steps.{OutcomeAnswered};
+
+use crate::part::Part;
+use crate::track::Track;
+use boxes::MOST_BYTES;
+use boxes::part::inner_child;
+use boxes::read::code;
+use boxes::track::find_video_track;
+use refusal::{Reason, Refusal};
+use ticks::FrameTimes;
+use tracks::tables::timescale;
+
+// The first video track of a moov.
+#[tactic(auto, using(choice::proofs::Tests::tests), unfolding(crate::specs::Times::times_of_moov, crate::specs::Times::of_track, crate::specs::Times::of_media, crate::specs::Times::of_tables))]
+fn video_track(moov: &[u8]) -> Result<Track<'_>, Refusal>
+    ensures { (standard : Bool) (room : ℕ) → times_of_moov standard moov.now room ≡ of_found standard room result }
+{
+    let most = moov.len();
+    if MOST_BYTES < most {
+        return Err(Reason::TooLong.at(0));
+    }
+    let moov = Part {
+        bytes: moov,
+        base: 0,
+    };
+    let mvhd = moov.child(b"mvhd")?;
+    let movie = timescale(mvhd.bytes).ok_or(Reason::Missing.at(0))?;
+    let trak = moov.found(find_video_track(moov.bytes))?;
+    let mdia = trak.child(b"mdia")?;
+    let mdhd = mdia.child(b"mdhd")?;
+    let scale = timescale(mdhd.bytes).ok_or(Reason::Missing.at(0))?;
+    if (scale == 0) | (movie == 0) {
+        return Err(Reason::Missing.at(0));
+    }
+    let minf = mdia.child(b"minf")?;
+    let stbl = minf.child(b"stbl")?;
+    let stts = stbl.child(b"stts")?;
+    Ok(Track {
+        most_frames: most,
+        movie: movie as u64,
+        scale: scale as u64,
+        edts: inner_child(trak.bytes, code(b"edts")),
+        ctts: inner_child(stbl.bytes, code(b"ctts")),
+        stts: stts.bytes,
+    })
+}
+
+// Answers with a moov, and leaves the working slices as they happen to be.
+pub(crate) fn of_moov(
+    moov: &[u8],
+    standard: bool,
+    starts: &mut [i64],
+    a: &mut [i64],
+    b: &mut [i64],
+) -> Result<FrameTimes, Refusal>
+    ensures { OutcomeAnswered (times_of_moov standard moov.now (room starts.old a.old b.old)) result starts.old starts.new }
+{
+    video_track(moov)?.times(standard, starts, a, b)
+}

@@ -25,7 +25,7 @@ Meets b at (Err refusal) = (refusal.reason ≡ reason.Missing → boxes_at b at 
 by-header : (b : List ℕ) (at : ℕ) (h : Header) → Lies at (length b) h → boxes_at b at ≡ after_header h at (boxes_at b) → Meets b at (reached_by h at)
 by-header b at Short z e = (λ n. e, λ n. absurd (grind arith))
 by-header b at Bad z e = (λ n. absurd (grind arith), λ n. e)
-by-header b at (Whole kind start len next) z e = (e, omega arith, omega arith)
+by-header b at (Whole found) z e = (e, omega arith, omega arith)
 
 met : (b : List ℕ) (at : ℕ) → Meets b at (children_at b at)
 unfolding children_at

@@ -23,6 +23,7 @@ use Rattle.refusal.specs.declared.Refusal.{Refusal}
 use Rattle.rows.specs.declared.Origin.{Origin as Origin·of}
 use Rattle.rules.specs.Lookups.{continues_at, segment_of_frame, segment_of_time}
 use Rattle.rules.specs.Rules.{check_of}
+use Rattle.std.specs.Result.{result_ok}
 use Rattle.table.specs.Layout.{table_of}
 use Rattle.table_rows.specs.Rows.{Rowed}
 use Rattle.ticks.specs.Ticks.{ticks_to_us}
@@ -148,7 +149,7 @@ child-place = record { types = child-place·.ended; Learnt = λ κs a z e. Child
 
 -- boxes::child: child(payload, kind) answers ans
 abbrev pub Child : Bor (List ℕ) → ℕ → Bor (List ℕ) → Type 0
-Child payload kind ans = PartAt payload (child_place payload.now kind) ans
+Child payload kind ans = PartAt payload (result_ok (child_place payload.now kind)) ans
 
 abbrev pub child : Promise
 child = record { types = child·.ended; Learnt = λ κs a z e. Child a.0 a.1.0 z }
@@ -162,7 +163,7 @@ find-box-place = record { types = find-box-place·.ended; Learnt = λ κs a z e.
 
 -- boxes::find_box: find_box(bytes, start, end, kind, text-types) answers ans
 abbrev pub FindBox : Bor (List ℕ) → ℕ → ℕ → ℕ → Bool → Bor (List ℕ) → Type 0
-FindBox bytes start end kind text-types ans = PartAt bytes (find_box_place bytes.now start end kind text-types) ans
+FindBox bytes start end kind text-types ans = PartAt bytes (result_ok (find_box_place bytes.now start end kind text-types)) ans
 
 abbrev pub find-box : Promise
 find-box = record { types = find-box·.ended; Learnt = λ κs a z e. FindBox a.0 a.1.0 a.1.1.0 a.1.1.1.0 a.1.1.1.1.0 z }
@@ -176,7 +177,7 @@ table-text-place = record { types = table-text-place·.ended; Learnt = λ κs a 
 
 -- boxes::table_text: table_text(file) answers ans
 abbrev pub TableText : Bor (List ℕ) → Bor (List ℕ) → Type 0
-TableText file ans = PartAt file (table_text_place file.now) ans
+TableText file ans = PartAt file (result_ok (table_text_place file.now)) ans
 
 abbrev pub table-text : Promise
 table-text = record { types = table-text·.ended; Learnt = λ κs a z e. TableText a.0 z }

@@ -4,6 +4,7 @@
 -- proof need be read; which calls have that theorem, Quoted.antt and FaceQuoted.antt in proofs/ say.
 use Rattle.std.specs.Prelude.{ℕ, ◌+◌, ◌-◌, ◌*◌, ◌≤◌, ◌<◌, Bool, true, false, List, [], ◌↔◌, ◌≡◌, ℤ, neg_ℤ, length, get_or, take, drop, Result, Ok}
 use Rattle.std.specs.Borrow.{Bor}
+use Rattle.std.specs.Result.{result_ok}
 use Rattle.refusal.specs.declared.Reason.{Reason}
 use Rattle.refusal.specs.declared.Reason.TheVariants as reason
 use Rattle.refusal.specs.declared.Refusal.{Refusal}
@@ -238,11 +239,11 @@ pub record Meanings : Type 0 where
   pub box-size : (b : List ℕ) (remaining : ℕ) (r : Result BoxSize Refusal) → calls.BoxSize b remaining r ↔ (r ≡ box_size b remaining)
   pub children : (b : List ℕ) (at : ℕ) (r : Result BoxAt Refusal) → calls.Children b at r ↔ (r ≡ children_at b at)
   pub child-place : (b : List ℕ) (kind : ℕ) (r : Result Place Refusal) → calls.ChildPlace b kind r ↔ (r ≡ child_place b kind)
-  pub child : (b : Bor (List ℕ)) (kind : ℕ) (r : Bor (List ℕ)) → calls.Child b kind r ↔ PartAt b (child_place b.now kind) r
+  pub child : (b : Bor (List ℕ)) (kind : ℕ) (r : Bor (List ℕ)) → calls.Child b kind r ↔ PartAt b (result_ok (child_place b.now kind)) r
   pub find-box-place : (b : List ℕ) (start end kind : ℕ) (text : Bool) (r : Result Place Refusal) → calls.FindBoxPlace b start end kind text r ↔ (r ≡ find_box_place b start end kind text)
-  pub find-box : (b : Bor (List ℕ)) (start end kind : ℕ) (text : Bool) (r : Bor (List ℕ)) → calls.FindBox b start end kind text r ↔ PartAt b (find_box_place b.now start end kind text) r
+  pub find-box : (b : Bor (List ℕ)) (start end kind : ℕ) (text : Bool) (r : Bor (List ℕ)) → calls.FindBox b start end kind text r ↔ PartAt b (result_ok (find_box_place b.now start end kind text)) r
   pub table-text-place : (b : List ℕ) (r : Result Place Refusal) → calls.TableTextPlace b r ↔ (r ≡ table_text_place b)
-  pub table-text : (b : Bor (List ℕ)) (r : Bor (List ℕ)) → calls.TableText b r ↔ PartAt b (table_text_place b.now) r
+  pub table-text : (b : Bor (List ℕ)) (r : Bor (List ℕ)) → calls.TableText b r ↔ PartAt b (result_ok (table_text_place b.now)) r
   pub video-frame-times-of-moov : (moov : List ℕ) (standard : Bool) (starts a b starts' a' b' : List ℤ) (r : Result FrameTimes Refusal)
       → calls.VideoFrameTimesOfMoov moov standard starts a b r starts' a' b' ↔ frames.MoovAnswers standard moov starts a b r starts' a' b'
   pub mcraw-times : (ts starts work starts' work' : List ℤ) (r : Result FrameTimes Refusal) → calls.McrawTimes ts starts work r starts' work' ↔ McrawAnswers ts starts work r starts' work'

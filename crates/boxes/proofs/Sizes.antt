@@ -15,7 +15,7 @@ use Rattle.boxes.specs.Boxes.{fitting_in, size_of, header_by, header_at}
 use Rattle.boxes.specs.declared.BoxSize.{BoxSize}
 use Rattle.boxes.specs.declared.Header.{Header}
 use Rattle.boxes.specs.declared.Header.TheVariants.{Whole, Short, Bad}
-use Rattle.boxes.proofs.Parts.{from}
+use Rattle.std.proofs.lemmas.List.{take_rest}
 
 -- a header has 8 bytes at least, and its box no fewer and no more than remain
 abbrev pub Fitting : ℕ → Option BoxSize → Type 0
@@ -56,7 +56,7 @@ module _ (s : List ℕ) (at : ℕ) where
   -- the code has the bytes from `at` on as `&s[at..]`
   pub by_size : {k : ℕ} {z : Option BoxSize} → 8 ≤ length s - at → k ≡ be32_at s (at + 4) → z ≡ size_of (take (length s - at) (drop at s)) (length s - at) → header_by at k z ≡ header_at s at
   unfolding header_at
-  by_size h k z = rw (le-ltb _ _ h, k, z, from at s)
+  by_size h k z = rw (le-ltb _ _ h, k, z, take_rest s at)
 
   -- a size of 32 bits that fits, by the one test that the code makes
   pub plain : {n k : ℕ} → 8 ≤ length s - at → length s < 2 ^ 64 → n ≡ be32_at s at → n < 2 ^ 32 → (n + 18446744073709551608) % 2 ^ 64 ≤ length s - at - 8 → k ≡ be32_at s (at + 4)

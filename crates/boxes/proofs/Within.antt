@@ -22,7 +22,7 @@ use Rattle.boxes.specs.declared.Place.{Place}
 use Rattle.refusal.specs.declared.Reason.TheVariants as reason
 use Rattle.refusal.specs.declared.Refusal.{Refusal}
 use Rattle.refusal.specs.Refusals.{refusal_at}
-use Rattle.boxes.specs.Steps.{offset_in, Within, Walked}
+use Rattle.boxes.specs.Steps.{offset_in, Within, WalkStays}
 use Rattle.boxes.proofs.Sizes.{Lies, header-lies}
 use Rattle.boxes.proofs.Parts.{length_part}
 
@@ -58,40 +58,40 @@ searched-inside : (l : ℕ) (text : Bool) (b : Boxes) → Inside l b → Inside 
 searched-inside l true b i = textual-inside l b i
 searched-inside l false b i = i
 
-first-inside : (l : ℕ) (test : ℕ → ℕ → ℕ → Bool) (b : Boxes) → Inside l b → Walked l (first_such test b)
+first-inside : (l : ℕ) (test : ℕ → ℕ → ℕ → Bool) (b : Boxes) → Inside l b → WalkStays l (first_such test b)
 unfolding first_such
 first-inside l test clean i = tt
 first-inside l test (bad at) i = i
 first-inside l test (box at k start len rest) i =
-    either (Walked l) (test k start len) (λ e. i.0) (λ e. first-inside l test rest i.2)
+    either (WalkStays l) (test k start len) (λ e. i.0) (λ e. first-inside l test rest i.2)
 
 -- every walk over a list stays within it, and so does a search, with text types or without
-pub walk-stays : (test : ℕ → ℕ → ℕ → Bool) (s : List ℕ) {w : Walk} → w ≡ first_such test (boxes_of s) → Walked (length s) w
-walk-stays test s e = subst (Walked (length s)) (sym e) (first-inside (length s) test (boxes_of s) (inside s))
+pub walk-stays : (test : ℕ → ℕ → ℕ → Bool) (s : List ℕ) {w : Walk} → w ≡ first_such test (boxes_of s) → WalkStays (length s) w
+walk-stays test s e = subst (WalkStays (length s)) (sym e) (first-inside (length s) test (boxes_of s) (inside s))
 
-pub search-stays : (kind : ℕ) (text : Bool) (s : List ℕ) {w : Walk} → w ≡ first_of kind (searched text (boxes_of s)) → Walked (length s) w
+pub search-stays : (kind : ℕ) (text : Bool) (s : List ℕ) {w : Walk} → w ≡ first_of kind (searched text (boxes_of s)) → WalkStays (length s) w
 search-stays kind text s e =
-    subst (Walked (length s)) (sym e)
+    subst (WalkStays (length s)) (sym e)
     (first-inside (length s) (λ k start len. eqb k kind) (searched text (boxes_of s)) (searched-inside (length s) text (boxes_of s) (inside s)))
 
 -- so do its offset and its place, whatever is answered where nothing was found
-pub offset-within : (l : ℕ) (w : Walk) → Walked l w → offset_in w ≤ l
+pub offset-within : (l : ℕ) (w : Walk) → WalkStays l w → offset_in w ≤ l
 offset-within l (Found p) h = omega arith
 offset-within l End h = omega arith
 offset-within l (BadAt at) h = omega arith
 
-pub walked_within : (l : ℕ) (w : Walk) → Walked l w → Within l (found_place w)
+pub walked_within : (l : ℕ) (w : Walk) → WalkStays l w → Within l (found_place w)
 walked_within l (Found p) h = h
 walked_within l End h = tt
 walked_within l (BadAt at) h = tt
 
-place-of-within : (l : ℕ) (w : Walk) → Walked l w → Within l (result_ok (place_of w))
+place-of-within : (l : ℕ) (w : Walk) → WalkStays l w → Within l (result_ok (place_of w))
 place-of-within l (Found p) h = h
 place-of-within l End h = tt
 place-of-within l (BadAt at) h = tt
 
 -- a walk in a part stays within the whole
-moved-stays : (by l m : ℕ) (w : Walk) → Walked m w → by + m ≤ l → Walked l (moved_walk by w)
+moved-stays : (by l m : ℕ) (w : Walk) → WalkStays m w → by + m ≤ l → WalkStays l (moved_walk by w)
 moved-stays by l m (Found p) h k = omega arith
 moved-stays by l m End h k = tt
 moved-stays by l m (BadAt at) h k = omega arith
@@ -107,7 +107,7 @@ ok-within l (Some p) e h = h
 ok-within l None e h = tt
 
 -- a place that is answered, as the code has it
-pub fits_in : (l : ℕ) (w : Walk) (e : Refusal) {o : Option Place} {r : Result Place Refusal} {p : Place} → Walked l w → o ≡ found_place w → r ≡ ok_or o e → r ≡ Ok p → p.start + p.len ≤ l
+pub fits_in : (l : ℕ) (w : Walk) (e : Refusal) {o : Option Place} {r : Result Place Refusal} {p : Place} → WalkStays l w → o ≡ found_place w → r ≡ ok_or o e → r ≡ Ok p → p.start + p.len ≤ l
 fits_in l w e {o} h f g k =
     subst (λ (r : Result Place Refusal). Within l (result_ok r)) (sym g ∙ k) (ok-within l o e (subst (Within l) (sym f) (walked_within l w h)))
 

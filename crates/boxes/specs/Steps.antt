@@ -24,7 +24,7 @@ Within l (Some p) = p.start + p.len ≤ l
 Within l None = Unit {0}
 
 -- a walk stays within so many bytes: what it found, or the bad header's 8 bytes
-abbrev pub Walked : ℕ → Walk → Type 0
-Walked l (Found p) = p.start + p.len ≤ l
-Walked l End = Unit {0}
-Walked l (BadAt at) = at + 8 ≤ l
+abbrev pub WalkStays : ℕ → Walk → Type 0
+WalkStays l (Found p) = p.start + p.len ≤ l
+WalkStays l End = Unit {0}
+WalkStays l (BadAt at) = at + 8 ≤ l

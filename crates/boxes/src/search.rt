@@ -1,7 +1,7 @@
 // The walk over the boxes of some bytes.
 ghost use Rattle.std.specs.Prelude.{◌≡◌, length};
 ghost use Rattle.boxes.specs.Boxes.{boxes_of, searched, first_of, text_byte, is_text};
-ghost use Rattle.boxes.specs.Steps.{stop_at, Walked};
+ghost use Rattle.boxes.specs.Steps.{stop_at, WalkStays};
 
 use crate::size::header_at;
 use crate::{Header, Walk};
@@ -55,7 +55,7 @@ pub(crate) fn find(s: &[u8], kind: u32, text_types: bool) -> Walk
 // The first child of a type.
 pub fn find_child(s: &[u8], kind: u32) -> Walk
     ensures first { result ≡ first_of kind (boxes_of s.now) }
-    ensures stays { Walked (length s.now) result }
+    ensures stays { WalkStays (length s.now) result }
 {
     find(s, kind, false)
 }

@@ -1,7 +1,7 @@
 // The first video track of a moov.
 ghost use Rattle.std.specs.Prelude.{◌≡◌, ◌+◌, ◌≤◌, length};
 ghost use Rattle.boxes.specs.Tracks.{is_video, is_video_track, video_track};
-ghost use Rattle.boxes.specs.Steps.{Walked};
+ghost use Rattle.boxes.specs.Steps.{WalkStays};
 
 use crate::part::inner_child;
 use crate::read::{be32, code};
@@ -36,7 +36,7 @@ fn is_video_track(moov: &[u8], child: BoxAt) -> bool
 // The first video track of a moov, as video_frame_times_of_moov looks for it.
 pub fn find_video_track(moov: &[u8]) -> Walk
     ensures first { result ≡ video_track moov.now }
-    ensures stays { Walked (length moov.now) result }
+    ensures stays { WalkStays (length moov.now) result }
 {
     let mut at = 0;
     loop {

@@ -16,13 +16,13 @@ pub(crate) struct Part<'a> {
 
 impl<'a> Part<'a> {
     ghost use Rattle.boxes.specs.Bytes.{be32_at};
-    ghost use Rattle.boxes.specs.Steps.{Walked};
+    ghost use Rattle.boxes.specs.Steps.{WalkStays};
     ghost use Rattle.frame_times.specs.Times.{Outcome, in_child, required};
     ghost use Rattle.frame_times.specs.Found.{onwards};
 
     // The payload that a walk over this part found, which has to be there: 31 after a clean end, 36 with a bad header's offset in the moov.
     pub(crate) fn found(self, w: Walk) -> Result<Part<'a>, Refusal>
-        requires { Walked (length self.bytes.now) w }
+        requires { WalkStays (length self.bytes.now) w }
         ensures { (next : ℕ → List ℕ → Outcome) → required self.entry.base w self.entry.bytes.now next ≡ onwards result next }
     {
         match w {

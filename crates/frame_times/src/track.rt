@@ -9,7 +9,7 @@ use tracks::edits::edit_of;
 use tracks::entries::Table;
 use tracks::tables::lay;
 
-// A video track: the most frames that it can have, which is the moov's bytes, the movie's timescale and its own, neither of which is 0, and the
+// A video track: the most frames that it can have, which is the moov's bytes, the movie's timescale, which isn't 0, and its own, and the
 // payloads of its tables. An edts or a ctts that is absent is empty.
 #[derive(Clone, Copy)]
 pub(crate) struct Track<'a> {

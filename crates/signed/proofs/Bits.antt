@@ -1,15 +1,14 @@
 -- A signed local is bits: each use of it reads back what was written. Assumes nothing.
 --     read, reads, back      what is read back from the bits of z, which is z where an i64 holds it
---     le_read, lt-read       a test of what is read back is the test of the numbers
---     same_bits, same-read   numbers with the same bits are the same
+--     lt-read                a test of what is read back is the test of the numbers
 use mathlib.Core.Path.{◌≡◌, sym, ap, ◌∙◌}
 use mathlib.Core.Bool.{Bool}
 use lib.IntN.{ℤ}
-use lib.Signed.{le_z, lt_z}
+use lib.Signed.{lt_z}
 use mir.Syntax.{w64}
 use mir.Val.{SFits, to_z, of_z}
 use mir.Facts.{to_z-of_z}
-use Rattle.signed.specs.Steps.{I64}
+use Rattle.signed.specs.Fits.{I64}
 
 -- what the machine reads back from the bits of z
 abbrev pub read : ℤ → ℤ
@@ -25,8 +24,5 @@ pub back : (z : ℤ) → I64 z → read z ≡ z
 back z h = to_z-of_z {w = w64} (record { sfits = h })
 
 module _ (a b : ℤ) (p : I64 a) (q : I64 b) (t : Bool) where
-  pub le_read : le_z (read a) (read b) ≡ t → le_z a b ≡ t
-  le_read e = ap (λ z. le_z z b) (sym (back a p)) ∙ ap (le_z (read a)) (sym (back b q)) ∙ e
-
   pub lt-read : lt_z (read a) (read b) ≡ t → lt_z a b ≡ t
   lt-read e = ap (λ z. lt_z z b) (sym (back a p)) ∙ ap (lt_z (read a)) (sym (back b q)) ∙ e

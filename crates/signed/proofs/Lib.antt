@@ -2,6 +2,5 @@ pub mod Order
 pub mod Up
 pub mod Bits
 pub mod Ranges
-pub mod Twos
 pub mod Signs
 pub mod Quotients

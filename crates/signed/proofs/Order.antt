@@ -1,13 +1,14 @@
--- The order of ℤ as equations of its tests, `le_z a b ≡ true`, and equality as a test. Assumes nothing.
-use mathlib.Core.Path.{◌≡◌, refl, sym, ap, ◌∙◌}
+-- The order of ℤ as equations of its tests, `le_z a b ≡ true`, and numbers that aren't equal. Assumes nothing.
+use mathlib.Core.Path.{◌≡◌, refl, sym, ap}
 use mathlib.Core.Bool.{true, false}
 use native.Mathlib.Omega.{arith}
 use native.Mathlib.Nat.{le_antisymm}
-use borrow.Author.Tests.{leb-true, leb-false, ltb-true, ltb-false, le-leb, lt-leb, eq-eqb, ne_eqb, eqb-true}
+use borrow.Author.Tests.{leb-true, leb-false, ltb-true, ltb-false, le-leb, lt-leb}
 use lib.IntN.{ℤ, pos, negsuc}
 use lib.Signed.{le_z, lt_z}
-use Rattle.choice.proofs.Tests.{tf}
-use Rattle.signed.specs.Signed.{eq_z}
+use Rattle.std.specs.Ordering.{int_eq}
+use Rattle.std.proofs.lemmas.Bool.Decides.{Decides-int_eq}
+use Rattle.conditions.proofs.Tests.{tf, decide}
 
 pub le_refl : (a : ℤ) → le_z a a ≡ true
 le_refl (pos a) = le-leb a a (omega arith)
@@ -51,22 +52,6 @@ not-lt-le (negsuc a) (negsuc b) h = le-leb a b (ltb-false b a h)
 pub lt-le : (a b : ℤ) → lt_z a b ≡ true → le_z a b ≡ true
 lt-le a b h = le_total b a (lt_not_le a b h)
 
--- ---- equality
-pub eq_z-refl : (z : ℤ) → eq_z z z ≡ true
-eq_z-refl (pos n) = eq-eqb n n refl
-eq_z-refl (negsuc n) = eq-eqb n n refl
-
-pub eq_z-yes : {a b : ℤ} → a ≡ b → eq_z a b ≡ true
-eq_z-yes {a} {b} e = ap (λ (z : ℤ). eq_z a z) (sym e) ∙ eq_z-refl a
-
-pub eq_z-no : (a b : ℤ) → (a ≡ b → ⊥) → eq_z a b ≡ false
-eq_z-no (pos a) (pos b) f = ne_eqb a b (λ e. f (ap pos e))
-eq_z-no (pos a) (negsuc b) f = refl
-eq_z-no (negsuc a) (pos b) f = refl
-eq_z-no (negsuc a) (negsuc b) f = ne_eqb a b (λ e. f (ap negsuc e))
-
-pub eq_z-true : (a b : ℤ) → eq_z a b ≡ true → a ≡ b
-eq_z-true (pos a) (pos b) e = ap pos (eqb-true a b e)
-eq_z-true (pos a) (negsuc b) e = tf (sym e)
-eq_z-true (negsuc a) (pos b) e = tf (sym e)
-eq_z-true (negsuc a) (negsuc b) e = ap negsuc (eqb-true a b e)
+-- ---- equality, beside std's `Decides-int_eq`
+pub int_eq-no : (a b : ℤ) → (a ≡ b → ⊥) → int_eq a b ≡ false
+int_eq-no a b f = decide (int_eq a b) (λ t. absurd (f ((Decides-int_eq a b).0 t))) (λ e. e)

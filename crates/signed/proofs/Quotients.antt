@@ -7,7 +7,7 @@ use lib.Arith.{digits_div}
 use native.Mathlib.Omega.{arith}
 use lib.IntN.{ℤ, pos, negsuc, neg_ℤ, nat_abs, ◌+ℤ◌, ◌-ℤ◌, +ℤ_idl}
 use lib.Dec.{leb→le}
-use lib.Signed.{◌≤ℤ◌, lt_z, mag, quot_z}
+use lib.Signed.{◌≤ℤ◌, lt_z, quot_z}
 use mir.Syntax.{w64}
 use mir.Val.{SFits, of_z}
 use mir.Facts.{to_z-of_z}
@@ -78,21 +78,21 @@ below_at k n hk p hn =
     let f₅ : SFits w64 (neg_ℤ (pos q)) = negate q D.small in
     record { first = fit e₁ f₁; then = D; last = fit e₅ f₅; is = back e₅ f₅ ∙ ap (λ (m : ℕ). neg_ℤ (pos m)) (halves (suc k) n p) }
 
-pub below : (n d : ℤ) → mag n < 2 ^ 62 → pos 1 ≤ℤ d → nat_abs d < 2 ^ 62 → SFits w64 n → lt_z (read n) (pos 0) ≡ true → Below n d
+pub below : (n d : ℤ) → nat_abs n ≤ 2 ^ 62 → pos 1 ≤ℤ d → nat_abs d < 2 ^ 62 → SFits w64 n → lt_z (read n) (pos 0) ≡ true → Below n d
 below n d hn pd hd f t = at n d hn pd hd (rw (to_z-of_z f) at t)
   where
-    at : (n d : ℤ) → mag n < 2 ^ 62 → pos 1 ≤ℤ d → nat_abs d < 2 ^ 62 → lt_z n (pos 0) ≡ true → Below n d
+    at : (n d : ℤ) → nat_abs n ≤ 2 ^ 62 → pos 1 ≤ℤ d → nat_abs d < 2 ^ 62 → lt_z n (pos 0) ≡ true → Below n d
     at (pos k) d hn pd hd t = let h : k < 0 = ltb-true k 0 t in absurd (omega arith)
-    at (negsuc k) (pos m) hn pd hd t = below_at k m hn (leb→le 1 m pd.le) hd
+    at (negsuc k) (pos m) hn pd hd t = below_at k m (omega arith) (leb→le 1 m pd.le) hd
     at (negsuc k) (negsuc m) hn pd hd t = absurd pd.le
 
-pub above : (n d : ℤ) → mag n < 2 ^ 62 → pos 1 ≤ℤ d → nat_abs d < 2 ^ 62 → SFits w64 n → lt_z (read n) (pos 0) ≡ false → Above n d
+pub above : (n d : ℤ) → nat_abs n ≤ 2 ^ 62 → pos 1 ≤ℤ d → nat_abs d < 2 ^ 62 → SFits w64 n → lt_z (read n) (pos 0) ≡ false → Above n d
 above n d hn pd hd f t = at n d hn pd hd (rw (to_z-of_z f) at t)
   where
-    at : (n d : ℤ) → mag n < 2 ^ 62 → pos 1 ≤ℤ d → nat_abs d < 2 ^ 62 → lt_z n (pos 0) ≡ false → Above n d
+    at : (n d : ℤ) → nat_abs n ≤ 2 ^ 62 → pos 1 ≤ℤ d → nat_abs d < 2 ^ 62 → lt_z n (pos 0) ≡ false → Above n d
     at (negsuc k) d hn pd hd t = let z : ◌≡◌ {A = ℕ} 0 1 = cc in absurd (omega arith)
     at (pos k) (negsuc m) hn pd hd t = absurd pd.le
     at (pos k) (pos m) hn pd hd t =
         let p : 0 < m = leb→le 1 m pd.le in
-        let D : Divided (read (pos k)) (pos m) k m = divided _ k m (to_z-of_z {w = w64} {z = pos k} (record { sfits = omega arith })) (omega arith) p hd in
+        let D : Divided (read (pos k)) (pos m) k m = divided _ k m (to_z-of_z {w = w64} {z = pos k} (record { sfits = omega arith })) hn p hd in
         record { then = D; is = D.is ∙ ap pos (halves k m p) }

@@ -1,65 +1,55 @@
--- What `within` gives, by where the number lies; a magnitude with a sign as an i64. Assumes nothing.
-use Rattle.std.specs.Prelude.{if◌then◌else◌}
-use mathlib.Core.Path.{◌≡◌, refl, sym, ap, ◌∙◌, subst}
+-- Whether an i64 holds a number: the test, what it answers of each, and what std's checked methods answer. Assumes nothing.
+use Rattle.std.specs.Option.{SomeIff}
+use Rattle.std.proofs.lemmas.Bool.{or_parts}
+use Rattle.std.specs.Prelude.{if◌then◌else◌, ◌||◌, Option, Some, None}
+use mathlib.Core.Path.{◌≡◌, sym, ap, ◌∙◌}
 use mathlib.Core.Bool.{Bool, true, false}
 use Prim.Native.Nat.{ℕ, zero, suc, ◌≤◌, ◌<◌, ◌^◌}
 use native.Mathlib.Omega.{arith}
-use lib.IntN.{ℤ, pos, negsuc, neg_ℤ, ◌-ℤ◌, +ℤ_idl}
+use lib.IntN.{ℤ, pos, negsuc}
 use lib.Signed.{mag}
 use mir.Syntax.{w64}
-use mir.Val.{SFits, to_z}
-use mir.Facts.{to_z_pos}
-use borrow.Author.Tests.{lt-ltb, le-ltb}
-use Rattle.signed.specs.declared.Held.TheVariants.{Is, Outside}
-use Rattle.signed.specs.Signed.{within}
-use Rattle.signed.specs.Steps.{I64, with_sign}
-use Rattle.signed.proofs.Bits.{read, reads}
+use mir.Val.{SFits}
+use borrow.Author.Tests.{lt-ltb, le-ltb, ltb-false}
+use Rattle.conditions.proofs.Tests.{decide}
+use Rattle.signed.specs.Signed.{is_outside, as_i64, with_sign}
+use Rattle.signed.specs.Fits.{I64}
 
-pub in-range : (z : ℤ) → I64 z → Is z ≡ within z
-in-range z h = sym (ap (λ (t : Bool). if t then Is z else Outside) (lt-ltb (mag z) (2 ^ 63) h))
+pub not_outside : (z : ℤ) → I64 z → is_outside z ≡ false
+not_outside (pos n) h = le-ltb 9223372036854775807 n (omega arith)
+not_outside (negsuc n) h = ap (λ (t : Bool). t || false) (le-ltb 9223372036854775807 n (omega arith))
 
-pub out_of_range : (z : ℤ) → 2 ^ 63 ≤ mag z → Outside ≡ within z
-out_of_range z h = sym (ap (λ (t : Bool). if t then Is z else Outside) (le-ltb (mag z) (2 ^ 63) h))
+pub outside : (z : ℤ) → 2 ^ 63 ≤ mag z → is_outside z ≡ true
+outside (pos n) h = lt-ltb 9223372036854775807 n h
+outside (negsuc n) h = ap (λ (t : Bool). t || false) (lt-ltb 9223372036854775807 n h)
 
-mag-neg-lt : (n : ℕ) → n ≤ 2 ^ 63 → mag (neg_ℤ (pos n)) < 2 ^ 63
-mag-neg-lt zero h = omega arith
-mag-neg-lt (suc n) h = omega arith
+pub inside : (z : ℤ) → is_outside z ≡ false → I64 z
+inside (pos n) e = omega (arith, ltb-false 9223372036854775807 n e)
+inside (negsuc n) e = omega (arith, ltb-false 9223372036854775807 n (or_parts _ _ e).0)
 
-mag-neg-ge : (n : ℕ) → 2 ^ 63 < n → 2 ^ 63 ≤ mag (neg_ℤ (pos n))
-mag-neg-ge zero h = absurd (omega arith)
-mag-neg-ge (suc n) h = omega arith
+pub is_some : (z : ℤ) → I64 z → Some z ≡ as_i64 z
+is_some z h = sym (ap (λ (t : Bool). if t then None else Some z) (not_outside z h))
+
+pub is_none : (z : ℤ) → 2 ^ 63 ≤ mag z → None ≡ as_i64 z
+is_none z h = sym (ap (λ (t : Bool). if t then None else Some z) (outside z h))
 
 -- a magnitude that no sign brings into range
-pub far : (neg : Bool) (n : ℕ) → 2 ^ 63 < n → Outside ≡ within (with_sign neg n)
-far true n h = out_of_range (neg_ℤ (pos n)) (mag-neg-ge n h)
-far false n h = out_of_range (pos n) (omega arith)
+pub far : (negative : Bool) (n : ℕ) → 2 ^ 63 < n → None ≡ as_i64 (with_sign negative n)
+far true zero h = absurd (omega arith)
+far true (suc n) h = is_none (negsuc n) (omega arith)
+far false n h = is_none (pos n) (omega arith)
 
-pub above : (neg : Bool) (n : ℕ) → neg ≡ false → 2 ^ 63 ≤ n → Outside ≡ within (with_sign neg n)
-above neg n e h = subst (λ (b : Bool). Outside ≡ within (with_sign b n)) (sym e) (out_of_range (pos n) h)
+-- the answer of `checked_add` and the like
+pub checked_is : (r : Option ℤ) (z : ℤ) → SomeIff r (SFits w64 z) z → r ≡ as_i64 z
+checked_is None z h = decide (is_outside z) (λ e. rw e) (λ e. absurd (h (record { sfits = inside z e })))
+checked_is (Some x) z h = ap Some h.1 ∙ is_some z h.0.sfits
 
-pub least : (neg : Bool) (n : ℕ) → neg ≡ true → n ≡ 2 ^ 63 → Is (negsuc 9223372036854775807) ≡ within (with_sign neg n)
-least neg n e h = sym (λ i. within (with_sign (e i) (h i)))
+-- what an answer says of the number
+none_some : {z : ℤ} → ◌≡◌ {A = Option ℤ} None (Some z) → ⊥
+none_some e = let n : ◌≡◌ {A = ℕ} 0 1 = cc in omega arith
 
--- a word below 2^63, as it is cast, and as its negation
-pub kept : (neg : Bool) (n : ℕ) → neg ≡ false → n < 2 ^ 63 → Is (to_z w64 n) ≡ within (with_sign neg n)
-kept neg n e f = ap Is (to_z_pos w64 f) ∙ in-range (pos n) f ∙ sym (λ i. within (with_sign (e i) n))
+pub held : (z y : ℤ) → as_i64 z ≡ Some y → (is_outside z ≡ false) × (y ≡ z)
+held z y e = decide (is_outside z) (λ t. absurd (none_some (rw t at e))) (λ f. let s : Some z ≡ Some y = rw f at e in (f, cc))
 
-negated-is : (n : ℕ) → n < 2 ^ 63 → pos 0 -ℤ to_z w64 n ≡ neg_ℤ (pos n)
-negated-is n f = ap (λ (z : ℤ). pos 0 -ℤ z) (to_z_pos w64 f) ∙ +ℤ_idl (neg_ℤ (pos n))
-
-pub negated_fits : (n : ℕ) → n < 2 ^ 63 → SFits w64 (pos 0 -ℤ to_z w64 n)
-negated_fits n f = subst (λ (z : ℤ). SFits w64 z) (sym (negated-is n f)) (record { sfits = mag-neg-lt n (omega arith) })
-
--- -n - 1, as it is made
-pub less_one : (n : ℕ) → n < 2 ^ 63 → read (pos 0 -ℤ to_z w64 n) -ℤ pos 1 ≡ negsuc n
-less_one n f = ap (λ (z : ℤ). z -ℤ pos 1) (reads (negated_fits n f) ∙ negated-is n f) ∙ one_less n
-  where
-    one_less : (n : ℕ) → neg_ℤ (pos n) -ℤ pos 1 ≡ negsuc n
-    one_less zero = refl
-    one_less (suc n) = ap negsuc (omega arith)
-
-pub negated : (neg : Bool) (n : ℕ) → neg ≡ true → n < 2 ^ 63 → Is (read (pos 0 -ℤ to_z w64 n)) ≡ within (with_sign neg n)
-negated neg n e f =
-    ap Is (reads (negated_fits n f) ∙ negated-is n f)
-    ∙ in-range (neg_ℤ (pos n)) (mag-neg-lt n (omega arith))
-    ∙ sym (λ i. within (with_sign (e i) n))
+pub lost : (z : ℤ) → as_i64 z ≡ None → is_outside z ≡ true
+lost z e = decide (is_outside z) (λ t. t) (λ f. absurd (none_some (sym (rw f at e))))

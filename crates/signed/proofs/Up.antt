@@ -1,4 +1,4 @@
--- A signed 64-bit number as a natural one: `up z` is z + 2 ^ 63. `omega` does not read ℤ, and reads this.
+-- A signed 64-bit number as a natural one: `up z` is z + 2 ^ 63.
 -- Each test and operation of ℤ that the code uses has one law in terms of `up`. Assumes nothing.
 use mathlib.Core.Path.{◌≡◌, refl, sym}
 use mathlib.Core.Bool.{Bool, true, false, cond}
@@ -8,8 +8,8 @@ use borrow.Author.Tests.{leb-true, leb-false, ltb-true, ltb-false, le-leb, lt-lt
 use lib.Dec.{ltb}
 use lib.IntN.{ℤ, pos, negsuc, sub_ℕ, ◌+ℤ◌, ◌-ℤ◌}
 use lib.Signed.{le_z, lt_z, mag, shr_z}
-use Rattle.signed.specs.Steps.{I64}
-use Rattle.choice.proofs.Tests.{tf}
+use Rattle.signed.specs.Fits.{I64}
+use Rattle.conditions.proofs.Tests.{tf}
 
 abbrev pub up : ℤ → ℕ
 up (pos n) = 2 ^ 63 + n

@@ -1,3 +1,3 @@
 pub mod Signed
+pub mod Fits
 pub mod Rounded
-pub mod Steps

@@ -1,24 +1,16 @@
--- Integers that an i64 holds, equality of integers, and the number that some bits are.
-use Rattle.std.specs.Prelude.{ℕ, ◌*◌, ◌^◌, Bool, false, eqb, ltb, leb, ℤ, pos, negsuc, ◌-ℤ◌, if◌then◌else◌}
-use Rattle.std.specs.Int.Signed.{mag}
-use Rattle.signed.specs.declared.Held.{Held}
-use Rattle.signed.specs.declared.Held.TheVariants.{Is, Outside}
+-- Integers that an i64 holds, and the integer of a sign and a magnitude.
+use Rattle.std.specs.Prelude.{ℕ, ◌-◌, ◌^◌, Bool, true, false, ◌||◌, ℤ, pos, neg_ℤ, Option, Some, None, if◌then◌else◌}
+use Rattle.std.specs.Int.Signed.{lt_z}
+
+-- no i64 holds z: it is below -2^63 or above 2^63 - 1
+abbrev pub is_outside : ℤ → Bool
+is_outside z = lt_z z (neg_ℤ (pos (2 ^ 63))) || lt_z (pos (2 ^ 63 - 1)) z
 
 -- z, where an i64 holds it
-abbrev pub within : ℤ → Held
-within z = if ltb (mag z) (2 ^ 63) then Is z else Outside
+abbrev pub as_i64 : ℤ → Option ℤ
+as_i64 z = if is_outside z then None else Some z
 
--- no i64 holds z
-abbrev pub is_outside : ℤ → Bool
-is_outside z = leb (2 ^ 63) (mag z)
-
--- a and b are the same number
-abbrev pub eq_z : ℤ → ℤ → Bool
-eq_z (pos a) (pos b) = eqb a b
-eq_z (pos a) (negsuc b) = false
-eq_z (negsuc a) (pos b) = false
-eq_z (negsuc a) (negsuc b) = eqb a b
-
--- the signed number that the bits of x are, where the numbers below 2 · half have that many bits
-unfoldable pub of_bits : ℕ → ℕ → ℤ
-of_bits half x = if ltb x half then pos x else pos x -ℤ pos (2 * half)
+-- the integer with a magnitude and a sign: true for below 0
+abbrev pub with_sign : Bool → ℕ → ℤ
+with_sign true n = neg_ℤ (pos n)
+with_sign false n = pos n

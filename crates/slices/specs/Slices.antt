@@ -1,5 +1,5 @@
 -- What calls leave in lent slices.
-use Rattle.std.specs.Prelude.{List, [], ◌∷◌, ◌++◌, ℤ, pos, length, drop, replicate, Result, Ok, Err}
+use Rattle.std.specs.Prelude.{List, ◌++◌, ℤ, pos, length, drop, replicate, Result, Ok, Err}
 
 -- p over the first elements of what was lent
 abbrev pub laid : {A : Type 0} → List A → List A → List A
@@ -13,8 +13,3 @@ after (Err e) p o = o
 -- as many zeros as were lent
 abbrev pub zeros : List ℤ → List ℤ
 zeros xs = replicate (length xs) (pos 0)
-
--- P holds of every element of l
-abbrev pub All : {A : Type 0} → (A → Type 0) → List A → Type 0
-All P [] = Unit {0}
-All P (x ∷ l) = P x × All P l

@@ -5,7 +5,6 @@ use Prim.Native.Nat.{ℕ, ◌+◌, ◌*◌, ◌/◌, ◌^◌, ◌≤◌, ◌<◌
 use native.Mathlib.Omega.{arith}
 use lib.Dec.{ltb}
 use borrow.Author.Tests.{lt-ltb, le-ltb}
-use Rattle.wide.proofs.Words.{low_word, high_word}
 use Rattle.ticks.specs.Ticks.{edit_ticks, media_ticks}
 
 -- t the product, u the sum with half the movie's scale, q the quotient
@@ -22,4 +21,4 @@ module _ (d s m : ℕ) {q : ℕ} (e : q ≡ edit_ticks d s m) where
   ticks-past h = (λ i. if sym (le-ltb q 9223372036854775808 h) i then Some q else None) ∙ (λ i. if ltb (e i) 9223372036854775808 then Some (e i) else None)
 
 -- what `edit_ticks` takes from its quotient
-pub ruleset quotients = (low_word, high_word, ticks-are, ticks-held, ticks-past)
+pub ruleset quotients = (ticks-are, ticks-held, ticks-past)

@@ -3,20 +3,18 @@ use mathlib.Core.Path.{◌≡◌, refl, sym, ap, ◌∙◌}
 use mathlib.Core.Bool.{Bool, true, false, cond, beq}
 use mathlib.Core.Logic.{⊎_elim}
 use Prim.Native.Nat.{ℕ, zero, suc, ◌+◌, ◌*◌, ◌-◌, ◌^◌, ◌≤◌, ◌<◌}
-use native.Mathlib.Nat.{le_of_lt, zero-add}
 use native.Mathlib.Omega.{arith}
-use lib.Dec.{leb, lit<, lit≤}
+use lib.Dec.{leb}
 use lib.IntN.{ℤ, pos, negsuc, neg_ℤ, nat_abs, ◌+ℤ◌, ◌-ℤ◌, ◌*ℤ◌, neg_ℤ-neg_ℤ, neg_ℤ-+ℤ, *ℤ_comm}
 use lib.Signed.{le_z, lt_z}
 use borrow.Author.Tests.{lt-ltb, le-ltb, lt-leb}
-use Rattle.signed.specs.Steps.{with_sign}
-use Rattle.choice.proofs.Tests.{tf, le-or-lt, same-leb}
+use Rattle.signed.specs.Signed.{with_sign}
+use Rattle.conditions.proofs.Tests.{tf, le-or-lt, same-leb}
 use Rattle.signed.proofs.Signs.{sign-mag, sign-times}
 use Rattle.wide.specs.declared.Wide.{Wide}
 use Rattle.wide.specs.Value.{value}
-use Rattle.wide.proofs.Rooms.{lt-eq, mul-room, sum_room}
 use Rattle.ticks.specs.Ticks.{ends_near}
-use Rattle.ticks.specs.Steps.{Room}
+use Rattle.ticks.specs.Allowances.{Addable}
 
 -- ---- the distance of two numbers, on one side of 0 and on both
 nat_abs-neg : (z : ℤ) → nat_abs (neg_ℤ z) ≡ nat_abs z
@@ -70,14 +68,6 @@ at-most-difference d plus (suc m) =
     ∙ sym (ap (λ (t : Bool). le_z (pos d) (cond t (negsuc (suc m - suc plus)) (pos (plus - suc m)))) (lt-ltb plus (suc m) h)))
     (le-or-lt (suc m) plus)
 
--- ---- both tests on one side of 0
-module _ (a b plus minus : ℕ) where
-  pub both : a + minus ≤ b + plus → leb (b + minus) (a + plus) ≡ leb (a - b + (b - a) + minus) plus
-  both h = same-leb (b + minus) (a + plus) (a - b + (b - a) + minus) plus (λ p. omega arith) (λ p. omega arith)
-
-  pub past : b + plus < a + minus → false ≡ leb (a - b + (b - a) + minus) plus
-  past h = sym (lt-leb (a - b + (b - a) + minus) plus (omega arith))
-
 -- ---- the numbers that are compared
 -- twice a number with a sign, times a number
 pub doubled : (s : Bool) (n m : ℕ) → pos 2 *ℤ with_sign s n *ℤ pos m ≡ with_sign s (2 * n * m)
@@ -89,31 +79,12 @@ doubled s n m =
 pub doubled-of : (z : ℤ) (m : ℕ) → pos 2 *ℤ z *ℤ pos m ≡ with_sign (lt_z z (pos 0)) (2 * nat_abs z * m)
 doubled-of z m = ap (λ (y : ℤ). pos 2 *ℤ y *ℤ pos m) (sym (sign-mag z)) ∙ doubled (lt_z z (pos 0)) (nat_abs z) m
 
--- w is 2·|z|·1,000,000, as the program makes it of the magnitude m
-pub record Twice (z : ℤ) (w : Wide) : Type 0 where
-  pub is : value w ≡ 2 * nat_abs z * 1000000
-  pub lt : value w < 2 ^ 85
-
-pub twice : (z : ℤ) (m : ℕ) (w : Wide) → m < 2 ^ 64 → m ≡ nat_abs z → value w ≡ m * 2000000 → Twice z w
-twice z m w f e t = record {
-  is = t ∙ ap (λ (x : ℕ). x * 2000000) e ∙ omega arith;
-  lt = lt-eq t (mul-room (2 ^ 64) 2000000 f (lit≤ tt) (lit< tt) (lit≤ tt));
-}
-
--- what is allowed, where the nominal z is below 0 and where it is not
-module _ {z : ℤ} {w : Wide} (s : ℕ) (f : s < 2 ^ 32) (t : Twice z w) where
-  signed_is : {neg : Bool} → lt_z z (pos 0) ≡ neg → pos 2 *ℤ z *ℤ pos 1000000 ≡ with_sign neg (value w)
-  signed_is e = doubled-of z 1000000 ∙ (λ i. with_sign (e i) (sym t.is i))
-
-  pub sum_fits : value w + (0 + s) < 2 ^ 118
-  sum_fits = sum_room (2 ^ 85) (2 ^ 32) t.lt (lt-eq (zero-add s) f) (lit≤ tt)
-
 -- a is 2·|us|·s, b is 2·|end|·1,000,000, and plus - minus is what is allowed
 pub record Compared (us nominal : ℤ) (n s a b plus minus : ℕ) : Type 0 where
   pub a-is : a ≡ 2 * nat_abs us * s
   pub b-is : b ≡ 2 * n * 1000000
   pub by-is : pos plus -ℤ pos minus ≡ pos 2 *ℤ nominal *ℤ pos 1000000 +ℤ pos s
-  pub room : Room a b plus minus
+  pub room : Addable a b plus minus
 
 -- as the program makes them: u the magnitude of us, p its product with the scale
 pub compared : {us nominal : ℤ} {n s u p a b plus minus : ℕ} → u < 2 ^ 64 → s < 2 ^ 32 → n < 2 ^ 96 → u ≡ nat_abs us → p ≡ u * s → a ≡ p * 2 → b ≡ n * 2000000 →
@@ -123,8 +94,8 @@ compared {us} {nominal} {n} {s} {u} {p} fu fs fn eu ep ea eb ey hp hm = record {
   b-is = omega arith;
   by-is = ey;
   room = record {
-    a_lt = lt-eq ea (mul-room (2 ^ 96) 2 (lt-eq ep (mul-room (2 ^ 64) (2 ^ 32) fu (le_of_lt fs) (lit< tt) (lit≤ tt))) (lit≤ tt) (lit< tt) (lit≤ tt));
-    b_lt = lt-eq eb (mul-room (2 ^ 96) 2000000 fn (lit≤ tt) (lit< tt) (lit≤ tt));
+    a_lt = let h : u * s < 2 ^ 96 = grind arith in omega arith;
+    b_lt = omega arith;
     plus-lt = hp;
     minus-lt = hm;
   };

@@ -1,6 +1,6 @@
 -- The numbers of document 01 on ticks and near ends, those that it marks and some at the limits. They are the contract of `worked_examples_hold`.
 use Rattle.std.specs.Prelude.{Bool, true, false, List, [], ◌∷◌, ℕ, ◌*◌, pos, neg_ℤ, ℤ, Option, Some, None, Result, Ok}
-use Rattle.choice.specs.Worked.{Worked, is, AllRight}
+use Rattle.examples.specs.Worked.{Worked, is, AllRight}
 use Rattle.refusal.specs.declared.Reason.TheVariants as reason
 use Rattle.refusal.specs.declared.Refusal.{Refusal}
 use Rattle.refusal.specs.Refusals.{refused}

@@ -1,3 +1,3 @@
 pub mod Ticks
-pub mod Steps
+pub mod Allowances
 pub mod Examples

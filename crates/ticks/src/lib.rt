@@ -5,11 +5,10 @@ ghost use Rattle.std.specs.Prelude.{◌≡◌, ◌+◌, ◌-◌, ◌^◌, ◌≤
 ghost use Rattle.signed.specs.Rounded.{rounded};
 ghost use Rattle.wide.specs.Value.{value, number};
 ghost use Rattle.ticks.specs.Ticks.{micros_of, ticks_to_us, ends_near, media_ticks};
-ghost use Rattle.ticks.specs.Steps.{small_ticks, Allowed, Room, big_of};
+ghost use Rattle.ticks.specs.Allowances.{small_ticks, Allowed, Addable, big_of};
 ghost use Rattle.ticks.specs.Examples.{WorkedExamples};
 
 use refusal::{Reason, Refusal};
-use signed::Held;
 use wide::{Big, Wide};
 
 // The largest scale.
@@ -38,31 +37,31 @@ struct Allowance {
 pub fn big_of(x: i64) -> Big
     ensures { result ≡ big_of x }
 {
-    let m = signed::magnitude(x);
+    let m = x.unsigned_abs();
     Big {
-        neg: signed::negative(x),
-        mag: Wide { hi: 0, lo: m },
+        negative: x < 0,
+        magnitude: Wide { hi: 0, lo: m },
     }
 }
 
 // Ticks of a scale in microseconds, from `ticks_to_us` of the Rust, which takes 128 bits: half the scale is added before the division.
-pub fn micros(ticks: Big, scale: u64) -> Held
-    requires { (value ticks.mag < 2 ^ 96) × (scale < 2 ^ 32) }
+pub fn micros(ticks: Big, scale: u64) -> Option<i64>
+    requires { (value ticks.magnitude < 2 ^ 96) × (scale < 2 ^ 32) }
     ensures { result ≡ micros_of (number ticks) scale }
 {
     if scale == 0 {
-        return Held::Outside;
+        return None;
     }
-    let mag = ticks.mag;
+    let magnitude = ticks.magnitude;
     let half = Wide {
         hi: 0,
         lo: scale / 2,
     };
-    let q = wide::quotient(wide::add(wide::times(mag, 1_000_000), half), scale);
+    let q = wide::quotient(wide::add(wide::times(magnitude, 1_000_000), half), scale);
     if q.hi != 0 {
-        return Held::Outside;
+        return None;
     }
-    signed::with_sign(ticks.neg, q.lo)
+    signed::with_sign(ticks.negative, q.lo)
 }
 
 // The same of few ticks, by signed negation and division; their product with 1,000,000 fits 63 bits.
@@ -74,7 +73,7 @@ fn small_micros(ticks: i64, scale: u64) -> i64
 }
 
 // Ticks of a scale in microseconds, from `ticks_to_us` of the Rust: few ticks by signed division, the rest by two words.
-#[tactic(auto, unfolding(crate::specs::Ticks::ticks_to_us, crate::specs::Ticks::us_of, crate::specs::Ticks::micros_of, choice::specs::Choice::when))]
+#[tactic(auto, unfolding(crate::specs::Ticks::ticks_to_us, crate::specs::Ticks::us_of, crate::specs::Ticks::micros_of, conditions::specs::Conditions::when))]
 pub fn ticks_to_us(ticks: i64, scale: u64) -> Result<i64, Refusal>
     ensures { result ≡ ticks_to_us ticks scale }
 {
@@ -84,12 +83,12 @@ pub fn ticks_to_us(ticks: i64, scale: u64) -> Result<i64, Refusal>
     if scale == 0 {
         return Err(Reason::NoFrameTime.at(0));
     }
-    if signed::magnitude(ticks) <= SMALL_TICKS {
+    if ticks.unsigned_abs() <= SMALL_TICKS {
         return Ok(small_micros(ticks, scale));
     }
     match micros(big_of(ticks), scale) {
-        Held::Is(us) => Ok(us),
-        Held::Outside => Err(Reason::NoFrameTime.at(0)),
+        Some(us) => Ok(us),
+        None => Err(Reason::NoFrameTime.at(0)),
     }
 }
 
@@ -98,9 +97,9 @@ fn allowed(nominal: i64, scale: u64) -> Allowance
     requires { scale < 2 ^ 32 }
     ensures { Allowed (pos 2 *ℤ nominal *ℤ pos 1000000 +ℤ pos scale) result }
 {
-    let n = wide::product(signed::magnitude(nominal), 2_000_000);
+    let n = wide::product(nominal.unsigned_abs(), 2_000_000);
     let s = Wide { hi: 0, lo: scale };
-    if signed::negative(nominal) {
+    if nominal < 0 {
         return Allowance { plus: s, minus: n };
     }
     Allowance {
@@ -111,7 +110,7 @@ fn allowed(nominal: i64, scale: u64) -> Allowance
 
 // Whether a and b, on one side of 0, are at most plus - minus apart; nothing is subtracted.
 fn near_beside(a: Wide, b: Wide, plus: Wide, minus: Wide) -> bool
-    requires { Room (value a) (value b) (value plus) (value minus) }
+    requires { Addable (value a) (value b) (value plus) (value minus) }
     ensures { result ≡ leb (value a - value b + (value b - value a) + value minus) (value plus) }
 {
     if wide::at_most(wide::add(a, minus), wide::add(b, plus)) {
@@ -122,7 +121,7 @@ fn near_beside(a: Wide, b: Wide, plus: Wide, minus: Wide) -> bool
 
 // The same of a and b on both sides of 0.
 fn near_across(a: Wide, b: Wide, plus: Wide, minus: Wide) -> bool
-    requires { Room (value a) (value b) (value plus) (value minus) }
+    requires { Addable (value a) (value b) (value plus) (value minus) }
     ensures { result ≡ leb (value a + value b + value minus) (value plus) }
 {
     wide::at_most(wide::add(wide::add(a, b), minus), plus)
@@ -130,16 +129,16 @@ fn near_across(a: Wide, b: Wide, plus: Wide, minus: Wide) -> bool
 
 // Whether us microseconds are near the end of a video, from `ends_near` of the Rust. Nothing passes 118 bits.
 pub fn ends_near(us: i64, end: Big, nominal: i64, scale: u64) -> bool
-    requires { (value end.mag < 2 ^ 96) × (scale < 2 ^ 32) }
+    requires { (value end.magnitude < 2 ^ 96) × (scale < 2 ^ 32) }
     ensures { result ≡ ends_near us (number end) nominal scale }
 {
-    let mag = end.mag;
-    let a = wide::times(wide::product(signed::magnitude(us), scale), 2);
-    let b = wide::times(mag, 2_000_000);
+    let magnitude = end.magnitude;
+    let a = wide::times(wide::product(us.unsigned_abs(), scale), 2);
+    let b = wide::times(magnitude, 2_000_000);
     let by = allowed(nominal, scale);
     let plus = by.plus;
     let minus = by.minus;
-    if signed::negative(us) == end.neg {
+    if (us < 0) == end.negative {
         return near_beside(a, b, plus, minus);
     }
     near_across(a, b, plus, minus)
@@ -167,7 +166,7 @@ pub fn edit_ticks(duration: u64, scale: u64, movie: u64) -> Option<u64>
 }
 
 // The definitions give the numbers of specs/Examples.antt.
-#[tactic(auto, unfolding(crate::specs::Ticks::ticks_to_us, crate::specs::Ticks::us_of, crate::specs::Ticks::micros_of, crate::specs::Ticks::ends_near, crate::specs::Ticks::media_ticks, choice::specs::Choice::when))]
+#[tactic(auto, unfolding(crate::specs::Ticks::ticks_to_us, crate::specs::Ticks::us_of, crate::specs::Ticks::micros_of, crate::specs::Ticks::ends_near, crate::specs::Ticks::media_ticks, conditions::specs::Conditions::when))]
 pub fn worked_examples_hold()
     ensures { WorkedExamples }
 {}

@@ -1,6 +1,6 @@
 -- Document 01's numbers on the UTC rule, and some beside them. They are the contract of `worked_examples_hold`.
 use Rattle.std.specs.Prelude.{Bool, true, false, List, [], ◌∷◌}
-use Rattle.choice.specs.Worked.{Worked, is, AllRight}
+use Rattle.examples.specs.Worked.{Worked, is, AllRight}
 use Rattle.utc.specs.Utc.{utc_second}
 
 abbrev pub seconds : List (Worked Bool)

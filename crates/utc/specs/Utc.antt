@@ -1,6 +1,6 @@
 -- The UTC rule: 20 bytes, YYYY-MM-DDTHH:MM:SSZ, Gregorian month lengths, hour < 24, minute and second < 60.
 use Rattle.std.specs.Prelude.{ℕ, ◌+◌, ◌-◌, ◌*◌, ◌%◌, Bool, not, ◌||◌, ◌&&◌, List, get_or, length, ltb, leb, eqb}
-use Rattle.choice.specs.Choice.{when}
+use Rattle.conditions.specs.Conditions.{when}
 
 -- two figures stand at i: each byte is 48 to 57, `0` to `9`
 abbrev pub figures : List ℕ → ℕ → Bool

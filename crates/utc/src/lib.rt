@@ -9,10 +9,7 @@ ghost use Rattle.utc.specs.Examples.{WorkedExamples};
 fn value(c: u8) -> u64
     ensures { (result ≡ c - 48) × (result < 256) }
 {
-    if c < 48 {
-        return 0;
-    }
-    c as u64 - 48
+    c.saturating_sub(b'0') as u64
 }
 
 // The number of two figures.
@@ -29,7 +26,7 @@ fn figures_at(b: &[u8], i: usize) -> bool
     requires { i + 1 < length b.now }
     ensures { result ≡ figures b.now i }
 {
-    ((b[i] >= 48) & (b[i] <= 57)) & ((b[i + 1] >= 48) & (b[i + 1] <= 57))
+    b[i].is_ascii_digit() & b[i + 1].is_ascii_digit()
 }
 
 // Whether figures stand where figures must.
@@ -58,13 +55,17 @@ fn is_leap(y: u64) -> bool
 }
 
 // How many days a month has.
-#[tactic(auto, unfolding(crate::specs::Utc::days))]
+#[tactic(auto, unfolding(crate::specs::Utc::days, conditions::specs::Conditions::when))]
 fn days_of(y: u64, m: u64) -> u64
     ensures { result ≡ days y m }
 {
-    let short = choice::first_of(is_leap(y), 29, 28);
-    let long = choice::first_of(((m == 4) | (m == 6)) | ((m == 9) | (m == 11)), 30, 31);
-    choice::first_of(m == 2, short, long)
+    if m == 2 {
+        if is_leap(y) { 29 } else { 28 }
+    } else if ((m == 4) | (m == 6)) | ((m == 9) | (m == 11)) {
+        30
+    } else {
+        31
+    }
 }
 
 // Whether there is such a date.
@@ -106,7 +107,7 @@ pub fn is_utc_second(b: &[u8]) -> bool
 }
 
 // The definitions give the numbers of specs/Examples.antt.
-#[tactic(auto, unfolding(crate::specs::Utc::utc_second, crate::specs::Utc::utc_bytes, crate::specs::Utc::two, crate::specs::Utc::days, choice::specs::Choice::when))]
+#[tactic(auto, unfolding(crate::specs::Utc::utc_second, crate::specs::Utc::utc_bytes, crate::specs::Utc::two, crate::specs::Utc::days, conditions::specs::Conditions::when))]
 pub fn worked_examples_hold()
     ensures { WorkedExamples }
 {}

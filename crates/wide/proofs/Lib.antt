@@ -1,4 +1,1 @@
-pub mod Words
-pub mod Products
 pub mod Division
-pub mod Rooms

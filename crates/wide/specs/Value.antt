@@ -1,6 +1,6 @@
 -- The numbers that the structs hold.
 use Rattle.std.specs.Prelude.{◌≡◌, ℕ, ◌+◌, ◌*◌, ◌^◌, ◌<◌, ℤ}
-use Rattle.signed.specs.Steps.{with_sign}
+use Rattle.signed.specs.Signed.{with_sign}
 use Rattle.wide.specs.declared.Wide.{Wide}
 use Rattle.wide.specs.declared.Big.{Big}
 
@@ -10,7 +10,7 @@ value w = w.hi * 2 ^ 64 + w.lo
 
 -- the integer of a sign and a magnitude
 abbrev pub number : Big → ℤ
-number b = with_sign b.neg (value b.mag)
+number b = with_sign b.negative (value b.magnitude)
 
 -- numbers whose lower words fit are the same where their values are
 abbrev pub OneForm : Type 0

@@ -12,11 +12,11 @@ pub struct Wide {
     pub lo: u64,
 }
 
-// An integer: below 0 where neg, of the magnitude mag.
+// An integer of a sign and a magnitude.
 #[derive(Clone, Copy)]
 pub struct Big {
-    pub neg: bool,
-    pub mag: Wide,
+    pub negative: bool,
+    pub magnitude: Wide,
 }
 
 // A digit of a quotient, in base 2^32 or in base 2^64, and the remainder after it.
@@ -31,35 +31,20 @@ pub fn add(a: Wide, b: Wide) -> Wide
     requires { value a + value b < 2 ^ 128 }
     ensures { value result ≡ value a + value b }
 {
-    let lo = std::num::wrapping_add_u64(a.lo, b.lo);
-    if lo < a.lo {
-        Wide {
-            hi: a.hi + b.hi + 1,
-            lo,
-        }
-    } else {
-        Wide {
-            hi: a.hi + b.hi,
-            lo,
-        }
+    let lo = a.lo.wrapping_add(b.lo);
+    let carry = (lo < a.lo) as u64;
+    Wide {
+        hi: a.hi + b.hi + carry,
+        lo,
     }
 }
 
-// The whole product of two words, by digits of 32 bits.
+// The whole product of two words.
 pub fn product(u: u64, v: u64) -> Wide
     ensures { value result ≡ u * v }
 {
-    let u0 = u % 0x1_0000_0000;
-    let u1 = u / 0x1_0000_0000;
-    let v0 = v % 0x1_0000_0000;
-    let v1 = v / 0x1_0000_0000;
-    let w0 = u0 * v0;
-    let t = u1 * v0 + w0 / 0x1_0000_0000;
-    let w1 = t % 0x1_0000_0000 + u0 * v1;
-    Wide {
-        hi: u1 * v1 + t / 0x1_0000_0000 + w1 / 0x1_0000_0000,
-        lo: w1 % 0x1_0000_0000 * 0x1_0000_0000 + w0 % 0x1_0000_0000,
-    }
+    let (lo, hi) = u.carrying_mul(v, 0);
+    Wide { hi, lo }
 }
 
 // w * m.

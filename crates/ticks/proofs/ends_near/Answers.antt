@@ -1,4 +1,4 @@
-use Rattle.std.proofs.Common.{◌≡◌, Bool, true, false, sym, ap, ◌∙◌}
+use Rattle.std.proofs.Common.{◌≡◌, Bool, true, false, refl, sym, ap, ◌∙◌}
 use mathlib.Core.Bool.{beq}
 use mir.Syntax.{w64}
 use mir.Val.{SFits}
@@ -12,22 +12,22 @@ use Rattle.ticks.proofs.ends_near.Goals as goal
 test-is : (us : ℤ) (neg b t : Bool) → SFits w64 us → b ≡ lt_z (read us) (pos 0) → beq b neg ≡ t → beq (lt_z us (pos 0)) neg ≡ t
 test-is us neg b t f e h = sym (ap (λ (s : Bool). beq s neg) (e ∙ ap (λ (z : ℤ). lt_z z (pos 0)) (reads f))) ∙ h
 
-pub returns-then-negative-end : goal.returns-then-negative-end
-returns-then-negative-end c =
+pub returns-then-us-end : goal.returns-then-us-end
+returns-then-us-end c =
     let a = c.args in
     near-beside-is _
-    (compared c.magnitude.type_inv c.requires.1 c.requires.0 (c.magnitude.ensures ∙ ap nat_abs (reads c.ranges.us))
+    (compared c.unsigned_abs.type_inv c.requires.1 c.requires.0 (c.unsigned_abs.ensures.value ∙ ap nat_abs (reads c.ranges.us))
     c.product.ensures c.times-a.ensures c.times-b.ensures
     (c.allowed-by.ensures.is ∙ ap (λ (z : ℤ). pos 2 *ℤ z *ℤ pos 1000000 +ℤ pos a.scale) (reads c.ranges.nominal))
     c.allowed-by.ensures.plus-lt c.allowed-by.ensures.minus-lt)
-    (test-is a.us a.end.neg c.negative.result true c.ranges.us c.negative.ensures c.if-negative-end.true) c.near_beside.ensures
+    (test-is a.us a.end.negative _ true c.ranges.us refl c.if-us-end.true) c.near_beside.ensures
 
 pub returns : goal.returns
 returns c =
     let a = c.args in
     near-across-is _
-    (compared c.magnitude.type_inv c.requires.1 c.requires.0 (c.magnitude.ensures ∙ ap nat_abs (reads c.ranges.us))
+    (compared c.unsigned_abs.type_inv c.requires.1 c.requires.0 (c.unsigned_abs.ensures.value ∙ ap nat_abs (reads c.ranges.us))
     c.product.ensures c.times-a.ensures c.times-b.ensures
     (c.allowed-by.ensures.is ∙ ap (λ (z : ℤ). pos 2 *ℤ z *ℤ pos 1000000 +ℤ pos a.scale) (reads c.ranges.nominal))
     c.allowed-by.ensures.plus-lt c.allowed-by.ensures.minus-lt)
-    (test-is a.us a.end.neg c.negative.result false c.ranges.us c.negative.ensures c.if-negative-end.false) c.near_across.ensures
+    (test-is a.us a.end.negative _ false c.ranges.us refl c.if-us-end.false) c.near_across.ensures

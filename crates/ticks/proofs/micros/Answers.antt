@@ -1,9 +1,7 @@
-use Rattle.std.proofs.Common.{ℕ, ◌^◌, sym, ap, ◌∙◌, lt_of_lt_of_le, lit<}
-use Rattle.signed.specs.Signed.{within}
-use Rattle.signed.specs.Steps.{with_sign}
+use Rattle.std.proofs.Common.{ℕ, ap, ◌∙◌, arith}
+use Rattle.signed.specs.Signed.{as_i64, with_sign}
 use Rattle.signed.proofs.Ranges.{far}
 use Rattle.wide.specs.Value.{value, number}
-use Rattle.wide.proofs.Words.{low_word, high_word}
 use Rattle.ticks.proofs.Microseconds.{micros-none, micros-is}
 use Rattle.ticks.proofs.micros.Goals as goal
 
@@ -14,13 +12,13 @@ pub returns-then-q-ne0 : goal.returns-then-q-ne0
 returns-then-q-ne0 c =
     let t = c.args.ticks in
     let q = c.quotient-q.result in
-    far t.neg (value q) (lt_of_lt_of_le (lit< tt) (high_word (2 ^ 64) q.hi q.lo c.if-q-ne0.true))
-    ∙ micros-is t.neg (value t.mag) c.args.scale (value c.times.result) (value c.add.result) (value q) c.if-scale-eq0.false c.times.ensures c.add.ensures c.quotient-q.ensures
+    far t.negative (value q) (omega arith)
+    ∙ micros-is t.negative (value t.magnitude) c.args.scale (value c.times.result) (value c.add.result) (value q) c.if-scale-eq0.false c.times.ensures c.add.ensures c.quotient-q.ensures
 
 pub returns : goal.returns
 returns c =
     let t = c.args.ticks in
     let q = c.quotient-q.result in
     c.with_sign.ensures
-    ∙ ap (λ (n : ℕ). within (with_sign t.neg n)) (sym (low_word (2 ^ 64) q.hi q.lo c.if-q-ne0.false))
-    ∙ micros-is t.neg (value t.mag) c.args.scale (value c.times.result) (value c.add.result) (value q) c.if-scale-eq0.false c.times.ensures c.add.ensures c.quotient-q.ensures
+    ∙ ap (λ (n : ℕ). as_i64 (with_sign t.negative n)) (omega arith)
+    ∙ micros-is t.negative (value t.magnitude) c.args.scale (value c.times.result) (value c.add.result) (value q) c.if-scale-eq0.false c.times.ensures c.add.ensures c.quotient-q.ensures

@@ -1,4 +1,4 @@
--- What the private steps ask and promise.
+-- How far an end may be off, as a difference of two numbers, and numbers small enough to be added or multiplied; for contracts inside this crate.
 use Rattle.std.specs.Prelude.{◌≡◌, ℕ, ◌^◌, ◌<◌, ℤ, pos, nat_abs, ◌-ℤ◌}
 use Rattle.std.specs.Int.Signed.{lt_z}
 use Rattle.wide.specs.declared.Big.{Big}
@@ -16,7 +16,7 @@ pub record Allowed (z : ℤ) (r : Allowance) : Type 0 where
   pub minus-lt : value r.minus < 2 ^ 118
 
 -- numbers of which any three have a sum below 2^128
-pub record Room (a b plus minus : ℕ) : Type 0 where
+pub record Addable (a b plus minus : ℕ) : Type 0 where
   pub a_lt : a < 2 ^ 118
   pub b_lt : b < 2 ^ 118
   pub plus-lt : plus < 2 ^ 118
@@ -24,4 +24,4 @@ pub record Room (a b plus minus : ℕ) : Type 0 where
 
 -- an i64 as a sign and a magnitude of two words
 abbrev pub big_of : ℤ → Big
-big_of x = record { neg = lt_z x (pos 0); mag = record { hi = 0; lo = nat_abs x } }
+big_of x = record { negative = lt_z x (pos 0); magnitude = record { hi = 0; lo = nat_abs x } }

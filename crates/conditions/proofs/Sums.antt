@@ -3,7 +3,7 @@ use mathlib.Core.Path.{◌≡◌}
 use mathlib.Core.Bool.{false}
 use Prim.Native.Nat.{ℕ, ◌+◌, ◌≤◌}
 use borrow.Author.Tests.{ltb-false, le-ltb}
-use Rattle.choice.specs.Choice.{past}
+use Rattle.conditions.specs.Conditions.{past}
 
 pub past-not : (a b m : ℕ) → past a b m ≡ false → a + b ≤ m
 unfolding past

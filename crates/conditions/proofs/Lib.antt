@@ -1,3 +1,2 @@
 pub mod Tests
 pub mod Sums
-pub mod Runs

@@ -1,4 +1,4 @@
--- Chains of tests in order.
+-- Chains of tests in order, and sums past a bound.
 use Rattle.std.specs.Prelude.{ℕ, ◌+◌, Bool, true, false, ltb}
 
 -- what is given where a test holds, else what the tests after it give

@@ -1,12 +1,11 @@
 -- Tests, their answers, and what follows from each. Assumes nothing.
 --     Test, test         a test with the equation of its answer
 --     decide, either     by cases on a test; a fact of what it chooses
---     and-, or-          what a conjunction or disjunction says of its parts
 --     le-or-lt, same-    orders of numbers as tests
 --     tests, sums        rulesets: `search tests` where a definition tests what the code tests
 use Rattle.std.specs.Prelude.{if◌then◌else◌}
 use mathlib.Core.Path.{◌≡◌, ◌∙◌, refl, sym}
-use mathlib.Core.Bool.{Bool, true, false, true≢false, ◌||◌, ◌&&◌}
+use mathlib.Core.Bool.{Bool, true, false, true≢false, ◌&&◌}
 use mathlib.Core.Logic.{◌⊎◌, inl, inr, ⊎_elim}
 use Prim.Native.Nat.{ℕ, zero, suc, ◌+◌, ◌-◌, ◌≤◌, ◌<◌, zero-le, suc-le-suc}
 use native.Mathlib.Omega.{arith}
@@ -45,18 +44,6 @@ called e t = sym e ∙ t
 pub and-false : (b : Bool) → b && false ≡ false
 and-false true = refl
 and-false false = refl
-
-pub and_left : (a b : Bool) → a && b ≡ true → a ≡ true
-and_left true b e = refl
-and_left false b e = e
-
-pub and_right : (a b : Bool) → a && b ≡ true → b ≡ true
-and_right true b e = e
-and_right false b e = tf (sym e)
-
-pub or-false : (a b : Bool) → a || b ≡ false → (a ≡ false) × (b ≡ false)
-or-false true b e = tf e
-or-false false b e = (refl, e)
 
 -- a comparison, either way
 pub le-or-lt : (a b : ℕ) → (a ≤ b) ⊎ (b < a)

@@ -1,3 +1,0 @@
-pub mod Choice
-pub mod Records
-pub mod Worked

@@ -1,8 +1,8 @@
 pub mod Sorted
 pub mod Swapping
+pub mod Permuting
 pub mod Raising
 pub mod Counts
-pub mod Settling
 pub mod Merging
 pub mod Joining
 pub mod Halves

@@ -1,5 +1,9 @@
 -- `mode l` is the one value that is `MostFrequent` in l, and sorting does not change it. Assumes nothing.
 use Rattle.std.specs.Prelude.{if◌then◌else◌}
+use Rattle.std.specs.List.{AllByRecursion}
+use Rattle.std.specs.Ordering.{int_eq}
+use Rattle.std.proofs.lemmas.Bool.Decides.{Decides-int_eq}
+use Rattle.std.proofs.lemmas.List.Sums.{count_by-le-length}
 use mathlib.Core.Path.{◌≡◌, refl, sym, ◌∙◌}
 use mathlib.Core.Bool.{true, false}
 use mathlib.Core.Logic.{◌⊎◌, inl, inr, ⊎_elim}
@@ -12,13 +16,12 @@ use lib.Dec.{eqb}
 use lib.IntN.{ℤ}
 use lib.ListN.{length}
 use lib.Signed.{le_z}
-use Rattle.choice.proofs.Tests.{decide, either}
-use Rattle.signed.specs.Signed.{eq_z}
-use Rattle.signed.proofs.Order.{le_refl, le_trans, le_antisym, lt-le, not-lt-le, eq_z-refl, eq_z-true}
-use Rattle.slices.specs.Slices.{All}
-use Rattle.order.specs.Order.{count_by, count_of, MostFrequent, before, taken_first, mode, sorted}
+use Rattle.conditions.proofs.Tests.{decide, either}
+use Rattle.signed.proofs.Order.{le_refl, le_trans, le_antisym, lt-le, not-lt-le}
+use Rattle.order.specs.Order.{count_of, MostFrequent, before, taken_first, mode, sorted}
 use Rattle.order.proofs.Sorted.{length-sorted}
-use Rattle.order.proofs.Counts.{count-sorted, count_most}
+use Rattle.slices.proofs.Counts.{count-yes, count-no}
+use Rattle.order.proofs.Counts.{count-sorted}
 
 -- v is at least as good as w
 abbrev Beats : List ℤ → ℤ → ℤ → Type 0
@@ -55,7 +58,7 @@ before-false l w v e =
     inl (omega arith))
 
 -- the one that is taken is at least as good as v and as each of m
-taken : (l m : List ℤ) (v : ℤ) → Beats l (taken_first l v m) v × All (λ w. Beats l (taken_first l v m) w) m
+taken : (l m : List ℤ) (v : ℤ) → Beats l (taken_first l v m) v × AllByRecursion (λ w. Beats l (taken_first l v m) w) m
 unfolding taken_first
 taken l [] v = (inr (refl, le_refl v), tt)
 taken l (w ∷ m) v =
@@ -68,19 +71,18 @@ taken l (w ∷ m) v =
     (beats-trans l (taken_first l u m) u v t.0 two.0, (beats-trans l (taken_first l u m) u w t.0 two.1, t.1))
 
 -- what holds of every element holds of what stands there
-at_count : (P : ℤ → Type 0) (l : List ℤ) (w : ℤ) → All P l → 0 < count_of w l → P w
-unfolding count_by
+at_count : (P : ℤ → Type 0) (l : List ℤ) (w : ℤ) → AllByRecursion P l → 0 < count_of w l → P w
 at_count P [] w h b = absurd (not-suc-le-zero b)
-at_count P (x ∷ l) w h b = decide (eq_z x w) (λ e. rw (← eq_z-true x w e) h.0) (λ e. at_count P l w h.1 (rw e at b))
+at_count P (x ∷ l) w h b = decide (int_eq x w) (λ e. rw (← (Decides-int_eq x w).0 e) h.0) (λ e. at_count P l w h.1 (rw (count-no (λ y. int_eq y w) x l e) at b))
 
 -- the one that `mode` gives is the most frequent
 pub mode-is : (l : List ℤ) → 0 < length l → MostFrequent l (mode l)
-unfolding mode count_by
+unfolding mode
 mode-is [] b = absurd (not-suc-le-zero b)
 mode-is (x ∷ l) b =
     let t = taken (x ∷ l) l x in
     let r = taken_first (x ∷ l) x l in
-    let some : 0 < count_of x (x ∷ l) = rw (eq_z-refl x) (omega arith) in
+    let some : 0 < count_of x (x ∷ l) = omega (arith, count-yes (λ y. int_eq y x) x l ((Decides-int_eq x x).1 refl)) in
     let there : 0 < count_of r (x ∷ l) = ⊎_elim (λ k. omega arith) (λ k. omega arith) t.0 in
     record {
       there = there;
@@ -95,12 +97,12 @@ pub only-mode : (l : List ℤ) (v : ℤ) → MostFrequent l v → v ≡ mode l
 only-mode l v h = unique l v (mode l) h (mode-is l (some l h.there))
   where
     some : (m : List ℤ) → 0 < count_of v m → 0 < length m
-    some m b = omega (arith, count_most (λ x. eq_z x v) m)
+    some m b = omega (arith, count_by-le-length (λ x. int_eq x v) m)
 
 -- sorting does not change it
 most-sorted : (l : List ℤ) (v : ℤ) → MostFrequent (sorted l) v → MostFrequent l v
 most-sorted l v h =
-    let c : (w : ℤ) → count_of w (sorted l) ≡ count_of w l = λ w. count-sorted (λ x. eq_z x w) l in
+    let c : (w : ℤ) → count_of w (sorted l) ≡ count_of w l = λ w. count-sorted (λ x. int_eq x w) l in
     record {
       there = omega (arith, h.there, c v);
       most = λ w. ⊎_elim (λ k. inl (omega (arith, c v, c w))) (λ k. inr (omega (arith, c v, c w), k.1)) (h.most w);

@@ -1,4 +1,4 @@
 pub mod Order
 pub mod Meeting
-pub mod Steps
+pub mod Counts
 pub mod Examples

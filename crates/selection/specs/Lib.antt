@@ -1,2 +1,2 @@
 pub mod Keeping
-pub mod Steps
+pub mod Bounds

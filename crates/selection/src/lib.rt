@@ -4,9 +4,9 @@
 ghost use Rattle.std.specs.Prelude.{◌≡◌, true, ◌+◌, ◌-◌, ◌*◌, ◌<◌, length, get_or, take, pos};
 ghost use Rattle.std.specs.Int.Signed.{le_z, lt_z};
 ghost use Rattle.order.specs.Order.{sorted};
-ghost use Rattle.order.specs.Steps.{count_le, Greatest};
-ghost use Rattle.selection.specs.Keeping.{within};
-ghost use Rattle.selection.specs.Steps.{BoundsCounted, BoundsHold};
+ghost use Rattle.order.specs.Counts.{count_le, Greatest};
+ghost use Rattle.selection.specs.Keeping.{from_to};
+ghost use Rattle.selection.specs.Bounds.{BoundsCounted, BoundsHold};
 
 use order::SMALL;
 
@@ -78,10 +78,7 @@ fn begin(xs: &[i64], k: usize) -> Bounds
     take_sample(xs, &mut sample, stride);
     order::sort_small(&mut sample);
     let place = k / stride;
-    let mut low: usize = 0;
-    if ASIDE < place {
-        low = place - ASIDE;
-    }
+    let low = place.saturating_sub(ASIDE);
     let r = between(xs, sample[sampled(low)], sample[sampled(place + ASIDE)]);
     if (r.below <= k) & (k < r.upto) {
         return r;
@@ -94,11 +91,8 @@ fn begin(xs: &[i64], k: usize) -> Bounds
 fn take_sample(xs: &[i64], sample: &mut [i64], stride: usize)
     requires { (length sample.old - 1) * stride + 1 < length xs.now }
 {
-    let mut i: usize = 0;
-    while i < sample.len() {
-        let x = xs[i * stride + i / 2 % 2];
-        sample[i] = x;
-        i += 1;
+    for i in 0..sample.len() {
+        sample[i] = xs[i * stride + i / 2 % 2];
     }
 }
 
@@ -106,10 +100,7 @@ fn take_sample(xs: &[i64], sample: &mut [i64], stride: usize)
 fn sampled(place: usize) -> usize
     ensures { result < 16 }
 {
-    if place < SAMPLES {
-        return place;
-    }
-    SAMPLES - 1
+    place.min(SAMPLES - 1)
 }
 
 // The range from a to b, or all that is below or above it, whichever has the k-th smallest.
@@ -140,13 +131,13 @@ fn around(xs: &[i64], k: usize, a: i64, b: i64) -> Bounds
 }
 
 // The range from a to b. Both are counted in one pass.
+#[tactic(auto, using(std::proofs::lemmas::List::take_all))]
 fn between(xs: &[i64], a: i64, b: i64) -> Bounds
     ensures { BoundsCounted xs.now result × (result.lo ≡ a) × (result.hi ≡ b) }
 {
     let mut below: usize = 0;
     let mut upto: usize = 0;
-    let mut i: usize = 0;
-    while i < xs.len() {
+    for i in 0..xs.len() {
         let x = xs[i];
         if x < a {
             below += 1;
@@ -154,7 +145,6 @@ fn between(xs: &[i64], a: i64, b: i64) -> Bounds
         if x <= b {
             upto += 1;
         }
-        i += 1;
     }
     Bounds {
         lo: a,
@@ -166,14 +156,12 @@ fn between(xs: &[i64], a: i64, b: i64) -> Bounds
 
 // Moves the elements from lo to hi to the front, in their order, and answers how many they are.
 fn keep(xs: &mut [i64], lo: i64, hi: i64) -> usize
-    ensures { (result ≡ length (within lo hi xs.old)) × (take result xs.new ≡ within lo hi xs.old) }
+    ensures { (result ≡ length (from_to lo hi xs.old)) × (take result xs.new ≡ from_to lo hi xs.old) }
 {
-    let mut i: usize = 0;
     let mut j: usize = 0;
-    while i < xs.len() {
+    for i in 0..xs.len() {
         let x = xs[i];
         xs[j] = x;
-        i += 1;
         if (lo <= x) & (x <= hi) {
             j += 1;
         }
@@ -187,13 +175,11 @@ fn greatest(xs: &[i64]) -> i64
     ensures { Greatest result xs.now }
 {
     let mut hi = xs[0];
-    let mut i: usize = 1;
-    while i < xs.len() {
+    for i in 1..xs.len() {
         let x = xs[i];
         if hi < x {
             hi = x;
         }
-        i += 1;
     }
     hi
 }
@@ -212,16 +198,15 @@ fn middle(lo: i64, hi: i64) -> i64
 }
 
 // How many elements are at most v.
+#[tactic(auto, using(std::proofs::lemmas::List::Sums::count_by_more_yes, std::proofs::lemmas::List::Sums::count_by_more_no, std::proofs::lemmas::List::take_all))]
 fn count_le(xs: &[i64], v: i64) -> usize
     ensures { result ≡ count_le v xs.now }
 {
     let mut n: usize = 0;
-    let mut i: usize = 0;
-    while i < xs.len() {
+    for i in 0..xs.len() {
         if xs[i] <= v {
             n += 1;
         }
-        i += 1;
     }
     n
 }

@@ -1,6 +1,6 @@
 use Rattle.std.proofs.Common.{◌≡◌, ℤ, pos, ◌+ℤ◌, ◌-ℤ◌, ap, ◌∙◌}
 use Rattle.signed.proofs.Bits.{back}
-use Rattle.order.specs.Steps.{count_le, count_lt}
+use Rattle.order.specs.Counts.{count_le, count_lt}
 use Rattle.selection.proofs.Selecting.{previous, holds-below, following, holds-above}
 use Rattle.selection.proofs.around.Goals as goal
 

@@ -1,39 +1,24 @@
-use Rattle.std.proofs.Common.{◌+◌, ◌<◌, length, get_or, pos, arith}
+use Rattle.std.proofs.Common.{◌≡◌, ℤ, ◌+◌, ◌≤◌, get_or, take, pos, arith}
 use Rattle.std.specs.Int.Signed.{le_z, lt_z}
-use Rattle.signed.proofs.Bits.{read, reads, back}
-use Rattle.order.proofs.Counts.{Passed, one_more, no_more, all-passed}
+use Rattle.std.specs.List.{count_by}
+use Rattle.std.proofs.lemmas.List.Sums.{count_by_more_yes, count_by_more_no}
+use Rattle.signed.proofs.Bits.{read, back}
 use Rattle.selection.proofs.between.Goals.{then-x-a, else-x-a, then-x-b, else-x-b}
 use Rattle.selection.proofs.between.Goals as goal
 
 pub loop-i-preserved : goal.loop-i-preserved
 loop-i-preserved c =
-    let l = c.loop-i in
+    let i = c.loop-i.i in
     let xs = c.args.xs.now in
-    let inside : l.i < length xs = c.loop-i-test.true in
-    let x = get_or xs l.i (pos 0) in
-    let same = back x (omega arith) in
-    let a = read c.args.a in
-    let b = read c.args.b in
-    let below : Passed (λ x. lt_z x a) xs (l.i + 1) c.if-x-a.below = elim c.if-x-a.branch [
-      | then-x-a w ↦ rw w.below-is (one_more (λ x. lt_z x a) xs l.i l.below l.invariant.1 inside (rw same at w.if-x-a.true))
-      | else-x-a w ↦ rw w.below-is (no_more (λ x. lt_z x a) xs l.i l.below l.invariant.1 inside (rw same at w.if-x-a.false))
+    let same = back (get_or xs i (pos 0)) (omega arith) in
+    let f = λ (x : ℤ). lt_z x (read c.args.a) in
+    let g = λ (x : ℤ). le_z x (read c.args.b) in
+    let below : (c.if-x-a.below ≤ i + 1) × (c.if-x-a.below ≡ count_by f (take (i + 1) xs)) = elim c.if-x-a.branch [
+      | then-x-a w ↦ omega (arith, count_by_more_yes f xs i (pos 0) (omega arith) (rw same at w.if-x-a.true))
+      | else-x-a w ↦ omega (arith, count_by_more_no f xs i (pos 0) (omega arith) (rw same at w.if-x-a.false))
     ] in
-    let upto : Passed (λ x. le_z x b) xs (l.i + 1) c.if-x-b.upto = elim c.if-x-b.branch [
-      | then-x-b w ↦ rw w.upto-is (one_more (λ x. le_z x b) xs l.i l.upto l.invariant.2 inside (rw same at w.if-x-b.true))
-      | else-x-b w ↦ rw w.upto-is (no_more (λ x. le_z x b) xs l.i l.upto l.invariant.2 inside (rw same at w.if-x-b.false))
+    let upto : (c.if-x-b.upto ≤ i + 1) × (c.if-x-b.upto ≡ count_by g (take (i + 1) xs)) = elim c.if-x-b.branch [
+      | then-x-b w ↦ omega (arith, count_by_more_yes g xs i (pos 0) (omega arith) (rw same at w.if-x-b.true))
+      | else-x-b w ↦ omega (arith, count_by_more_no g xs i (pos 0) (omega arith) (rw same at w.if-x-b.false))
     ] in
-    (omega arith, below, upto)
-
-pub returns : goal.returns
-returns c =
-    let l = c.loop-i in
-    let xs = c.args.xs.now in
-    let a = read c.args.a in
-    let b = read c.args.b in (
-      record {
-        below-is = all-passed (λ x. lt_z x a) xs l.i l.below l.invariant.1 c.loop-i-test.false;
-        upto_is = all-passed (λ x. le_z x b) xs l.i l.upto l.invariant.2 c.loop-i-test.false;
-      },
-      reads c.ranges.a,
-      reads c.ranges.b,
-    )
+    record { inside = omega arith; below-few = below.0; upto_few = upto.0; below-is = below.1; upto_is = upto.1 }

@@ -1,30 +1,25 @@
-use Rattle.std.proofs.Common.{ℤ, Bool, get_or, pos, arith, refl}
-use Rattle.std.specs.Int.Signed.{le_z}
-use mathlib.Core.Bool.{◌&&◌}
-use Rattle.signed.proofs.Bits.{read, reads, back}
-use Rattle.selection.proofs.Keeping.{turn-kept, turn-dropped, finish}
+use Rattle.std.proofs.Common.{◌≡◌, ◌+◌, length, take, get_or, pos, arith, sym, ap, ◌∙◌}
+use Rattle.std.proofs.lemmas.List.{get_or_default, length-take-le}
+use Rattle.std.proofs.lemmas.List.Filters.{FiltersInPlace-more_set, FiltersInPlace-more_no, FiltersInPlace-all}
+use Rattle.signed.proofs.Bits.{reads, back}
+use Rattle.selection.specs.Keeping.{from_to}
+use Rattle.selection.proofs.Keeping.{spare}
+use Rattle.selection.proofs.keep.Goals.{then-lo-x, else-lo-x}
 use Rattle.selection.proofs.keep.Goals as goal
-
--- what is kept
-abbrev kept : ℤ → ℤ → ℤ → Bool
-kept lo hi x = le_z lo x && le_z x hi
-
-pub loop-i-preserved-then-lo-x : goal.loop-i-preserved-then-lo-x
-loop-i-preserved-then-lo-x c =
-    let l = c.loop-i in
-    let x = get_or l.xs l.i (pos 0) in
-    let e = back x (omega arith) in
-    rw e (turn-kept (kept (read c.args.lo) (read c.args.hi)) c.args.xs.now l.i l.j l.xs l.invariant (omega arith) x refl (rw e at c.if-lo-x.true))
 
 pub loop-i-preserved : goal.loop-i-preserved
 loop-i-preserved c =
     let l = c.loop-i in
     let x = get_or l.xs l.i (pos 0) in
     let e = back x (omega arith) in
-    rw e (turn-dropped (kept (read c.args.lo) (read c.args.hi)) c.args.xs.now l.i l.j l.xs l.invariant (omega arith) x refl (rw e at c.if-lo-x.false))
+    let is = get_or_default l.xs l.i (pos 0) x (omega arith) in
+    elim c.if-lo-x.branch [
+      | then-lo-x w ↦ rw (e, w.j-is) (FiltersInPlace-more_set l.invariant (omega arith) (rw e at w.if-lo-x.true) is)
+      | else-lo-x w ↦ rw (e, w.j-is) (spare _ c.args.xs.now l.xs l.j (l.i + 1) x (FiltersInPlace-more_no l.invariant (omega arith) (rw e at w.if-lo-x.false) is) (omega arith))
+    ]
 
 pub returns : goal.returns
 returns c =
     let l = c.loop-i in
-    let f = finish (kept (read c.args.lo) (read c.args.hi)) c.args.xs.now l.i l.j l.xs l.invariant c.loop-i-test.false in
-    rw (reads c.ranges.lo, reads c.ranges.hi) at f
+    let kept : take l.j l.xs ≡ from_to c.args.lo c.args.hi c.args.xs.now = rw (← reads c.ranges.lo, ← reads c.ranges.hi) (FiltersInPlace-all l.invariant (omega arith)) in
+    (sym (length-take-le l.j l.xs (omega arith)) ∙ ap length kept, kept)

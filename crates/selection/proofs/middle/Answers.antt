@@ -1,6 +1,6 @@
 use Rattle.std.proofs.Common.{◌≡◌, true, ◌≤◌, ◌<◌, ◌^◌, ◌⊎◌, inl, inr, ⊎_elim, ℤ, pos, ◌+ℤ◌, ◌-ℤ◌, arith}
 use Rattle.std.specs.Int.Signed.{le_z, lt_z, shr_z}
-use Rattle.signed.specs.Steps.{I64}
+use Rattle.signed.specs.Fits.{I64}
 use Rattle.signed.proofs.Bits.{back}
 use Rattle.signed.proofs.Up.{up, up_top, lt_up, gt-up, ge-up, up_le, up_lt, up-half, in-half, Sum, sum, Difference, difference}
 use Rattle.selection.proofs.middle.Goals.{then-lo-lt0+else-hi-ge0, else-lo-lt0}

@@ -1,8 +1,8 @@
 use Rattle.std.proofs.Common.{◌≡◌, ◌++◌, get_or, take, drop, pos, ◌+ℤ◌, arith, ◌∙◌}
-use Rattle.std.proofs.Math.Seq.{length-take-le, length_front, take-length}
+use Rattle.std.proofs.Math.Seq.{take-length}
 use Rattle.std.proofs.Math.ListN.{get_or-append}
 use Rattle.signed.proofs.Bits.{back}
-use Rattle.order.specs.Steps.{count_le}
+use Rattle.order.specs.Counts.{count_le}
 use Rattle.selection.proofs.Selecting.{start, down, next, over, kept-turn, few-inside, sorted-few}
 use Rattle.selection.proofs.select.Goals as goal
 
@@ -12,16 +12,6 @@ loop-lo-init c =
     let begun = c.begin-begun in
     rw (back begun.result.lo (omega arith), back begun.result.hi (omega arith), take-length xs)
     (omega arith, start xs c.args.k c.requires begun.result (omega arith) (omega arith) begun.ensures)
-
-pub offset_bounds-xs-rank : goal.offset_bounds-xs-rank
-offset_bounds-xs-rank c =
-    let l = c.loop-lo in
-    omega (arith, few-inside l.invariant.1, length-take-le l.m l.xs l.invariant.0)
-
-pub slice_copy_out-result : goal.slice_copy_out-result
-slice_copy_out-result c =
-    let l = c.loop-lo in
-    omega (arith, few-inside l.invariant.1, length-take-le l.m l.xs l.invariant.0, length_front l.xs c.sort_small.new.xs l.m c.sort_small.auto.xs)
 
 pub returns-then-m-le-SMALL : goal.returns-then-m-le-SMALL
 returns-then-m-le-SMALL c =

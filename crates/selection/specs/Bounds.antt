@@ -1,6 +1,6 @@
--- Words of the contracts inside this crate. No public promise names these.
+-- Of a range of numbers: how many elements of a list lie below and up to it, and that the k-th smallest lies in it; for contracts inside this crate.
 use Rattle.std.specs.Prelude.{ℕ, ◌≤◌, ◌<◌, List, ◌≡◌, ℤ}
-use Rattle.order.specs.Steps.{count_le, count_lt}
+use Rattle.order.specs.Counts.{count_le, count_lt}
 use Rattle.selection.specs.declared.Bounds.{Bounds}
 
 -- the counts of a range are those of l
@@ -10,6 +10,6 @@ pub record BoundsCounted (l : List ℤ) (r : Bounds) : Type 0 where
 
 -- and the k-th smallest of l lies in it: at most k are below it, and more than k at most its greatest
 pub record BoundsHold (l : List ℤ) (k : ℕ) (r : Bounds) : Type 0 where
-  pub counted : BoundsCounted l r
+  pub counts-are : BoundsCounted l r
   pub below-low : r.below ≤ k
   pub upto-high : k < r.upto

@@ -9,6 +9,8 @@ use lib.ListN.{length, get_or, take, drop, length-append, length-map, get_or-app
 use lib.Seq.{take_at, drop_at, take_all, take-append-le}
 use Rattle.std.specs.Prelude.{Result, Ok, Err}
 use Rattle.std.specs.Result.{result_and}
+use Rattle.std.specs.List.{sum}
+use Rattle.std.proofs.lemmas.List.Sums.{sum_by-cons}
 use Rattle.refusal.specs.declared.Refusal.{Refusal}
 use Rattle.refusal.proofs.Chains.{err-of}
 use Rattle.slices.specs.Slices.{laid, after}
@@ -21,7 +23,7 @@ use Rattle.maps.specs.Laws.{LentMap}
 use Rattle.maps.proofs.Lawful as maps
 use Rattle.maps.proofs.ReadBack.{none, count, words_are, shifts-are, as_lent}
 use Rattle.cuts.specs.Answers.{range_at, ranges_of, cuts_of, concat, cuts_refusal, Cuts}
-use Rattle.cuts.specs.Laws.{sum, rows_before, Accepted, CountsAsLent, CutsLaws}
+use Rattle.cuts.specs.Laws.{rows_before, Accepted, CountsAsLent, CutsLaws}
 use Rattle.cuts.proofs.Refused.{Cuttable, cuts-unrefused, cuts-accepted, length-cuts}
 use Rattle.cuts.proofs.Rows.{cut_at, count_at}
 use Rattle.cuts.proofs.Single.{one}
@@ -42,7 +44,7 @@ module _ {A : Type 0} where
   length_before [] zero = refl
   length_before [] (suc k) = refl
   length_before (x ∷ l) zero = refl
-  length_before (x ∷ l) (suc k) = length-append x (concat (take k l)) ∙ ap (λ (n : ℕ). length x + n) (length_before l k)
+  length_before (x ∷ l) (suc k) = length-append x (concat (take k l)) ∙ ap (λ (n : ℕ). length x + n) (length_before l k) ∙ sym (sum_by-cons (λ n. n) (length x) (take k (map length l)))
 
 -- y lies in x ++ (y ++ z), of which what is after it is of no matter
 found : {A : Type 0} (x y z o : List A) (b n : ℕ) → length x ≡ b → length y ≡ n → take n (drop b ((x ++ (y ++ z)) ++ o)) ≡ y
@@ -145,7 +147,7 @@ module _ (u : List ℕ) (s : List ℤ) (ranges ou : List ℕ) (os : List ℤ) (c
     inside = can.ready.inside;
     words = can.words;
     shifts = can.shifts;
-    counted = can.counts;
+    counts-fit = can.counts;
   }
 
 -- ---- any call
@@ -164,7 +166,7 @@ accept {u} {s} {ranges} {ou} {os} {counts} a p =
       even = a.pairs;
       words = a.words;
       shifts = a.shifts;
-      counts = a.counted;
+      counts = a.counts-fit;
     }))
 
 counts-kept : (u : List ℕ) (s : List ℤ) (ranges ou : List ℕ) (os : List ℤ) (counts : List ℕ) (r : Result ℕ Refusal) (ou' : List ℕ) (os' : List ℤ) (counts' : List ℕ)

@@ -1,19 +1,20 @@
 -- The refusals of the cuts: what it says that a range, all ranges, or the whole chain isn't refused, and what each test of the chain gives. Assumes nothing.
 use Prim.Native.Nat.{ℕ, ◌*◌, ◌/◌, ◌%◌, ◌≤◌, ◌<◌}
+use Rattle.std.proofs.lemmas.Bool.{and_parts}
+use Rattle.std.proofs.lemmas.List.FromFn.{length-map-range_with_len, get_or-map-range_with_len}
 use native.Mathlib.Nat.{zero-add}
 use native.Mathlib.Omega.{arith}
 use mathlib.Core.Bool.{true, false, ◌&&◌}
 use mathlib.Core.List.{List}
-use mathlib.Core.Path.{◌≡◌, sym, ◌∙◌, ap}
+use mathlib.Core.Path.{◌≡◌, sym, ◌∙◌, ap, refl}
 use lib.IntN.{ℤ}
 use lib.Dec.{ltb, leb, eqb}
 use lib.ListN.{length, get_or, length-map}
 use borrow.Author.Tests.{le-ltb, le-leb, lt-leb, eq-eqb, ne_eqb, ltb-false, leb-true, leb-false, eqb-true, eqb-false, not-false}
 use Rattle.std.specs.Prelude.{Ok, Err}
 use Rattle.std.proofs.Math.Bool.{and-true}
-use Rattle.choice.specs.Choice.{when}
-use Rattle.choice.proofs.Tests.{decide, and-false, and_left, and_right, tests}
-use Rattle.choice.proofs.Runs.{length_run, get_d-run}
+use Rattle.conditions.specs.Conditions.{when}
+use Rattle.conditions.proofs.Tests.{decide, and-false, tests}
 use Rattle.refusal.specs.declared.Reason.TheVariants as reason
 use Rattle.refusal.specs.Refusals.{refused, first_refused}
 use Rattle.refusal.proofs.Chains.{when-ok, and-ok}
@@ -22,10 +23,10 @@ use Rattle.rows.specs.declared.Row.{Row}
 use Rattle.rows.specs.Rows.{total}
 use Rattle.rows.specs.Lent.{rows}
 use Rattle.maps.specs.Answers.{most_rows}
-use Rattle.maps.proofs.Chains.{counted, sound, sound-map}
+use Rattle.maps.proofs.Chains.{accepted-frames, sound, sound-map}
 use Rattle.cuts.specs.declared.Range.{Range}
 use Rattle.cuts.specs.Answers.{Inside, range_at, ranges_of, cuts_of, concat, range_refusal, ranges_refusal, cuts_fit, cuts_refusal}
-use Rattle.cuts.specs.Steps.{ReadyToCut, room_of}
+use Rattle.cuts.specs.Writing.{ReadyToCut, room_of}
 
 -- ---- 50
 inside : (t : ℕ) (r : Range) → range_refusal t r ≡ Ok tt → Inside t r
@@ -55,10 +56,10 @@ odd-rest n e = decide (eqb (n % 2) 0) (λ z. eqb-true (n % 2) 0 z) (λ z. let a 
 
 module _ (t : ℕ) (l : List ℕ) where
   read : (k : ℕ) → k < length l / 2 → get_or (ranges_of l) k no_range ≡ range_at l k
-  read k h = get_d-run (range_at l) 0 (length l / 2) k no_range h ∙ ap (range_at l) (zero-add k)
+  read k h = get_or-map-range_with_len (range_at l) 0 (length l / 2) k _ no_range h refl ∙ ap (range_at l) (zero-add k)
 
   all_read : length (ranges_of l) ≡ length l / 2
-  all_read = length_run (range_at l) 0 (length l / 2)
+  all_read = length-map-range_with_len (range_at l) 0 (length l / 2)
 
   pub ranges-odd : length l % 2 ≡ 1 → ranges_refusal t l ≡ refused reason.BadRange (length l / 2)
   unfolding ranges_refusal when
@@ -107,7 +108,7 @@ room-rows n nu ns =
 
 pub length-cuts : (m : List Row) (l : List ℕ) → length (cuts_of m (ranges_of l)) ≡ length l / 2
 unfolding cuts_of
-length-cuts m l = length-map (ranges_of l) _ ∙ length_run (range_at l) 0 (length l / 2)
+length-cuts m l = length-map (ranges_of l) _ ∙ length-map-range_with_len (range_at l) 0 (length l / 2)
 
 -- ---- the chain
 module _ (u : List ℕ) (s : List ℤ) (ranges : List ℕ) (nu ns nc : ℕ) where
@@ -127,15 +128,12 @@ module _ (u : List ℕ) (s : List ℤ) (ranges : List ℕ) (nu ns nc : ℕ) wher
   pub fit-facts : cuts_fit all nu ns nc ≡ true → (5 * length (concat all) ≤ nu) × (length (concat all) ≤ ns) × (length ranges / 2 ≤ nc)
   fit-facts e =
       let n = length (concat all) in
-      let f = and_left (leb (5 * n) nu && leb n ns) (leb (length all) nc) e in
-      let c = leb-true (length all) nc (and_right (leb (5 * n) nu && leb n ns) (leb (length all) nc) e) in (
-        leb-true (5 * n) nu (and_left (leb (5 * n) nu) (leb n ns) f),
-        leb-true n ns (and_right (leb (5 * n) nu) (leb n ns) f),
+      let f = (and_parts (leb (5 * n) nu && leb n ns) (leb (length all) nc) e).0 in
+      let c = leb-true (length all) nc (and_parts (leb (5 * n) nu && leb n ns) (leb (length all) nc) e).1 in (
+        leb-true (5 * n) nu (and_parts (leb (5 * n) nu) (leb n ns) f).0,
+        leb-true n ns (and_parts (leb (5 * n) nu) (leb n ns) f).1,
         omega (arith, length-cuts (rows u s) ranges),
       )
-
--- for the tests one after another
-pub ruleset refusing = (counted, counts-over, rows-asked, tests)
 
 -- ---- cuts that aren't refused
 pub record Cuttable (u : List ℕ) (s : List ℤ) (ranges : List ℕ) (nu ns nc : ℕ) : Type 0 where
@@ -174,3 +172,6 @@ cuts-accepted u s ranges nu ns nc o =
       le-leb (length (concat (cuts_of (rows u s) (ranges_of ranges)))) ns o.shifts,
       le-leb (length (cuts_of (rows u s) (ranges_of ranges))) nc (omega (arith, length-cuts (rows u s) ranges, o.counts)),
     )
+
+-- for the tests one after another, and what was tested
+pub ruleset refusing = (accepted-frames, ranges-unrefused, counts-over, rows-asked, cuts-unrefused, tests)

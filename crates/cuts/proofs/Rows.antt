@@ -1,19 +1,19 @@
 -- The rows of all cuts: counted cut by cut, and written one cut after the other over what is lent. Assumes nothing.
 use Prim.Native.Nat.{ℕ, ◌+◌, ◌-◌, ◌*◌, ◌/◌, ◌≤◌, ◌<◌}
+use Rattle.std.proofs.lemmas.List.{get_or-map}
+use Rattle.std.proofs.lemmas.List.FromFn.{length-map-range_with_len, get_or-map-range_with_len}
+use Rattle.slices.proofs.Ranges.{run, run-cons, run-nil}
 use native.Mathlib.Nat.{le-div_iff_mul-le}
 use native.Mathlib.Omega.{arith}
-use mathlib.Core.Bool.{Bool, true, false}
+use mathlib.Core.Bool.{true, false}
 use mathlib.Core.List.{List, [], ◌∷◌, ◌++◌, map, append_assoc}
-use mathlib.Core.Path.{◌≡◌, sym, ◌∙◌, ap}
+use mathlib.Core.Path.{◌≡◌, sym, ◌∙◌, ap, refl}
 use lib.IntN.{ℤ}
 use lib.Dec.{leb}
 use lib.ListN.{length, get_or, take, drop, length-append, length-map, length-drop}
 use borrow.Author.Tests.{le-leb, lt-leb}
-use Rattle.choice.specs.Records.{run}
-use Rattle.choice.proofs.Tests.{same-leb}
-use Rattle.choice.proofs.Runs.{run-cons, run-nil, length_run, get_d-run}
+use Rattle.conditions.proofs.Tests.{same-leb}
 use Rattle.slices.specs.Slices.{laid}
-use Rattle.slices.proofs.Lists.{map_at}
 use Rattle.slices.proofs.Laid.{laid-laid}
 use Rattle.slices.proofs.Parts.{from}
 use Rattle.rows.specs.declared.Row.{Row}
@@ -21,7 +21,8 @@ use Rattle.rows.specs.Rows.{cut}
 use Rattle.rows.specs.Lent.{row_at, rows, words_of, shifts_of}
 use Rattle.rows.proofs.Demanded.{demanded}
 use Rattle.rows.proofs.Flat.{words_append, shifts-append, length-words, length-shifts}
-use Rattle.maps.specs.Steps.{Room}
+use Rattle.maps.specs.Spans.{Room}
+use Rattle.maps.proofs.Spans.{span-length}
 use Rattle.maps.proofs.Written.{Written, rows_all, words-length, shifts-length}
 use Rattle.cuts.specs.declared.Range.{Range}
 use Rattle.cuts.specs.Answers.{range_at, ranges_of, cuts_of, concat}
@@ -44,14 +45,17 @@ module _ (m : List Row) (f : ℕ → Range) (k n : ℕ) where
     long : length (rest m f k n) ≡ c + length (rest m f (k + 1) n)
     long = ap length (rest-next h) ∙ length-append (cut (f k).from (f k).to m) (rest m f (k + 1) n) ∙ ap (λ (x : ℕ). x + length (rest m f (k + 1) n)) e
 
-    pub count-over : {b : Bool} → left < c → leb (length (rest m f k n)) left ≡ b → false ≡ b
-    count-over l i = sym (lt-leb (length (rest m f k n)) left (omega (arith, long))) ∙ i
+    pub count-over : left < c → leb (length (rest m f k n)) left ≡ false
+    count-over l = lt-leb (length (rest m f k n)) left (omega (arith, long))
 
-    pub count-on : {b : Bool} → c ≤ left → leb (length (rest m f k n)) left ≡ b → leb (length (rest m f (k + 1) n)) (left - c) ≡ b
-    count-on l i = same-leb (length (rest m f (k + 1) n)) (left - c) (length (rest m f k n)) left (λ x. omega (arith, long)) (λ x. omega (arith, long)) ∙ i
+    pub count-on : c ≤ left → leb (length (rest m f (k + 1) n)) (left - c) ≡ leb (length (rest m f k n)) left
+    count-on l = same-leb (length (rest m f (k + 1) n)) (left - c) (length (rest m f k n)) left (λ x. omega (arith, long)) (λ x. omega (arith, long))
 
-  pub count-end : {b : Bool} (left : ℕ) → n ≤ k → leb (length (rest m f k n)) left ≡ b → true ≡ b
-  count-end left h i = sym (le-leb (length (rest m f k n)) left (omega (arith, ap length (rest-none h)))) ∙ i
+  pub count-end : (left : ℕ) → n ≤ k → leb (length (rest m f k n)) left ≡ true
+  count-end left h = le-leb (length (rest m f k n)) left (omega (arith, ap length (rest-none h)))
+
+-- for the loop that counts
+pub ruleset counting = (span-length, count-over, count-on, count-end)
 
 -- no cut has more rows than the map
 cuts-few : (m : List Row) (l : List Range) → length (concat (cuts_of m l)) ≤ length l * length m
@@ -63,8 +67,8 @@ cuts-few m (r ∷ l) =
 
 pub plainly : (u : List ℕ) (s : List ℤ) (l : List ℕ) (room : ℕ) → 0 < length s → length l / 2 ≤ room / length s → true ≡ leb (length (concat (cuts_of (rows u s) (ranges_of l)))) room
 plainly u s l room some h =
-    let n = length_run (range_at l) 0 (length l / 2) in
-    let m = length_run (row_at u s) 0 (length s) in
+    let n = length-map-range_with_len (range_at l) 0 (length l / 2) in
+    let m = length-map-range_with_len (row_at u s) 0 (length s) in
     let e : length (ranges_of l) * length (rows u s) ≡ length l / 2 * length s = λ i. n i * m i in
     sym (le-leb (length (concat (cuts_of (rows u s) (ranges_of l)))) room (omega (arith, cuts-few (rows u s) (ranges_of l), e, (le-div_iff_mul-le {k = length s} {x = length l / 2} {y = room} some).0 h)))
 
@@ -107,12 +111,12 @@ module _ {C rest₀ : List Row} (x rest : List Row) {ou₀ : List ℕ} {os₀ : 
 pub cut_at : (m : List Row) (f : ℕ → Range) (n k : ℕ) → k < n → get_or (cuts_of m (run f 0 n)) k [] ≡ cut (f k).from (f k).to m
 unfolding cuts_of
 cut_at m f n k h =
-    let a = length_run f 0 n in
+    let a = length-map-range_with_len f 0 n in
     let z : 0 + k ≡ k = omega arith in
-    map_at (λ (r : Range). cut r.from r.to m) (run f 0 n) k [] (f k) (omega arith) ∙ ap (λ (r : Range). cut r.from r.to m) (get_d-run f 0 n k (f k) h ∙ ap f z)
+    get_or-map (λ (r : Range). cut r.from r.to m) (run f 0 n) k (f k) [] (omega arith) ∙ ap (λ (r : Range). cut r.from r.to m) (get_or-map-range_with_len f 0 n k _ (f k) h refl ∙ ap f z)
 
 pub count_at : (m : List Row) (f : ℕ → Range) (n k : ℕ) → k < n → get_or (map length (cuts_of m (run f 0 n))) k 0 ≡ length (cut (f k).from (f k).to m)
 unfolding cuts_of
 count_at m f n k h =
-    let a = length_run f 0 n in
-    map_at length (cuts_of m (run f 0 n)) k 0 [] (omega (arith, length-map (run f 0 n) (λ (r : Range). cut r.from r.to m))) ∙ ap length (cut_at m f n k h)
+    let a = length-map-range_with_len f 0 n in
+    get_or-map length (cuts_of m (run f 0 n)) k [] 0 (omega (arith, length-map (run f 0 n) (λ (r : Range). cut r.from r.to m))) ∙ ap length (cut_at m f n k h)

@@ -1,5 +1,6 @@
 -- One range is refused, answered and written as by `cut`. Assumes nothing.
 use Prim.Native.Nat.{ℕ, ◌≤◌, ◌<◌}
+use Rattle.std.proofs.lemmas.List.FromFn.{length-map-range_with_len}
 use native.Mathlib.Omega.{arith}
 use mathlib.Core.List.{List, [], ◌∷◌, append-nil}
 use mathlib.Core.Path.{◌≡◌, sym, ◌∙◌, ap}
@@ -10,10 +11,8 @@ use borrow.Author.Tests.{le-leb, ltb-false}
 use Rattle.std.specs.Prelude.{Result}
 use Rattle.std.specs.Result.{result_and}
 use Rattle.std.proofs.Math.Bool.{and-true}
-use Rattle.choice.specs.Choice.{when}
-use Rattle.choice.specs.Records.{run}
-use Rattle.choice.proofs.Tests.{decide}
-use Rattle.choice.proofs.Runs.{length_run}
+use Rattle.conditions.specs.Conditions.{when}
+use Rattle.conditions.proofs.Tests.{decide}
 use Rattle.refusal.specs.declared.Refusal.{Refusal}
 use Rattle.refusal.specs.declared.Reason.TheVariants as reason
 use Rattle.refusal.specs.Refusals.{refused, first_refused}
@@ -25,12 +24,12 @@ use Rattle.maps.specs.Answers.{most_rows, map_refusal, fits, room_refusal, cut_r
 use Rattle.cuts.specs.Answers.{ranges_of, cuts_of, concat, cuts_fit, range_refusal, ranges_refusal, cuts_refusal, Cuts}
 
 one-cut : (m : List Row) (a b : ℕ) → concat (cuts_of m (ranges_of (a ∷ b ∷ []))) ≡ cut a b m
-unfolding concat cuts_of run
+unfolding concat cuts_of
 one-cut m a b = append-nil (cut a b m)
 
 -- the two tests of a range, with what comes after them
 one-range : (t a b : ℕ) (rest : Result (Unit {0}) Refusal) → result_and (ranges_refusal t (a ∷ b ∷ [])) rest ≡ when (leb b a) (refused reason.BadRange 0) (when (ltb t b) (refused reason.BadRange 0) rest)
-unfolding ranges_refusal first_refused range_refusal run when
+unfolding ranges_refusal first_refused range_refusal when
 one-range t a b rest = decide (leb b a) (λ e. rw e) (λ e. decide (ltb t b) (λ f. rw (e, f)) (λ f. rw (e, f)))
 
 module _ (u : List ℕ) (s : List ℤ) (a b nu ns nc : ℕ) (h : 0 < nc) where
@@ -39,13 +38,13 @@ module _ (u : List ℕ) (s : List ℤ) (a b nu ns nc : ℕ) (h : 0 < nc) where
 
   -- room for a cut is the same room, since it has no more rows than the map
   one-room : length s ≤ most_rows → cuts_fit all nu ns nc ≡ fits (length (cut a b (rows u s))) nu ns
-  unfolding concat cuts_of run
+  unfolding concat cuts_of
   one-room few =
       let k = length (cut a b (rows u s)) in
       rw (
         append-nil (cut a b (rows u s)),
         le-leb 1 nc h,
-        le-leb k most_rows (omega (arith, demanded.cut-rows (rows u s) a b, length_run (row_at u s) 0 (length s))),
+        le-leb k most_rows (omega (arith, demanded.cut-rows (rows u s) a b, length-map-range_with_len (row_at u s) 0 (length s))),
         and-true,
       )
 

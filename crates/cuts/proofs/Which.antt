@@ -7,8 +7,8 @@ use lib.IntN.{ℤ}
 use lib.ListN.{length}
 use borrow.Author.Tests.{le-ltb, ltb-false}
 use Rattle.std.specs.Prelude.{Result, Ok, Err}
-use Rattle.choice.specs.Choice.{when}
-use Rattle.choice.proofs.Tests.{decide}
+use Rattle.conditions.specs.Conditions.{when}
+use Rattle.conditions.proofs.Tests.{decide}
 use Rattle.refusal.specs.declared.Refusal.{Refusal}
 use Rattle.refusal.specs.declared.Reason.TheVariants as reason
 use Rattle.refusal.specs.Refusals.{refused}
@@ -55,5 +55,5 @@ module _ (u : List ℕ) (s : List ℤ) (ranges ou : List ℕ) (os : List ℤ) (c
     unfolding cuts_refusal when
     room-refused e b q =
         decide (cuts_fit (cuts_of (rows u s) (ranges_of ranges)) (length ou) (length os) (length counts))
-        (λ f. let x = fit-facts u s ranges (length ou) (length os) (length counts) f in absurd (q (record { map = m; pairs = e; inside = b; words = x.0; shifts = x.1; counted = x.2 })))
+        (λ f. let x = fit-facts u s ranges (length ou) (length os) (length counts) f in absurd (q (record { map = m; pairs = e; inside = b; words = x.0; shifts = x.1; counts-fit = x.2 })))
         (λ f. rw (is-sound, le-ltb most_rows (length s) m.few, ranges-accepted t ranges e b, f) at p.placed.answer)

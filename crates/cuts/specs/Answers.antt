@@ -1,8 +1,8 @@
 -- Many cuts of one map: the ranges as they are lent, the rows of their cuts, and what `cuts` answers and leaves in the lent room.
 use Rattle.std.specs.Prelude.{ℕ, ◌+◌, ◌*◌, ◌/◌, ◌%◌, ◌≤◌, ◌<◌, Bool, not, ◌&&◌, List, [], ◌∷◌, ◌++◌, map, ◌≡◌, ℤ, ltb, leb, eqb, length, get_or, Result, Ok, Err}
+use Rattle.std.specs.List.{range_with_len}
 use Rattle.std.specs.Result.{result_and}
-use Rattle.choice.specs.Choice.{when}
-use Rattle.choice.specs.Records.{run}
+use Rattle.conditions.specs.Conditions.{when}
 use Rattle.refusal.specs.declared.Reason.{Reason}
 use Rattle.refusal.specs.declared.Reason.TheVariants as reason
 use Rattle.refusal.specs.declared.Refusal.{Refusal}
@@ -24,7 +24,7 @@ abbrev pub range_at : List ℕ → ℕ → Range
 range_at l k = record { from = get_or l (2 * k) 0; to = get_or l (2 * k + 1) 0 }
 
 abbrev pub ranges_of : List ℕ → List Range
-ranges_of l = run (range_at l) 0 (length l / 2)
+ranges_of l = map (range_at l) (range_with_len 0 (length l / 2))
 
 -- of a map, the cut of each range
 unfoldable pub cuts_of : List Row → List Range → List (List Row)

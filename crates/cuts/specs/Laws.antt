@@ -1,6 +1,7 @@
 -- WHAT THE CUTS GIVE, beside `cut` of each range alone. `Cuts` and `Cut` say which answers the calls allow, so that each law speaks of any such answers. Every line
 -- is proved of the promises of Answers.antt and of maps, as the contract of `each_cut_is_one_cut`, and the audit claims it of the promises in the source.
-use Rattle.std.specs.Prelude.{ℕ, ◌+◌, ◌*◌, ◌/◌, ◌%◌, ◌≤◌, ◌<◌, List, [], ◌∷◌, ◌≡◌, ℤ, length, get_or, take, drop, Result, Ok, Err}
+use Rattle.std.specs.Prelude.{ℕ, ◌*◌, ◌/◌, ◌%◌, ◌≤◌, ◌<◌, List, [], ◌∷◌, ◌≡◌, ℤ, length, get_or, take, drop, Result, Ok, Err}
+use Rattle.std.specs.List.{sum}
 use Rattle.refusal.specs.declared.Refusal.{Refusal}
 use Rattle.refusal.specs.declared.Reason.TheVariants as reason
 use Rattle.refusal.specs.Refusals.{refused}
@@ -8,10 +9,6 @@ use Rattle.rows.specs.Rows.{total}
 use Rattle.rows.specs.Lent.{rows}
 use Rattle.maps.specs.Laws.{LentMap, AsLent, Writes}
 use Rattle.cuts.specs.Answers.{Inside, range_at, ranges_of, cuts_of, concat}
-
-abbrev pub sum : List ℕ → ℕ
-sum [] = 0
-sum (n ∷ l) = n + sum l
 
 -- the rows that are written before those of cut k
 abbrev pub rows_before : ℕ → List ℕ → ℕ
@@ -24,7 +21,7 @@ pub record Accepted (u : List ℕ) (s : List ℤ) (ranges ou : List ℕ) (os : L
   pub inside : (k : ℕ) → k < length ranges / 2 → Inside (total (rows u s)) (range_at ranges k)
   pub words : 5 * length (concat (cuts_of (rows u s) (ranges_of ranges))) ≤ length ou
   pub shifts : length (concat (cuts_of (rows u s) (ranges_of ranges))) ≤ length os
-  pub counted : length ranges / 2 ≤ length counts
+  pub counts-fit : length ranges / 2 ≤ length counts
 
 -- what was left of the counts: all on a refusal, else what lies past those of c cuts
 abbrev pub CountsAsLent : Result ℕ Refusal → ℕ → List ℕ → List ℕ → Type 0

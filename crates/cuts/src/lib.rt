@@ -1,16 +1,18 @@
-// Many cuts of one map in one call: the map is tested once, and the rows of all cuts are written one cut after the other.
+// Many cuts of one map in one call: the map is tested once, and the rows of all cuts are written one cut after the other. A map is lent as its
+// words u and its shifts s; ou, os and counts are lent for the rows out and how many each cut has, nu words, ns shifts and nc counts.
 #![tactic(auto)]
 
 ghost use Rattle.std.specs.Prelude.{◌≡◌, ◌+◌, ◌*◌, ◌/◌, ◌≤◌, leb, length};
 ghost use Rattle.rows.specs.Lent.{rows};
 ghost use Rattle.maps.specs.Answers.{Cut};
-ghost use Rattle.maps.specs.Steps.{Room};
+ghost use Rattle.maps.specs.Spans.{Room};
 ghost use Rattle.cuts.specs.Answers.{range_at, ranges_of, cuts_of, concat, range_refusal, ranges_refusal, cuts_refusal, Cuts};
 ghost use Rattle.cuts.specs.Laws.{CutsLaws};
-ghost use Rattle.cuts.specs.Steps.{ReadyToCut, AllWritten, room_of};
+ghost use Rattle.cuts.specs.Writing.{ReadyToCut, AllWritten, room_of};
 
 use maps::MOST_ROWS;
 use refusal::{Reason, Refusal};
+use rows::ROW_WORDS;
 
 // The frames of a map from `from` on that come before `to`.
 #[derive(Clone, Copy)]
@@ -32,7 +34,7 @@ fn range_at(ranges: &[u64], k: usize) -> Range
 }
 
 // 50 of a range of a map of t frames.
-#[tactic(auto, using(choice::proofs::Tests::tests), unfolding(choice::specs::Choice::when, crate::specs::Answers::range_refusal))]
+#[tactic(auto, using(conditions::proofs::Tests::tests), unfolding(conditions::specs::Conditions::when, crate::specs::Answers::range_refusal))]
 fn refuse_range(r: Range, t: u64) -> Result<(), Reason>
     ensures { result ≡ range_refusal t r }
 {
@@ -46,7 +48,7 @@ fn refuse_range(r: Range, t: u64) -> Result<(), Reason>
 }
 
 // 50 of the ranges.
-#[tactic(auto, using(crate::proofs::Refused::ranged), unfolding(choice::specs::Choice::when, crate::specs::Answers::ranges_refusal))]
+#[tactic(auto, using(crate::proofs::Refused::ranged), unfolding(conditions::specs::Conditions::when, crate::specs::Answers::ranges_refusal))]
 fn refuse_ranges(ranges: &[u64], t: u64) -> Result<(), Refusal>
     ensures { result ≡ ranges_refusal t ranges.now }
 {
@@ -54,37 +56,35 @@ fn refuse_ranges(ranges: &[u64], t: u64) -> Result<(), Refusal>
     if ranges.len() % 2 == 1 {
         return Err(Reason::BadRange.at(n));
     }
-    let mut k: usize = 0;
-    while k < n {
+    for k in 0..n {
         if let Err(reason) = refuse_range(range_at(ranges, k), t) {
             return Err(reason.at(k));
         }
-        k += 1;
     }
     Ok(())
 }
 
 // Whether room for so many rows holds those of all cuts, counted cut by cut, so that no sum passes the room.
-fn holds_counted(u: &[u64], s: &[i64], ranges: &[u64], room: usize) -> bool
+#[tactic(auto, using(crate::proofs::Rows::counting))]
+fn holds_cut_by_cut(u: &[u64], s: &[i64], ranges: &[u64], room: usize) -> bool
     requires { ReadyToCut u.now s.now ranges.now }
     ensures { result ≡ leb (length (concat (cuts_of (rows u.now s.now) (ranges_of ranges.now)))) room }
 {
     let n = ranges.len() / 2;
     let mut left = room;
-    let mut k: usize = 0;
-    while k < n {
+    for k in 0..n {
         let r = range_at(ranges, k);
-        let t = maps::part_of(u, s, r.from, r.to);
-        if left < t.rows {
+        let part = maps::part_of(u, s, r.from, r.to);
+        if left < part.count {
             return false;
         }
-        left -= t.rows;
-        k += 1;
+        left -= part.count;
     }
     true
 }
 
 // The same; where each cut could have all rows of the map, none is counted.
+#[tactic(auto, using(crate::proofs::Rows::plainly))]
 fn holds_all(u: &[u64], s: &[i64], ranges: &[u64], room: usize) -> bool
     requires { ReadyToCut u.now s.now ranges.now }
     ensures { result ≡ leb (length (concat (cuts_of (rows u.now s.now) (ranges_of ranges.now)))) room }
@@ -92,18 +92,18 @@ fn holds_all(u: &[u64], s: &[i64], ranges: &[u64], room: usize) -> bool
     if ranges.len() / 2 <= room / s.len() {
         return true;
     }
-    holds_counted(u, s, ranges, room)
+    holds_cut_by_cut(u, s, ranges, room)
 }
 
 // The rows for which there is room in nu words and ns shifts.
 fn room_of(nu: usize, ns: usize) -> usize
     ensures { result ≡ room_of nu ns }
 {
-    if nu / 5 < ns { nu / 5 } else { ns }
+    (nu / ROW_WORDS).min(ns)
 }
 
 // The refusal of the cuts, where nu words, ns shifts and nc counts are lent.
-#[tactic(auto, using(crate::proofs::Refused::refusing), unfolding(choice::specs::Choice::when, crate::specs::Answers::cuts_refusal))]
+#[tactic(auto, using(crate::proofs::Refused::refusing), unfolding(conditions::specs::Conditions::when, crate::specs::Answers::cuts_refusal))]
 fn refuse_cuts(
     u: &[u64],
     s: &[i64],
@@ -142,29 +142,19 @@ fn write_cuts(
 {
     let n = ranges.len() / 2;
     let mut w: usize = 0;
-    let mut k: usize = 0;
-    while k < n {
+    for k in 0..n {
         let r = range_at(ranges, k);
-        let t = maps::part_of(u, s, r.from, r.to);
-        let m = 5 * w;
-        maps::write_cut(
-            u,
-            s,
-            r.from,
-            r.to,
-            t.first,
-            t.rows,
-            &mut ou[m..],
-            &mut os[w..],
-        );
-        counts[k] = t.rows as u64;
-        w += t.rows;
-        k += 1;
+        let part = maps::part_of(u, s, r.from, r.to);
+        let m = ROW_WORDS * w;
+        maps::write_cut(u, s, r.from, r.to, part, &mut ou[m..], &mut os[w..]);
+        counts[k] = part.count as u64;
+        w += part.count;
     }
     w
 }
 
 // Cuts of a map into what is lent, two words a range: of each range the rows that `maps::cut` would write, and how many these are.
+#[tactic(auto, using(crate::proofs::Refused::refusing))]
 pub fn cuts(
     u: &[u64],
     s: &[i64],

@@ -1,12 +1,12 @@
 -- Chains of refusals: what it says that none of them refused, and what each call's chain gives. Assumes nothing.
 use Rattle.std.proofs.Common.{◌≡◌, ℕ, suc, ◌+◌, ◌*◌, ◌<◌, ◌≤◌, true, false, ◌&&◌, eqb, ltb, leb, List, [], ◌∷◌, length, ℤ, refl, sym, ◌∙◌, arith, ltb-false, ltb-true, le-ltb, lt-ltb, eq-eqb, eqb-true, le-leb, leb-false, leb-true}
+use Rattle.std.proofs.lemmas.Bool.{and_parts}
+use Rattle.std.proofs.lemmas.List.FromFn.{length-map-range_with_len}
 use borrow.Author.Tests.{lt-leb, not-false}
 use Rattle.std.specs.Prelude.{Ok}
 use Rattle.std.specs.Result.{result_and}
-use Rattle.choice.specs.Choice.{when, past, max_u64}
-use Rattle.choice.proofs.Tests.{and_left, and_right}
-use Rattle.choice.proofs.Sums.{past-not, not-past}
-use Rattle.choice.proofs.Runs.{length_run}
+use Rattle.conditions.specs.Conditions.{when, past, max_u64}
+use Rattle.conditions.proofs.Sums.{past-not, not-past}
 use Rattle.refusal.specs.declared.Reason.TheVariants as reason
 use Rattle.refusal.specs.Refusals.{refused}
 use Rattle.refusal.proofs.Chains.{when-ok, and-ok, ok-of}
@@ -15,11 +15,7 @@ use Rattle.rows.specs.Rows.{total, ok_row, WellFrom, cut, join, merge}
 use Rattle.rows.proofs.Demanded.{demanded}
 use Rattle.rows.specs.Lent.{row_at, rows}
 use Rattle.maps.specs.Answers.{most_rows, sized, first_bad, map_refusal, fits, room_refusal, cut_refusal, join_refusal, merge_refusal, origin_refusal}
-use Rattle.maps.specs.Steps.{Sound}
-
--- what an accepted map's count says
-pub counted : (u : List ℕ) (s : List ℤ) {d : ℕ} → Ok d ≡ result_and (map_refusal u s) (Ok (total (rows u s))) → (map_refusal u s ≡ Ok tt) × (total (rows u s) ≡ d)
-counted u s {d} e = ok-of (map_refusal u s) (total (rows u s)) d (sym e)
+use Rattle.maps.specs.Spans.{Sound}
 
 -- 51
 first-well : (m : List Row) (p i : ℕ) → first_bad p i m ≡ Ok tt → WellFrom p m
@@ -38,10 +34,15 @@ sound u s e =
     let o = when-ok _ _ _ tt e in
     let z = not-false (sized (length u) (length s)) o.0 in
     record {
-      some = ltb-true 0 (length s) (and_left (ltb 0 (length s)) (eqb (length u) (5 * length s)) z);
-      sizes = eqb-true (length u) (5 * length s) (and_right (ltb 0 (length s)) (eqb (length u) (5 * length s)) z);
+      some = ltb-true 0 (length s) (and_parts (ltb 0 (length s)) (eqb (length u) (5 * length s)) z).0;
+      sizes = eqb-true (length u) (5 * length s) (and_parts (ltb 0 (length s)) (eqb (length u) (5 * length s)) z).1;
       well = first-well (rows u s) 0 0 o.1;
     }
+
+-- what an accepted map's frames say
+pub accepted-frames : (u : List ℕ) (s : List ℤ) {d : ℕ} → Ok d ≡ result_and (map_refusal u s) (Ok (total (rows u s)))
+    → Sound u s × (map_refusal u s ≡ Ok tt) × (total (rows u s) ≡ d)
+accepted-frames u s {d} e = let o = ok-of (map_refusal u s) (total (rows u s)) d (sym e) in (sound u s o.0, o.0, o.1)
 
 pub sound-map : (u : List ℕ) (s : List ℤ) → Sound u s → map_refusal u s ≡ Ok tt
 unfolding map_refusal when
@@ -60,11 +61,11 @@ fits-facts k nu ns e =
     let a = leb k most_rows in
     let b = leb (5 * k) nu in
     let c = leb k ns in
-    let e₁ = and_left (a && b) c e in
+    let e₁ = (and_parts (a && b) c e).0 in
     record {
-      few = leb-true k most_rows (and_left a b e₁);
-      words = leb-true (5 * k) nu (and_right a b e₁);
-      shifts = leb-true k ns (and_right (a && b) c e);
+      few = leb-true k most_rows (and_parts a b e₁).0;
+      words = leb-true (5 * k) nu (and_parts a b e₁).1;
+      shifts = leb-true k ns (and_parts (a && b) c e).1;
     }
 
 pub facts-fit : (k nu ns : ℕ) → Fits k nu ns → fits k nu ns ≡ true
@@ -134,7 +135,7 @@ module _ (u : List ℕ) (s : List ℤ) (nu ns : ℕ) (e : map_refusal u s ≡ Ok
   merge-roomy h =
       let f = fits-facts (length s) nu ns h in
       let l = demanded.merge-rows (rows u s) in
-      let n = length_run (row_at u s) 0 (length s) in
+      let n = length-map-range_with_len (row_at u s) 0 (length s) in
       let k = length (merge (rows u s)) in
       merge-room ∙ room-off k nu ns (facts-fit k nu ns (record { few = omega (arith, f.few); words = omega (arith, f.words); shifts = omega (arith, f.shifts) }))
 

@@ -5,17 +5,17 @@ use Rattle.std.specs.Result.{result_and}
 use Rattle.refusal.specs.declared.Refusal.{Refusal}
 use Rattle.refusal.specs.declared.Reason.TheVariants as reason
 use Rattle.refusal.specs.Refusals.{refused}
-use Rattle.choice.specs.Choice.{max_u64}
-use Rattle.choice.proofs.Tests.{le-or-lt}
+use Rattle.conditions.specs.Conditions.{max_u64}
+use Rattle.conditions.proofs.Tests.{le-or-lt}
 use Rattle.rows.specs.declared.Row.{Row}
 use Rattle.rows.specs.declared.Origin.{Origin}
 use Rattle.rows.specs.Rows.{total, origin, cut, join, merge}
 use Rattle.rows.proofs.Demanded.{demanded}
 use Rattle.rows.specs.Lent.{rows}
 use Rattle.maps.specs.Answers.{most_rows, room_refusal, cut_refusal, merge_refusal, traced_as, Placed, Cut, Join, Merge, Trace}
-use Rattle.maps.specs.Steps.{Sound}
+use Rattle.maps.specs.Spans.{Sound}
 use Rattle.maps.specs.Laws.{LentMap, Wrote, TracedTo, Laws}
-use Rattle.choice.proofs.Sums.{not-past}
+use Rattle.conditions.proofs.Sums.{not-past}
 use Rattle.maps.proofs.Chains.{Fits, room-on, too_many, sound-map, cut-empty, cut-room, cut-unrefused, cut-accepted, merge-room, merge-unrefused, merge-accepted, join-room, join-unrefused, join-accepted, origin-beyond, origin-accepted}
 use Rattle.maps.proofs.Spans.{origin-held, row-holder}
 use Rattle.maps.proofs.Joined.{length-rows, length-join}

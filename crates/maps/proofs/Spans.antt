@@ -1,39 +1,34 @@
 -- Runs of rows: where each row of a sound map lies, the row that holds a frame, and the rows that a cut takes. Assumes nothing.
 use Rattle.std.proofs.Common.{◌≡◌, ℕ, zero, suc, ◌+◌, ◌-◌, ◌<◌, ◌≤◌, min, max, true, false, List, [], ◌∷◌, ◌++◌, length, get_or, ℤ, sym, refl, ap, ◌∙◌, subst, ⊎_elim, append-nil, le_of_suc-le-suc, not-suc-le-zero, add-zero, arith, ltb-true, le-ltb, lt-ltb}
-use Rattle.choice.specs.Records.{run}
-use Rattle.choice.proofs.Runs.{length_run, get_d-run}
-use Rattle.choice.proofs.Tests.{le-or-lt, Test, was, wasnt, test}
+use Rattle.std.proofs.lemmas.List.FromFn.{length-map-range_with_len, get_or-map-range_with_len, map-range_with_len_more}
+use Rattle.slices.proofs.Ranges.{run}
+use Rattle.conditions.proofs.Tests.{le-or-lt, Test, was, wasnt, test}
 use Rattle.rows.specs.declared.Row.{Row}
 use Rattle.rows.specs.declared.Origin.{Origin}
 use Rattle.rows.specs.Rows.{row_end, total, WellFrom, WellFormed, holds, origin_in, origin, overlaps, clip, cut}
 use Rattle.rows.specs.Demands.{no_row}
 use Rattle.rows.proofs.Origins.{holds-in, holds-lo, holds-hi}
 use Rattle.rows.proofs.Demanded.{demanded}
+use Rattle.rows.proofs.Joining.{append-total}
 use Rattle.rows.proofs.Well.{OkRow, ok-facts}
 use Rattle.std.specs.Prelude.{Ok, Some}
 use Rattle.std.specs.Result.{result_and}
-use Rattle.choice.specs.Choice.{max_u64}
+use Rattle.conditions.specs.Conditions.{max_u64}
 use Rattle.rows.specs.Lent.{row_at, rows}
-use Rattle.rows.specs.Steps.{out_at, OutsRise, LastBegun}
+use Rattle.rows.specs.Begun.{out_at, OutsRise, LastBegun}
 use Rattle.maps.specs.Answers.{origin_refusal, traced_as}
-use Rattle.maps.specs.Steps.{Sound, Room, Holder, Span}
+use Rattle.maps.specs.Spans.{Sound, Room, Holder, Span}
 use Rattle.maps.proofs.Chains.{Cuttable}
 
 module _ (f : ℕ → Row) where
-  total-snoc : (i n : ℕ) → total (run f i (suc n)) ≡ total (run f i n) + (f (i + n)).count
-  unfolding run
-  total-snoc i zero = ap (λ (j : ℕ). (f j).count + 0) (sym (add-zero i)) ∙ omega arith
-  total-snoc i (suc n) =
-      let e : suc i + n ≡ i + suc n = omega arith in
-      let h = subst (λ (j : ℕ). total (run f (suc i) (suc n)) ≡ total (run f (suc i) n) + (f j).count) e (total-snoc (suc i) n) in
-      omega arith
-
   -- where row n begins
   abbrev start : ℕ → ℕ
   start n = total (run f 0 n)
 
   start-next : (n : ℕ) → start (suc n) ≡ start n + (f n).count
-  start-next n = let e : 0 + n ≡ n = omega arith in subst (λ (j : ℕ). start (suc n) ≡ start n + (f j).count) e (total-snoc 0 n)
+  start-next n =
+      let e : suc n ≡ n + 1 = omega arith in
+      ap start e ∙ ap total (map-range_with_len_more f 0 n n (omega arith)) ∙ append-total (run f 0 n) (f n ∷ []) ∙ omega arith
 
   start-adds : (i d : ℕ) → start i ≤ start (i + d)
   start-adds i zero = rw add-zero (omega arith)
@@ -43,16 +38,15 @@ module _ (f : ℕ → Row) where
   start-rises i j h = subst (λ (k : ℕ). start i ≤ start k) (omega arith) (start-adds i (j - i))
 
   ok_from : (n i p k : ℕ) → WellFrom p (run f i n) → k < n → OkRow (p + total (run f i k)) (f (i + k))
-  unfolding run
   ok_from zero i p k w h = absurd (not-suc-le-zero h)
   ok_from (suc n) i p zero w h =
       let e : p ≡ p + 0 = omega arith in
       let g : i ≡ i + 0 = omega arith in
       subst (λ (x : ℕ). OkRow x (f (i + 0))) e (subst (λ (x : ℕ). OkRow p (f x)) g (ok-facts p (f i) w.0))
   ok_from (suc n) i p (suc k) w h =
-      let e : p + (f i).count + total (run f (suc i) k) ≡ p + ((f i).count + total (run f (suc i) k)) = omega arith in
-      let g : suc i + k ≡ i + suc k = omega arith in
-      subst (λ (x : ℕ). OkRow x (f (i + suc k))) e (subst (λ (x : ℕ). OkRow (p + (f i).count + total (run f (suc i) k)) (f x)) g (ok_from n (suc i) (p + (f i).count) k w.1 (le_of_suc-le-suc h)))
+      let e : p + (f i).count + total (run f (i + 1) k) ≡ p + ((f i).count + total (run f (i + 1) k)) = omega arith in
+      let g : i + 1 + k ≡ i + suc k = omega arith in
+      subst (λ (x : ℕ). OkRow x (f (i + suc k))) e (subst (λ (x : ℕ). OkRow (p + (f i).count + total (run f (i + 1) k)) (f x)) g (ok_from n (i + 1) (p + (f i).count) k w.1 (le_of_suc-le-suc h)))
 
   -- where a row of a well-formed map lies
   pub record Lies (k : ℕ) : Type 0 where
@@ -70,28 +64,25 @@ module _ (f : ℕ → Row) where
       record { begins = omega (arith, o.out); ends = omega (arith, o.out); some = o.some; last = o.last; source = o.source }
 
   pub run-append : (n m i : ℕ) → run f i (n + m) ≡ run f i n ++ run f (i + n) m
-  unfolding run
   run-append zero m i =
       let e : 0 + m ≡ m = omega arith in
       let g : i ≡ i + 0 = omega arith in
       rw e (ap (λ (j : ℕ). run f j m) g)
   run-append (suc n) m i =
       let e : suc n + m ≡ suc (n + m) = omega arith in
-      let g : suc i + n ≡ i + suc n = omega arith in
-      rw e (ap (λ (l : List Row). f i ∷ l) (run-append n m (suc i) ∙ ap (λ (j : ℕ). run f (suc i) n ++ run f j m) g))
+      let g : i + 1 + n ≡ i + suc n = omega arith in
+      rw e (ap (λ (l : List Row). f i ∷ l) (run-append n m (i + 1) ∙ ap (λ (j : ℕ). run f (i + 1) n ++ run f j m) g))
 
   module _ (a b : ℕ) where
     cut-none-run : (n i : ℕ) → ((j : ℕ) → i ≤ j → j < i + n → overlaps a b (f j) ≡ false) → cut a b (run f i n) ≡ []
-    unfolding run
     cut-none-run zero i h = refl
-    cut-none-run (suc n) i h = rw (h i (omega arith) (omega arith)) (cut-none-run n (suc i) (λ j l u. h j (omega arith) (omega arith)))
+    cut-none-run (suc n) i h = rw (h i (omega arith) (omega arith)) (cut-none-run n (i + 1) (λ j l u. h j (omega arith) (omega arith)))
 
     cut-all-run : (n i x : ℕ) → ((j : ℕ) → x ≤ j → j < x + n → overlaps a b (f (i + j)) ≡ true) → cut a b (run f (i + x) n) ≡ run (λ j. clip a b (f (i + j))) x n
-    unfolding run
     cut-all-run zero i x h = refl
     cut-all-run (suc n) i x h =
-        let e : suc (i + x) ≡ i + suc x = omega arith in
-        rw (h x (omega arith) (omega arith), e, cut-all-run n i (suc x) (λ j l u. h j (omega arith) (omega arith)))
+        let e : i + x + 1 ≡ i + (x + 1) = omega arith in
+        rw (h x (omega arith) (omega arith), e, cut-all-run n i (x + 1) (λ j l u. h j (omega arith) (omega arith)))
 
 -- a cut of two parts is the cuts of both
 cut-append : (x y : List Row) (a b : ℕ) → cut a b (x ++ y) ≡ cut a b x ++ cut a b y
@@ -122,7 +113,6 @@ module _ {u : List ℕ} {s : List ℤ} (m : Sound u s) where
   }
 
   pub from_zero : (k : ℕ) → out_at u 0 ≤ k
-  unfolding run
   from_zero k = let l = row_lies 0 m.some in omega (arith, l.begins)
 
   -- the last that begins at or before a frame of the map holds it
@@ -197,7 +187,7 @@ module _ {u : List ℕ} {s : List ℤ} (m : Sound u s) where
         }
 
 pub span-length : {u : List ℕ} {s : List ℤ} {a b i k : ℕ} → Span u s a b i k → length (cut a b (rows u s)) ≡ k
-span-length {u} {s} {a} {b} {i} {k} x = ap length x.is ∙ length_run (λ j. clip a b (row_at u s (i + j))) 0 k
+span-length {u} {s} {a} {b} {i} {k} x = ap length x.is ∙ length-map-range_with_len (λ j. clip a b (row_at u s (i + j))) 0 k
 
 -- what a cut asks of each row that it takes
 pub span-clips : {u : List ℕ} {s : List ℤ} {a b i k : ℕ} → Sound u s → Span u s a b i k → (w : ℕ) → w < k → (r : Row) → r ≡ row_at u s (i + w)
@@ -205,9 +195,6 @@ pub span-clips : {u : List ℕ} {s : List ℤ} {a b i k : ℕ} → Sound u s →
 span-clips {u} {s} {a} {b} {i} m x w h r e =
     let l : i + w < length s = omega (arith, x.within) in
     (ltb-true (max a r.out) (min b (row_end r)) (ap (overlaps a b) e ∙ x.over w h), row-end m (i + w) r e l, row-source m (i + w) r e l)
-
-pub span-room : {u : List ℕ} {s : List ℤ} {a b i k : ℕ} {ou : List ℕ} {os : List ℤ} → Span u s a b i k → Room k ou os → Room (length (cut a b (rows u s))) ou os
-span-room x r = let e = span-length x in record { words = omega (arith, r.words); shifts = omega (arith, r.shifts) }
 
 -- frame k lies in one row, and in no other
 pub record OneHolder (u : List ℕ) (s : List ℤ) (k : ℕ) : Type 0 where
@@ -221,7 +208,7 @@ module _ {u : List ℕ} {s : List ℤ} (m : Sound u s) where
   row_out k r e h = let l = row_lies m k h in omega (arith, ap (λ (x : Row). x.out) e, l.begins, start-rises (row_at u s) k (length s) (omega arith))
 
   row_is : (j : ℕ) → j < length s → get_or (rows u s) j no_row ≡ row_at u s j
-  row_is j h = let z : 0 + j ≡ j = omega arith in get_d-run (row_at u s) 0 (length s) j no_row h ∙ ap (row_at u s) z
+  row_is j h = let z : 0 + j ≡ j = omega arith in get_or-map-range_with_len (row_at u s) 0 (length s) j _ no_row h refl ∙ ap (row_at u s) z
 
   holds_row : (k j : ℕ) → j < length s → (row_at u s j).out ≤ k → k < row_end (row_at u s j) → holds (get_or (rows u s) j no_row) k ≡ true
   holds_row k j h l t = ap (λ (r : Row). holds r k) (row_is j h) ∙ holds-in (row_at u s j) k l t
@@ -230,7 +217,7 @@ module _ {u : List ℕ} {s : List ℤ} (m : Sound u s) where
   pub origin-held : (k i : ℕ) → Holder u s k i → origin (rows u s) k ≡ Some (origin_in (row_at u s i) k)
   origin-held k i x =
       let l = row_lies m i x.within in
-      let n = length_run (row_at u s) 0 (length s) in
+      let n = length-map-range_with_len (row_at u s) 0 (length s) in
       let o = demanded.one-row (rows u s) k m.well (omega (arith, l.ends, start-rises (row_at u s) (suc i) (length s) (omega (arith, x.within)), x.high)) in
       let same : i ≡ o.index = o.only i (omega (arith, x.within)) (holds_row k i x.within x.low x.high) in
       o.gives ∙ ap (λ (j : ℕ). Some (origin_in (get_or (rows u s) j no_row) k)) (sym same) ∙ ap (λ (r : Row). Some (origin_in r k)) (row_is i x.within)
@@ -238,7 +225,7 @@ module _ {u : List ℕ} {s : List ℤ} (m : Sound u s) where
   -- each frame has one row that holds it
   pub row-holder : (k : ℕ) → k < total (rows u s) → OneHolder u s k
   row-holder k h =
-      let n = length_run (row_at u s) 0 (length s) in
+      let n = length-map-range_with_len (row_at u s) 0 (length s) in
       let o = demanded.one-row (rows u s) k m.well h in
       let w : o.index < length s = omega (arith, o.within) in
       let e = ap (λ (r : Row). holds r k) (sym (row_is o.index w)) ∙ o.here in

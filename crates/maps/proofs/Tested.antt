@@ -1,6 +1,6 @@
 -- A row's tests, one after another: a sum that wraps is found by what it comes to. Assumes nothing.
 use Rattle.std.proofs.Common.{◌≡◌, ℕ, ◌+◌, ◌%◌, ◌^◌, ◌<◌, ◌≤◌, false, sym, arith}
-use Rattle.choice.proofs.Tests.{Test, was, wasnt, test}
+use Rattle.conditions.proofs.Tests.{Test, was, wasnt, test}
 use Rattle.rows.specs.declared.Row.{Row}
 use Rattle.rows.specs.Rows.{ok_shift, ok_row}
 use Rattle.rows.proofs.Well.{OkRow, ok-shift, ok-facts}
@@ -22,3 +22,6 @@ module _ (p n e : ℕ) (r : Row) (fp : p < 2 ^ 64) (ff : r.first < 2 ^ 64) (fc :
 
   pub but-shift : r.first < e → p ≤ n → r.out ≡ p → ok_row p r ≡ ok_shift r
   but-shift h l c = ok-shift p r (record { some = omega arith; source = omega arith; last = omega arith; out = c })
+
+-- for the tests one after another
+pub ruleset tested = (no_source, wraps, but-shift)

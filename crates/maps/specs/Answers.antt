@@ -2,7 +2,7 @@
 use Rattle.std.specs.Prelude.{◌≡◌, ℕ, suc, ◌+◌, ◌*◌, Bool, not, ◌&&◌, List, [], ◌∷◌, length, ℤ, ◌==◌, nat_le, nat_lt, Result, Ok, Option}
 use Rattle.std.specs.Result.{result_and}
 use Rattle.std.specs.Option.{ok_or}
-use Rattle.choice.specs.Choice.{when, past, max_u64}
+use Rattle.conditions.specs.Conditions.{when, past, max_u64}
 use Rattle.refusal.specs.declared.Refusal.{Refusal}
 use Rattle.refusal.specs.declared.Reason.TheVariants as reason
 use Rattle.refusal.specs.Refusals.{refusal_at, refused}

@@ -1,7 +1,7 @@
 -- WHAT THE CALLS GIVE TOGETHER: demand 3, of any four calls. `Cut`, `Join`, `Merge` and `Trace` say which answers the calls allow, so that each law speaks of
 -- any such answers. Every line is proved of the promises of Answers.antt, as the contract of `calls_keep_origins`, and the audit claims it of the promises in the source.
 use Rattle.std.specs.Prelude.{◌≡◌, ℕ, ◌+◌, ◌-◌, ◌*◌, ◌<◌, ◌≤◌, ◌↔◌, List, length, take, drop, ℤ, Result, Ok, Err}
-use Rattle.choice.specs.Choice.{max_u64}
+use Rattle.conditions.specs.Conditions.{max_u64}
 use Rattle.refusal.specs.declared.Refusal.{Refusal}
 use Rattle.refusal.specs.declared.Reason.TheVariants as reason
 use Rattle.refusal.specs.Refusals.{refused}

@@ -1,3 +1,3 @@
 pub mod Answers
 pub mod Laws
-pub mod Steps
+pub mod Spans

@@ -1,21 +1,21 @@
-// The calls on lent frame maps: cut, join, merge, and the origin of a frame.
+// The calls on lent frame maps: cut, join, merge, and the origin of a frame. A map is lent as its words u and its shifts s, a second one as v
+// and t; ou and os are lent for the rows out, nu words and ns shifts.
 #![tactic(auto)]
 
-ghost use Rattle.std.specs.Prelude.{◌≡◌, ◌+◌, ◌-◌, ◌*◌, ◌%◌, ◌^◌, ◌<◌, ◌≤◌, min, max, length, slice_set, Ok};
+ghost use Rattle.std.specs.Prelude.{◌≡◌, ◌+◌, ◌-◌, ◌*◌, ◌%◌, ◌^◌, ◌<◌, ◌≤◌, min, max, length, slice_set, Ok, map};
+ghost use Rattle.std.specs.List.{range_with_len};
 ghost use Rattle.std.specs.Result.{result_and};
 ghost use Rattle.std.proofs.lemmas.List.Edits.{sets};
-ghost use Rattle.choice.specs.Records.{run};
-ghost use Rattle.choice.specs.Choice.{max_u64};
+ghost use Rattle.conditions.specs.Conditions.{max_u64};
 ghost use Rattle.slices.specs.Slices.{laid};
-ghost use Rattle.rows.specs.Rows.{row_end, total, ok_row, clip, cut, moved, join, runs_on, glue, merge};
+ghost use Rattle.rows.specs.Rows.{row_end, total, ok_shift, ok_row, clip, cut, moved, join, runs_on, glue, merge};
 ghost use Rattle.rows.specs.Lent.{row_at, rows, words, words_of, shifts_of};
 ghost use Rattle.maps.specs.Answers.{sized, fits, first_bad, map_refusal, join_refusal, merge_refusal, Cut, Join, Merge, Trace};
-ghost use Rattle.maps.specs.Steps.{Sound, Room, Holder, Span, Planned};
+ghost use Rattle.maps.specs.Spans.{Sound, Room, Holder, Span, Planned};
 ghost use Rattle.maps.specs.Laws.{Laws};
 
-use choice::MAX_U64;
 use refusal::{Reason, Refusal};
-use rows::{Origin, Row};
+use rows::{Origin, ROW_WORDS, Row};
 
 // The rows that a map may have, in or out.
 pub const MOST_ROWS: usize = 1024;
@@ -24,7 +24,7 @@ pub const MOST_ROWS: usize = 1024;
 #[derive(Clone, Copy)]
 pub struct Taken {
     pub first: usize,
-    pub rows: usize,
+    pub count: usize,
 }
 
 // Row i of a lent map.
@@ -32,7 +32,7 @@ fn row_at(u: &[u64], s: &[i64], i: usize) -> Row
     requires { (5 * i + 5 ≤ length u.now) × (i < length s.now) }
     ensures { result ≡ row_at u.now s.now i }
 {
-    let j = 5 * i;
+    let j = ROW_WORDS * i;
     Row {
         source: u[j],
         first: u[j + 1],
@@ -48,7 +48,7 @@ fn put_words(u: &mut [u64], w: usize, r: Row)
     requires { 5 * w + 5 ≤ length u.old }
     ensures { u.new ≡ sets u.old (5 * w) (words r) }
 {
-    let j = 5 * w;
+    let j = ROW_WORDS * w;
     u[j] = r.source;
     u[j + 1] = r.first;
     u[j + 2] = r.count;
@@ -62,17 +62,24 @@ fn put_row(u: &mut [u64], s: &mut [i64], w: usize, r: Row)
     ensures { (u.new ≡ sets u.old (5 * w) (words r)) × (s.new ≡ slice_set s.old w r.shift) }
 {
     put_words(u, w, r);
-    let shift = r.shift;
-    s[w] = shift;
+    s[w] = r.shift;
+}
+
+// Whether a row's flag is 0 or 1, and its shift 0 where the flag is 0.
+fn ok_shift(r: Row) -> bool
+    ensures { result ≡ ok_shift r }
+{
+    (r.flag == 1) | ((r.flag == 0) & (r.shift == 0))
 }
 
 // Whether row r is well formed where output frame p is next; end is next after it, where that doesn't wrap. A sum that wraps is less
 // than what was added to, so that one test of the source's end finds both that and a count of 0.
+#[tactic(auto, using(crate::proofs::Tested::tested))]
 fn ok_row(p: u64, end: u64, r: Row) -> bool
     requires { end ≡ (p + r.count) % 2 ^ 64 }
     ensures { result ≡ ok_row p r }
 {
-    let source_end = std::num::wrapping_add_u64(r.first, r.count);
+    let source_end = r.first.wrapping_add(r.count);
     if source_end <= r.first {
         return false;
     }
@@ -82,17 +89,14 @@ fn ok_row(p: u64, end: u64, r: Row) -> bool
     if r.out != p {
         return false;
     }
-    if r.flag == 1 {
-        return true;
-    }
-    (r.flag == 0) & signed::same(r.shift, 0)
+    ok_shift(r)
 }
 
 // Whether two lent slices have the lengths of a map of some rows; a shift has eight bytes, so that five times their number fits.
 fn is_sized(u: &[u64], s: &[i64]) -> bool
     ensures { result ≡ sized (length u.now) (length s.now) }
 {
-    (0 < s.len()) & (u.len() == 5 * s.len())
+    (0 < s.len()) & (u.len() == ROW_WORDS * s.len())
 }
 
 // The frames of a map, or 51 at its first row that isn't well formed.
@@ -102,21 +106,19 @@ fn judge(u: &[u64], s: &[i64]) -> Result<u64, Refusal>
     ensures { result ≡ result_and (first_bad 0 0 (rows u.now s.now)) (Ok (total (rows u.now s.now))) }
 {
     let mut p: u64 = 0;
-    let mut i: usize = 0;
-    while i < s.len() {
+    for i in 0..s.len() {
         let r = row_at(u, s, i);
-        let end = std::num::wrapping_add_u64(p, r.count);
+        let end = p.wrapping_add(r.count);
         if !ok_row(p, end, r) {
             return Err(Reason::BadRows.at(i));
         }
         p = end;
-        i += 1;
     }
     Ok(p)
 }
 
 // The frames of a lent map, or 51.
-#[tactic(auto, unfolding(choice::specs::Choice::when, crate::specs::Answers::map_refusal))]
+#[tactic(auto, unfolding(conditions::specs::Conditions::when, crate::specs::Answers::map_refusal))]
 pub fn frames_of(u: &[u64], s: &[i64]) -> Result<u64, Refusal>
     ensures { result ≡ result_and (map_refusal u.now s.now) (Ok (total (rows u.now s.now))) }
 {
@@ -137,42 +139,18 @@ fn row_of(u: &[u64], s: &[i64], frame: u64) -> usize
 // The rows that the cut a..b takes.
 pub fn part_of(u: &[u64], s: &[i64], a: u64, b: u64) -> Taken
     requires { Sound u.now s.now × (a < b) × (b ≤ total (rows u.now s.now)) }
-    ensures { Span u.now s.now a b result.first result.rows }
+    ensures { Span u.now s.now a b result.first result.count }
 {
     let i = row_of(u, s, a);
     let k = row_of(u, s, b - 1) - i + 1;
-    Taken { first: i, rows: k }
+    Taken { first: i, count: k }
 }
 
 // Whether k rows are no more than a map may have, nor than nu words and ns shifts hold.
 fn has_room(k: usize, nu: usize, ns: usize) -> bool
     ensures { result ≡ fits k nu ns }
 {
-    if MOST_ROWS < k {
-        return false;
-    }
-    (5 * k <= nu) & (k <= ns)
-}
-
-// The larger of two numbers.
-fn larger(x: u64, y: u64) -> u64
-    ensures { result ≡ max x y }
-{
-    if x < y { y } else { x }
-}
-
-// The smaller of two numbers.
-fn smaller(x: u64, y: u64) -> u64
-    ensures { result ≡ min x y }
-{
-    if x < y { x } else { y }
-}
-
-// x less y, or 0 where y is more.
-fn less(x: u64, y: u64) -> u64
-    ensures { result ≡ x - y }
-{
-    if x < y { 0 } else { x - y }
+    k <= MOST_ROWS && ROW_WORDS * k <= nu && k <= ns
 }
 
 // A row's overlap with a..b, counted from a.
@@ -181,17 +159,15 @@ fn clipped(r: Row, a: u64, b: u64) -> Row
     ensures { result ≡ clip a b r }
 {
     Row {
-        source: r.source,
-        first: r.first + less(a, r.out),
-        count: smaller(b, r.out + r.count) - larger(a, r.out),
-        out: less(r.out, a),
-        flag: r.flag,
-        shift: r.shift,
+        first: r.first + a.saturating_sub(r.out),
+        count: b.min(r.out + r.count) - a.max(r.out),
+        out: r.out.saturating_sub(a),
+        ..r
     }
 }
 
 // The rows that a cut takes, where nu words and ns shifts are lent for them; or its refusal.
-#[tactic(auto, using(crate::proofs::Planned::planned), unfolding(choice::specs::Choice::when, crate::specs::Answers::cut_refusal, crate::specs::Answers::room_refusal))]
+#[tactic(auto, using(crate::proofs::Planned::planned), unfolding(conditions::specs::Conditions::when, crate::specs::Answers::cut_refusal, crate::specs::Answers::room_refusal))]
 fn plan_cut(u: &[u64], s: &[i64], a: u64, b: u64, nu: usize, ns: usize) -> Result<Taken, Refusal>
     ensures { Planned u.now s.now a b nu ns result }
 {
@@ -206,32 +182,24 @@ fn plan_cut(u: &[u64], s: &[i64], a: u64, b: u64, nu: usize, ns: usize) -> Resul
         return Err(Reason::BadRange.at(0));
     }
     let part = part_of(u, s, a, b);
-    if !has_room(part.rows, nu, ns) {
+    if !has_room(part.count, nu, ns) {
         return Err(Reason::RowsDontFit.at(0));
     }
     Ok(part)
 }
 
-// The overlaps of k rows from row i on, written over the first rows of what is lent.
-pub fn write_cut(
-    u: &[u64],
-    s: &[i64],
-    a: u64,
-    b: u64,
-    i: usize,
-    k: usize,
-    ou: &mut [u64],
-    os: &mut [i64],
-)
-    requires { Sound u.now s.now × Span u.now s.now a b i k × Room k ou.old os.old }
+// The overlaps of the rows that a cut takes, written over the first rows of what is lent.
+#[tactic(auto, using(crate::proofs::Written::writing))]
+pub fn write_cut(u: &[u64], s: &[i64], a: u64, b: u64, part: Taken, ou: &mut [u64], os: &mut [i64])
+    requires { Sound u.now s.now × Span u.now s.now a b part.first part.count × Room part.count ou.old os.old }
     ensures { (ou.new ≡ laid (words_of (cut a b (rows u.now s.now))) ou.old) × (os.new ≡ laid (shifts_of (cut a b (rows u.now s.now))) os.old) }
 {
-    let mut w: usize = 0;
-    while w < k {
+    let i = part.first;
+    let k = part.count;
+    for w in 0..k {
         let r = row_at(u, s, i + w);
         let c = clipped(r, a, b);
         put_row(ou, os, w, c);
-        w += 1;
     }
 }
 
@@ -248,8 +216,8 @@ pub fn cut(
     ensures { Cut u.now s.now a b ou.old os.old result ou.new os.new }
 {
     let part = plan_cut(u, s, a, b, ou.len(), os.len())?;
-    write_cut(u, s, a, b, part.first, part.rows, ou, os);
-    Ok(part.rows)
+    write_cut(u, s, a, b, part, ou, os);
+    Ok(part.count)
 }
 
 // Whether row r continues row c.
@@ -257,8 +225,10 @@ fn runs_on(c: Row, r: Row) -> bool
     requires { c.first + c.count ≤ max_u64 }
     ensures { result ≡ runs_on c r }
 {
-    let same = signed::same(c.shift, r.shift);
-    (c.source == r.source) & (c.first + c.count == r.first) & (c.flag == r.flag) & same
+    (c.source == r.source)
+        & (c.first + c.count == r.first)
+        & (c.flag == r.flag)
+        & (c.shift == r.shift)
 }
 
 // Row c with the frames of row r after its own.
@@ -267,38 +237,33 @@ fn glued(c: Row, r: Row) -> Row
     ensures { result ≡ glue c r }
 {
     Row {
-        source: c.source,
-        first: c.first,
         count: c.count + r.count,
-        out: c.out,
-        flag: c.flag,
-        shift: c.shift,
+        ..c
     }
 }
 
 // How many rows a merge has.
+#[tactic(auto, using(crate::proofs::Written::merging))]
 fn count_merge(u: &[u64], s: &[i64]) -> usize
     requires { Sound u.now s.now }
     ensures { result ≡ length (merge (rows u.now s.now)) }
 {
     let mut c = row_at(u, s, 0);
     let mut w: usize = 0;
-    let mut i: usize = 1;
-    while i < s.len() {
+    for i in 1..s.len() {
         let r = row_at(u, s, i);
-        i += 1;
         if runs_on(c, r) {
             c = glued(c, r);
-        } else {
-            w += 1;
-            c = r;
+            continue;
         }
+        w += 1;
+        c = r;
     }
     w + 1
 }
 
 // The refusal of a merge, where nu words and ns shifts are lent. Its rows are counted only where all of the map's rows have no room.
-#[tactic(auto, using(crate::proofs::Planned::planned), unfolding(choice::specs::Choice::when, crate::specs::Answers::merge_refusal, crate::specs::Answers::room_refusal))]
+#[tactic(auto, using(crate::proofs::Planned::planned), unfolding(conditions::specs::Conditions::when, crate::specs::Answers::merge_refusal, crate::specs::Answers::room_refusal))]
 fn refuse_merge(u: &[u64], s: &[i64], nu: usize, ns: usize) -> Result<(), Refusal>
     ensures { result ≡ merge_refusal u.now s.now nu ns }
 {
@@ -322,23 +287,22 @@ fn write_merge(u: &[u64], s: &[i64], ou: &mut [u64], os: &mut [i64]) -> usize
 {
     let mut c = row_at(u, s, 0);
     let mut w: usize = 0;
-    let mut i: usize = 1;
-    while i < s.len() {
+    for i in 1..s.len() {
         let r = row_at(u, s, i);
-        i += 1;
         if runs_on(c, r) {
             c = glued(c, r);
-        } else {
-            put_row(ou, os, w, c);
-            w += 1;
-            c = r;
+            continue;
         }
+        put_row(ou, os, w, c);
+        w += 1;
+        c = r;
     }
     put_row(ou, os, w, c);
     w + 1
 }
 
 // A map into what is lent, with one row of neighbours that continue.
+#[tactic(auto, using(crate::proofs::Planned::planned))]
 pub fn merge(u: &[u64], s: &[i64], ou: &mut [u64], os: &mut [i64]) -> Result<usize, Refusal>
     ensures { Merge u.now s.now ou.old os.old result ou.new os.new }
 {
@@ -352,30 +316,25 @@ fn later(r: Row, d: u64) -> Row
     ensures { result ≡ moved d r }
 {
     Row {
-        source: r.source,
-        first: r.first,
-        count: r.count,
         out: d + r.out,
-        flag: r.flag,
-        shift: r.shift,
+        ..r
     }
 }
 
 // The words of a map's rows, d output frames later, written over the first of what is lent.
+#[tactic(auto, using(crate::proofs::Written::writing))]
 fn write_moved(u: &[u64], s: &[i64], d: u64, ou: &mut [u64])
     requires { Sound u.now s.now × (d + total (rows u.now s.now) ≤ max_u64) × (5 * length s.now ≤ length ou.old) }
-    ensures { ou.new ≡ laid (words_of (run (λ j. moved d (row_at u.now s.now j)) 0 (length s.now))) ou.old }
+    ensures { ou.new ≡ laid (words_of (map (λ j. moved d (row_at u.now s.now j)) (range_with_len 0 (length s.now)))) ou.old }
 {
-    let mut i: usize = 0;
-    while i < s.len() {
+    for i in 0..s.len() {
         let r = row_at(u, s, i);
         put_words(ou, i, later(r, d));
-        i += 1;
     }
 }
 
 // The first map's frames, where a join is accepted; or its refusal.
-#[tactic(auto, using(crate::proofs::Planned::planned), unfolding(choice::specs::Choice::when, crate::specs::Answers::join_refusal, crate::specs::Answers::room_refusal))]
+#[tactic(auto, using(crate::proofs::Planned::planned), unfolding(conditions::specs::Conditions::when, crate::specs::Answers::join_refusal, crate::specs::Answers::room_refusal))]
 fn plan_join(
     u: &[u64],
     s: &[i64],
@@ -394,7 +353,7 @@ fn plan_join(
     if MOST_ROWS < t.len() {
         return Err(Reason::RowsDontFit.at(0));
     }
-    if choice::is_past(first, second, MAX_U64) {
+    if conditions::is_past(first, second, u64::MAX) {
         return Err(Reason::JoinWraps.at(0));
     }
     if !has_room(s.len() + t.len(), nu, ns) {
@@ -411,7 +370,7 @@ fn write_join(u: &[u64], s: &[i64], d: u64, v: &[u64], t: &[i64], ou: &mut [u64]
     slices::copy(u, ou);
     slices::copy(s, os);
     let n = s.len();
-    let m = 5 * n;
+    let m = ROW_WORDS * n;
     write_moved(v, t, d, &mut ou[m..]);
     slices::copy(t, &mut os[n..]);
 }
@@ -434,7 +393,7 @@ pub fn join(
 }
 
 // Where a frame comes from.
-#[tactic(auto, using(crate::proofs::Planned::planned), unfolding(choice::specs::Choice::when, crate::specs::Answers::origin_refusal))]
+#[tactic(auto, using(crate::proofs::Planned::planned), unfolding(conditions::specs::Conditions::when, crate::specs::Answers::origin_refusal))]
 pub fn origin(u: &[u64], s: &[i64], frame: u64) -> Result<Origin, Refusal>
     ensures { Trace u.now s.now frame result }
 {

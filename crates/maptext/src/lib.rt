@@ -1,7 +1,6 @@
 // Frame maps, origins and refusals as text on standard output, for programs.
 #![tactic(auto)]
 
-use choice::MAX_U64;
 use maps::MOST_ROWS;
 use refusal::Refusal;
 use rows::Origin;
@@ -41,7 +40,7 @@ pub fn shifts(s: &[i64], n: usize) -> &[i64] {
 
 // The frame after n frames from a on. It never wraps in a well-formed map.
 fn after(a: u64, n: u64) -> u64 {
-    if n <= MAX_U64 - a { a + n } else { MAX_U64 }
+    if n <= u64::MAX - a { a + n } else { u64::MAX }
 }
 
 // Frames from a first one on, as first..end.

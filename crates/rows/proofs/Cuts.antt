@@ -10,7 +10,7 @@ use mathlib.Core.Path.{◌≡◌, refl, sym, ◌∙◌, ap}
 use lib.Dec.{ltb}
 use lib.ListN.{length}
 use borrow.Author.Tests.{lt-ltb, le-ltb, ltb-true, ltb-false}
-use Rattle.choice.proofs.Tests.{Test, was, wasnt, test, le-or-lt, same-ltb}
+use Rattle.conditions.proofs.Tests.{Test, was, wasnt, test, le-or-lt, same-ltb}
 use Rattle.rows.specs.declared.Row.{Row}
 use Rattle.rows.specs.Rows.{row_end, holds, origin_in, origin, total, overlaps, clip, cut}
 use Rattle.rows.specs.Demands.{Tiles}

@@ -1,5 +1,6 @@
 -- Rows as words and shifts: lengths, joined lists, that rows which are written read back as they are, and words that are read as rows are theirs. Assumes nothing.
 use Prim.Native.Nat.{ℕ, zero, suc, ◌+◌, ◌*◌, ◌≤◌, ◌<◌}
+use Rattle.slices.proofs.Ranges.{run}
 use native.Mathlib.Nat.{add-zero}
 use native.Mathlib.Omega.{arith}
 use mathlib.Core.List.{List, [], ◌∷◌, ◌++◌, append_assoc, append-nil}
@@ -7,7 +8,6 @@ use mathlib.Core.Path.{◌≡◌, refl, sym, ◌∙◌, ap}
 use lib.IntN.{ℤ, pos}
 use lib.ListN.{length, get_or, drop, length-append, drop_of_length-le}
 use lib.Seq.{get_or-append-add, drop-cons}
-use Rattle.choice.specs.Records.{run}
 use Rattle.rows.specs.declared.Row.{Row}
 use Rattle.rows.specs.Lent.{row_at, rows, words, words_of, shifts_of}
 use Rattle.rows.proofs.Origins.{row-eq}
@@ -43,15 +43,14 @@ read-row r m pu ps i e f =
     (at-shift ps (shifts_of (r ∷ m)) i f)
 
 read-rows : (m : List Row) (pu : List ℕ) (ps : List ℤ) (i : ℕ) → length pu ≡ 5 * i → length ps ≡ i → run (row_at (pu ++ words_of m) (ps ++ shifts_of m)) i (length m) ≡ m
-unfolding run
 read-rows [] pu ps i e f = refl
 read-rows (r ∷ m) pu ps i e f =
     let gu = length-append pu (words r) in
     let gs = length-append ps (r.shift ∷ []) in
-    let ih = read-rows m (pu ++ words r) (ps ++ r.shift ∷ []) (suc i) (omega arith) (omega arith) in
-    let x : run (row_at (pu ++ words_of (r ∷ m)) (ps ++ shifts_of (r ∷ m))) (suc i) (length m) ≡ m =
-    ap (λ (l : List ℕ). run (row_at l (ps ++ shifts_of (r ∷ m))) (suc i) (length m)) (sym (append_assoc pu (words r) (words_of m)))
-    ∙ ap (λ (l : List ℤ). run (row_at ((pu ++ words r) ++ words_of m) l) (suc i) (length m)) (sym (append_assoc ps (r.shift ∷ []) (shifts_of m)))
+    let ih = read-rows m (pu ++ words r) (ps ++ r.shift ∷ []) (i + 1) (omega arith) (omega arith) in
+    let x : run (row_at (pu ++ words_of (r ∷ m)) (ps ++ shifts_of (r ∷ m))) (i + 1) (length m) ≡ m =
+    ap (λ (l : List ℕ). run (row_at l (ps ++ shifts_of (r ∷ m))) (i + 1) (length m)) (sym (append_assoc pu (words r) (words_of m)))
+    ∙ ap (λ (l : List ℤ). run (row_at ((pu ++ words r) ++ words_of m) l) (i + 1) (length m)) (sym (append_assoc ps (r.shift ∷ []) (shifts_of m)))
     ∙ ih in
     cc (read-row r m pu ps i e f, x)
 
@@ -78,14 +77,13 @@ five u i h =
 -- rows f 0, f 1, .. that are read from words, whatever their shifts: their words are these
 module _ (u : List ℕ) (f : ℕ → Row) (read : (k : ℕ) → words (f k) ≡ five_at u k) where
   words-run : (m i : ℕ) → 5 * (i + m) ≤ length u → words_of (run f i m) ++ drop (5 * (i + m)) u ≡ drop (5 * i) u
-  unfolding run
   words-run zero i h = ap (λ (k : ℕ). drop (5 * k) u) (add-zero i)
   words-run (suc m) i h =
-      let rest = words_of (run f (suc i) m) in
-      let e : i + suc m ≡ suc i + m = omega arith in
-      let n : 5 * suc i ≡ 5 * i + 5 = omega arith in
+      let rest = words_of (run f (i + 1) m) in
+      let e : i + suc m ≡ i + 1 + m = omega arith in
+      let n : 5 * (i + 1) ≡ 5 * i + 5 = omega arith in
       ap (λ (l : List ℕ). (l ++ rest) ++ drop (5 * (i + suc m)) u) (read i)
-      ∙ ap (λ (l : List ℕ). five_at u i ++ l) (ap (λ (k : ℕ). rest ++ drop (5 * k) u) e ∙ words-run m (suc i) (omega arith) ∙ ap (λ (k : ℕ). drop k u) n)
+      ∙ ap (λ (l : List ℕ). five_at u i ++ l) (ap (λ (k : ℕ). rest ++ drop (5 * k) u) e ∙ words-run m (i + 1) (omega arith) ∙ ap (λ (k : ℕ). drop k u) n)
       ∙ sym (five u i (omega arith))
 
   pub words-read : (n : ℕ) → length u ≡ 5 * n → u ≡ words_of (run f 0 n)

@@ -5,7 +5,7 @@ use native.Mathlib.Nat.{add_assoc, add-zero, zero-add, zero-sub}
 use mathlib.Core.List.{List, [], ◌∷◌, ◌++◌, map}
 use mathlib.Core.Logic.{◌⊎◌, inl, inr}
 use mathlib.Core.Path.{◌≡◌, refl, sym, ◌∙◌, ap}
-use Rattle.choice.proofs.Tests.{le-or-lt}
+use Rattle.conditions.proofs.Tests.{le-or-lt}
 use Rattle.rows.specs.declared.Row.{Row}
 use Rattle.rows.specs.Rows.{row_end, holds, origin, total, cut, moved, join, merge}
 use Rattle.rows.specs.Demands.{Tiles}
@@ -13,7 +13,7 @@ use Rattle.rows.proofs.Origins.{holds-in, holds-before, holds_after, Place, insi
 use Rattle.rows.proofs.Cuts.{cut-origin, cut-tiles, cut-total}
 use Rattle.rows.proofs.Merging.{same-origins}
 
-append-total : (x y : List Row) → total (x ++ y) ≡ total x + total y
+pub append-total : (x y : List Row) → total (x ++ y) ≡ total x + total y
 append-total [] y = omega arith
 append-total (r ∷ x) y = rw (append-total x y) (omega arith)
 

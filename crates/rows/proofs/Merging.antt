@@ -1,5 +1,8 @@
 -- Merging: origins, tiling, frames and rows; two maps merge to the same rows exactly when their origins agree. Assumes nothing.
 use Prim.Native.Nat.{ℕ, suc, ◌+◌, ◌-◌, ◌≤◌, ◌<◌}
+use Rattle.std.proofs.lemmas.Bool.{and_parts}
+use Rattle.std.proofs.lemmas.Bool.Decides.{Decides-int_eq}
+use Rattle.std.specs.Ordering.{int_eq}
 use native.Mathlib.Omega.{arith}
 use native.Mathlib.Nat.{add_assoc}
 use mathlib.Core.Bool.{true, false, ◌&&◌}
@@ -10,9 +13,7 @@ use lib.Dec.{eqb}
 use lib.ListN.{length}
 use borrow.Author.Tests.{eq-eqb, eqb-true}
 use Rattle.std.specs.Prelude.{Some}
-use Rattle.choice.proofs.Tests.{Test, was, wasnt, test, le-or-lt, and_left, and_right}
-use Rattle.signed.specs.Signed.{eq_z}
-use Rattle.signed.proofs.Order.{eq_z-true, eq_z-refl}
+use Rattle.conditions.proofs.Tests.{Test, was, wasnt, test, le-or-lt}
 use Rattle.rows.specs.declared.Row.{Row}
 use Rattle.rows.specs.declared.Origin.{Origin}
 use Rattle.rows.specs.Rows.{origin_in, origin, total, runs_on, glue, merge_into, merge}
@@ -31,18 +32,18 @@ runs_on-true r s e =
     let p = eqb r.source s.source in
     let q = eqb (r.first + r.count) s.first in
     let u = eqb r.flag s.flag in
-    let v = eq_z r.shift s.shift in
-    let e₁ = and_left (p && q && u) v e in
-    let e₂ = and_left (p && q) u e₁ in
+    let v = int_eq r.shift s.shift in
+    let e₁ = (and_parts (p && q && u) v e).0 in
+    let e₂ = (and_parts (p && q) u e₁).0 in
     record {
-      source = eqb-true r.source s.source (and_left p q e₂);
-      first = eqb-true (r.first + r.count) s.first (and_right p q e₂);
-      flag = eqb-true r.flag s.flag (and_right (p && q) u e₁);
-      shift = eq_z-true r.shift s.shift (and_right (p && q && u) v e);
+      source = eqb-true r.source s.source (and_parts p q e₂).0;
+      first = eqb-true (r.first + r.count) s.first (and_parts p q e₂).1;
+      flag = eqb-true r.flag s.flag (and_parts (p && q) u e₁).1;
+      shift = (Decides-int_eq r.shift s.shift).0 (and_parts (p && q && u) v e).1;
     }
 
 runs-on-yes : (r s : Row) → RunsOn r s → runs_on r s ≡ true
-runs-on-yes r s o = simp (eq-eqb r.source s.source o.source, eq-eqb (r.first + r.count) s.first o.first, eq-eqb r.flag s.flag o.flag, o.shift, eq_z-refl)
+runs-on-yes r s o = simp (eq-eqb r.source s.source o.source, eq-eqb (r.first + r.count) s.first o.first, eq-eqb r.flag s.flag o.flag, o.shift, (Decides-int_eq s.shift s.shift).1 refl)
 
 glue-origin : (c r : Row) (m : List Row) (p k : ℕ) → Tiles p (c ∷ r ∷ m) → RunsOn c r → origin (glue c r ∷ m) k ≡ origin (c ∷ r ∷ m) k
 glue-origin c r m p k t o = go (place c k) (place r k)

@@ -1,5 +1,6 @@
 -- Where a frame lies, and the one row that holds it. Assumes nothing.
 use Prim.Native.Nat.{ℕ, zero, suc, ◌+◌, ◌≤◌, ◌<◌}
+use Rattle.std.proofs.lemmas.Bool.{and_parts}
 use native.Mathlib.Omega.{arith}
 use mathlib.Core.Bool.{true, false}
 use mathlib.Core.List.{List, [], ◌∷◌}
@@ -9,7 +10,7 @@ use lib.Dec.{leb, ltb}
 use lib.ListN.{length, get_or}
 use borrow.Author.Tests.{lt-ltb, le-ltb, le-leb, lt-leb, ltb-true, leb-true}
 use Rattle.std.specs.Prelude.{None, Some}
-use Rattle.choice.proofs.Tests.{le-or-lt, and-false, and_left, and_right}
+use Rattle.conditions.proofs.Tests.{le-or-lt, and-false}
 use Rattle.rows.specs.declared.Row.{Row}
 use Rattle.rows.specs.Rows.{row_end, holds, origin_in, origin, total}
 use Rattle.rows.specs.Demands.{no_row, Tiles, OneRow}
@@ -30,10 +31,10 @@ holds_after r k h = simp (le-ltb k (row_end r) h, and-false)
 
 -- what a test of a row tells
 pub holds-lo : (r : Row) (k : ℕ) → holds r k ≡ true → r.out ≤ k
-holds-lo r k e = leb-true r.out k (and_left (leb r.out k) (ltb k (row_end r)) e)
+holds-lo r k e = leb-true r.out k (and_parts (leb r.out k) (ltb k (row_end r)) e).0
 
 pub holds-hi : (r : Row) (k : ℕ) → holds r k ≡ true → k < row_end r
-holds-hi r k e = ltb-true k (row_end r) (and_right (leb r.out k) (ltb k (row_end r)) e)
+holds-hi r k e = ltb-true k (row_end r) (and_parts (leb r.out k) (ltb k (row_end r)) e).1
 
 pub data Place (r : Row) (k : ℕ) : Type 0 where
   inside : r.out ≤ k → k < row_end r → Place r k

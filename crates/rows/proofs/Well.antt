@@ -1,5 +1,6 @@
 -- Well-formed maps: what a well-formed row says, and that cut, join and merge keep maps well formed. Assumes nothing.
 use Prim.Native.Nat.{ℕ, ◌+◌, ◌-◌, ◌≤◌, ◌<◌, min, max}
+use Rattle.std.proofs.lemmas.Bool.{and_parts}
 use native.Mathlib.Omega.{arith}
 use native.Mathlib.Nat.{add_assoc, add-zero}
 use mathlib.Core.Bool.{true, not, ◌&&◌}
@@ -8,9 +9,9 @@ use mathlib.Core.Path.{◌≡◌, sym, ◌∙◌, ap}
 use mathlib.Core.Logic.{◌⊎◌, inl, inr}
 use lib.Dec.{ltb, eqb}
 use borrow.Author.Tests.{lt-ltb, le-ltb, eq-eqb, ltb-true, ltb-false, eqb-true, not-true}
-use Rattle.choice.specs.Choice.{past, max_u64}
-use Rattle.choice.proofs.Sums.{past-not}
-use Rattle.choice.proofs.Tests.{Test, was, wasnt, test, le-or-lt, and_left, and_right}
+use Rattle.conditions.specs.Conditions.{past, max_u64}
+use Rattle.conditions.proofs.Sums.{past-not}
+use Rattle.conditions.proofs.Tests.{Test, was, wasnt, test, le-or-lt}
 use Rattle.rows.specs.declared.Row.{Row}
 use Rattle.rows.specs.Rows.{row_end, total, ok_shift, ok_row, WellFrom, WellFormed, overlaps, clip, cut, moved, join, runs_on, glue, merge_into, merge}
 use Rattle.rows.specs.Demands.{Tiles}
@@ -43,14 +44,14 @@ ok-facts p r e =
     let b = not (past r.first r.count max_u64) in
     let c = not (past r.out r.count max_u64) in
     let d = eqb r.out p in
-    let e₁ = and_left (a && b && c && d) (ok_shift r) e in
-    let e₂ = and_left (a && b && c) d e₁ in
-    let e₃ = and_left (a && b) c e₂ in
+    let e₁ = (and_parts (a && b && c && d) (ok_shift r) e).0 in
+    let e₂ = (and_parts (a && b && c) d e₁).0 in
+    let e₃ = (and_parts (a && b) c e₂).0 in
     record {
-      some = ltb-true 0 r.count (and_left a b e₃);
-      source = past-not r.first r.count max_u64 (not-true _ (and_right a b e₃));
-      last = past-not r.out r.count max_u64 (not-true _ (and_right (a && b) c e₂));
-      out = eqb-true r.out p (and_right (a && b && c) d e₁);
+      some = ltb-true 0 r.count (and_parts a b e₃).0;
+      source = past-not r.first r.count max_u64 (not-true _ (and_parts a b e₃).1);
+      last = past-not r.out r.count max_u64 (not-true _ (and_parts (a && b) c e₂).1);
+      out = eqb-true r.out p (and_parts (a && b && c) d e₁).1;
     }
 
 pub ok-shifted : (p : ℕ) (r : Row) → ok_row p r ≡ true → ok_shift r ≡ true

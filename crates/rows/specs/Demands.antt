@@ -1,6 +1,6 @@
 -- WHAT IS PROVED OF FRAME MAPS (demand 3), over the definitions of Rows. Every line is in the contract of `maps_meet_the_demands`.
 use Rattle.std.specs.Prelude.{ℕ, ◌+◌, ◌-◌, ◌≤◌, ◌<◌, true, false, List, [], ◌∷◌, ◌↔◌, ◌≡◌, pos, length, get_or, None, Some}
-use Rattle.choice.specs.Choice.{max_u64}
+use Rattle.conditions.specs.Conditions.{max_u64}
 use Rattle.rows.specs.declared.Row.{Row}
 use Rattle.rows.specs.Rows.{total, WellFormed, holds, origin_in, origin, cut, join, runs_on, merge}
 

@@ -1,6 +1,6 @@
 -- A map as it is lent: five words a row in one slice (source, source first, count, out first, shift flag), one shift a row in another.
-use Rattle.std.specs.Prelude.{ℕ, ◌+◌, ◌*◌, List, [], ◌∷◌, ◌++◌, ℤ, pos, length, get_or}
-use Rattle.choice.specs.Records.{run}
+use Rattle.std.specs.Prelude.{ℕ, ◌+◌, ◌*◌, List, [], ◌∷◌, ◌++◌, ℤ, pos, length, get_or, map}
+use Rattle.std.specs.List.{range_with_len}
 use Rattle.rows.specs.declared.Row.{Row}
 
 -- row i
@@ -17,7 +17,7 @@ row_at u s i =
 
 -- the rows of a lent map
 abbrev pub rows : List ℕ → List ℤ → List Row
-rows u s = run (row_at u s) 0 (length s)
+rows u s = map (row_at u s) (range_with_len 0 (length s))
 
 -- a row's five words
 abbrev pub words : Row → List ℕ

@@ -2,4 +2,4 @@ pub mod Rows
 pub mod Demands
 pub mod Lent
 pub mod Halving
-pub mod Steps
+pub mod Begun

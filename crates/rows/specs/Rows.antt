@@ -1,7 +1,7 @@
 -- Frame maps (document 01, 'Frame maps'): which rows are well formed, the origin of a frame, cut, join and merge.
 use Rattle.std.specs.Prelude.{ℕ, ◌+◌, ◌-◌, min, max, Bool, true, not, ◌&&◌, ◌||◌, List, [], ◌∷◌, ◌++◌, map, ◌≡◌, pos, leb, ltb, eqb, if◌then◌else◌, Option, None, Some}
-use Rattle.choice.specs.Choice.{past, max_u64}
-use Rattle.signed.specs.Signed.{eq_z}
+use Rattle.std.specs.Ordering.{int_eq}
+use Rattle.conditions.specs.Conditions.{past, max_u64}
 use Rattle.rows.specs.declared.Row.{Row}
 use Rattle.rows.specs.declared.Origin.{Origin}
 
@@ -16,7 +16,7 @@ total (r ∷ m) = r.count + total m
 
 -- flag 0 or 1, and shift 0 where the flag is 0
 abbrev pub ok_shift : Row → Bool
-ok_shift r = eqb r.flag 1 || (eqb r.flag 0 && eq_z r.shift (pos 0))
+ok_shift r = eqb r.flag 1 || (eqb r.flag 0 && int_eq r.shift (pos 0))
 
 -- a row is well formed where output frame p is next: a count, no sum that wraps, the out first chained, the flag and shift right
 abbrev pub ok_row : ℕ → Row → Bool
@@ -53,7 +53,7 @@ join x y = x ++ map (moved (total x)) y
 
 -- row s continues row r: the same source, source frames that run on, flag and shift both equal
 abbrev pub runs_on : Row → Row → Bool
-runs_on r s = eqb r.source s.source && eqb (r.first + r.count) s.first && eqb r.flag s.flag && eq_z r.shift s.shift
+runs_on r s = eqb r.source s.source && eqb (r.first + r.count) s.first && eqb r.flag s.flag && int_eq r.shift s.shift
 
 -- one row of r and of s, which continues it
 abbrev pub glue : Row → Row → Row

@@ -4,7 +4,7 @@
 pub mod halving;
 
 ghost use Rattle.std.specs.Prelude.{◌≤◌};
-ghost use Rattle.rows.specs.Steps.{out_at, OutsRise, LastBegun};
+ghost use Rattle.rows.specs.Begun.{out_at, OutsRise, LastBegun};
 ghost use Rattle.rows.specs.Demands.{Demands};
 
 // A row of a frame map: `count` frames of a source from its frame `first` on, put out from frame `out` on, with a shift where the flag is 1.
@@ -27,12 +27,17 @@ pub struct Origin {
     pub shift: i64,
 }
 
+// The words of a lent row, and which of them says where the row begins in the output.
+pub const ROW_WORDS: usize = 5;
+
+const OUT_WORD: usize = 3;
+
 // The last of n rows in lent words that begins at or before a frame.
 pub fn last_begun(u: &[u64], n: usize, frame: u64) -> usize
     requires { OutsRise u.now n × (out_at u.now 0 ≤ frame) }
     ensures { LastBegun u.now n frame result }
 {
-    halving::last_that(n, |k| u[5 * k + 3] <= frame)
+    halving::last_that(n, |k| u[ROW_WORDS * k + OUT_WORD] <= frame)
 }
 
 // The rows of a well-formed map tile its frames, so that each has one origin; a cut, a join and a merge keep origins; two maps merge alike

@@ -1,5 +1,5 @@
 use Rattle.std.proofs.Common.{◌≡◌, ◌-◌, ◌≤◌}
-use Rattle.choice.specs.Records.{run}
+use Rattle.slices.proofs.Ranges.{run}
 use Rattle.refusal.specs.Refusals.{first_refused}
 use Rattle.cuts.specs.Answers.{range_at, range_refusal, ranges_refusal}
 use Rattle.cuts.proofs.refuse_ranges.Given as goal
@@ -10,6 +10,3 @@ invariant-loop-k l =
       within : l.k ≤ l.n;
       left : first_refused (range_refusal l.t) l.k (run (range_at l.ranges) l.k (l.n - l.k)) ≡ ranges_refusal l.t l.ranges;
     }
-
-abbrev pub decreases-loop-k : goal.decreases-loop-k
-decreases-loop-k l = l.n - l.k

@@ -17,11 +17,11 @@ write_cut-requires c =
     let r = c.range_at-r.result in
     let later = rest m (range_at c.args.ranges.now) (c.loop-k.k + 1) (length c.args.ranges.now / 2) in
     let next =
-    rest-next m (range_at c.args.ranges.now) c.loop-k.k (length c.args.ranges.now / 2) c.loop-k-test.true
+    rest-next m (range_at c.args.ranges.now) c.loop-k.k (length c.args.ranges.now / 2) (omega arith)
     ∙ ap (λ (x : Range). cut x.from x.to m ++ later) (sym c.range_at-r.ensures) in (
       c.requires.0.sound,
-      c.part_of-t.ensures,
-      part_room (cut r.from r.to m) later c.requires.1 c.loop-k.invariant.written next (span-length c.part_of-t.ensures),
+      c.part_of-part.ensures,
+      part_room (cut r.from r.to m) later c.requires.1 c.loop-k.invariant.written next (span-length c.part_of-part.ensures),
     )
 
 pub loop-k-preserved : goal.loop-k-preserved
@@ -31,13 +31,13 @@ loop-k-preserved c =
     let n = length c.args.ranges.now / 2 in
     let later = rest m (range_at c.args.ranges.now) (c.loop-k.k + 1) n in
     let next =
-    rest-next m (range_at c.args.ranges.now) c.loop-k.k n c.loop-k-test.true ∙ ap (λ (x : Range). cut x.from x.to m ++ later) (sym c.range_at-r.ensures) in
-    let long = span-length c.part_of-t.ensures in
+    rest-next m (range_at c.args.ranges.now) c.loop-k.k n (omega arith) ∙ ap (λ (x : Range). cut x.from x.to m ++ later) (sym c.range_at-r.ensures) in
+    let long = span-length c.part_of-part.ensures in
     let lengths = map length (cuts_of m (ranges_of c.args.ranges.now)) in
     let many = length-map (cuts_of m (ranges_of c.args.ranges.now)) length ∙ length-cuts m c.args.ranges.now in
-    let is : c.part_of-t.result.rows ≡ get_or lengths c.loop-k.k 0 =
+    let is : c.part_of-part.result.count ≡ get_or lengths c.loop-k.k 0 =
     sym long ∙ ap (λ (x : Range). length (cut x.from x.to m)) c.range_at-r.ensures
-    ∙ sym (count_at m (range_at c.args.ranges.now) n c.loop-k.k c.loop-k-test.true) in
+    ∙ sym (count_at m (range_at c.args.ranges.now) n c.loop-k.k (omega arith)) in
     record {
       within = omega arith;
       written = part-written (cut r.from r.to m) later c.requires.1 c.loop-k.invariant.written next _ _ long c.write_cut.ensures.0 c.write_cut.ensures.1;
@@ -50,7 +50,7 @@ pub returns : goal.returns
 returns c =
     let m = rows c.args.u.now c.args.s.now in
     let l = c.loop-k in
-    let none = rest-none m (range_at c.args.ranges.now) l.k (length c.args.ranges.now / 2) c.loop-k-test.false in
+    let none = rest-none m (range_at c.args.ranges.now) l.k (length c.args.ranges.now / 2) (omega arith) in
     let all = written_all l.invariant.written none in
     record {
       many = omega (arith, rows_all c.requires.1 l.invariant.written, ap length none);

@@ -1,6 +1,6 @@
 use Rattle.std.proofs.Common.{◌≡◌, ◌+◌, ◌-◌, ◌<◌, ◌≤◌, length}
-use Rattle.choice.specs.Records.{run}
-use Rattle.choice.specs.Choice.{max_u64}
+use Rattle.slices.proofs.Ranges.{run}
+use Rattle.conditions.specs.Conditions.{max_u64}
 use Rattle.rows.specs.Rows.{merge, merge_into}
 use Rattle.rows.specs.Lent.{row_at, rows}
 use Rattle.maps.proofs.count_merge.Given as goal
@@ -13,6 +13,3 @@ invariant-loop-i l =
       fits : l.c.first + l.c.count ≤ max_u64;
       left : l.w + length (merge_into l.c (run (row_at l.u l.s) l.i (length l.s - l.i))) ≡ length (merge (rows l.u l.s));
     }
-
-abbrev pub decreases-loop-i : goal.decreases-loop-i
-decreases-loop-i l = length l.s - l.i

@@ -1,7 +1,7 @@
 use Rattle.std.proofs.Common.{◌≡◌, ◌+◌, ◌-◌, ◌≤◌, length}
+use Rattle.slices.proofs.Ranges.{run}
 use Rattle.std.specs.Prelude.{Ok}
 use Rattle.std.specs.Result.{result_and}
-use Rattle.choice.specs.Records.{run}
 use Rattle.rows.specs.Rows.{total}
 use Rattle.rows.specs.Lent.{row_at, rows}
 use Rattle.maps.specs.Answers.{first_bad}
@@ -15,6 +15,3 @@ invariant-loop-i l =
           result_and (first_bad l.p l.i (run (row_at l.u l.s) l.i (length l.s - l.i))) (Ok (l.p + total (run (row_at l.u l.s) l.i (length l.s - l.i))))
           ≡ result_and (first_bad 0 0 (rows l.u l.s)) (Ok (total (rows l.u l.s)));
     }
-
-abbrev pub decreases-loop-i : goal.decreases-loop-i
-decreases-loop-i l = length l.s - l.i

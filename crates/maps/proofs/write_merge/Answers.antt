@@ -1,7 +1,7 @@
-use Rattle.std.proofs.Common.{refl, sym, arith}
+use Rattle.std.proofs.Common.{length, refl, sym, arith}
 use Rattle.rows.specs.Lent.{row_at}
 use Rattle.maps.proofs.Spans.{row-source}
-use Rattle.maps.proofs.Written.{written_none, written_all, rows_all, put-room, put_step, merge-start, merge-glues, merge-parts, merge-end, glue-fits}
+use Rattle.maps.proofs.Written.{written_none, written_all, rows_all, put-room, put_step, merge-start, merge-glues, merge-parts, merge-end, merging}
 use Rattle.maps.proofs.write_merge.Goals as goal
 
 pub loop-i-init : goal.loop-i-init
@@ -15,9 +15,7 @@ loop-i-init c =
     }
 
 pub glued-c-requires : goal.glued-c-requires
-glued-c-requires c =
-    (glue-fits c.loop-i.c c.row_at-r.result (sym c.if-runs_on.ensures)
-    (row-source c.requires.0 c.loop-i.i c.row_at-r.result c.row_at-r.ensures c.loop-i-test.true)).0
+glued-c-requires c = grind (arith, merging)
 
 pub loop-i-preserved-then-runs_on : goal.loop-i-preserved-then-runs_on
 loop-i-preserved-then-runs_on c =
@@ -28,15 +26,15 @@ loop-i-preserved-then-runs_on c =
     record {
       within = omega arith;
       fewer = omega arith;
-      fits = rw c.glued-c.ensures (glue-fits l.c r b (row-source c.requires.0 l.i r e c.loop-i-test.true)).1;
-      written = rw c.glued-c.ensures (rw (merge-glues _ l.i _ l.c r e c.loop-i-test.true b) at l.invariant.written);
+      fits = grind (arith, merging);
+      written = rw c.glued-c.ensures (rw (merge-glues _ l.i (length c.args.s.now) l.c r e (omega arith) b) at l.invariant.written);
     }
 
 pub put_row-requires : goal.put_row-requires
 put_row-requires c =
     let l = c.loop-i in
     put-room c.requires.1 l.invariant.written
-    (merge-parts _ l.i _ l.c c.row_at-r.result c.row_at-r.ensures c.loop-i-test.true (sym c.if-runs_on.ensures))
+    (merge-parts _ l.i _ l.c c.row_at-r.result c.row_at-r.ensures (omega arith) (sym c.if-runs_on.ensures))
 
 pub loop-i-preserved : goal.loop-i-preserved
 loop-i-preserved c =
@@ -46,20 +44,20 @@ loop-i-preserved c =
     record {
       within = omega arith;
       fewer = omega arith;
-      fits = row-source c.requires.0 l.i r e c.loop-i-test.true;
+      fits = grind (arith, merging);
       written =
-          put_step c.requires.1 l.invariant.written (merge-parts _ l.i _ l.c r e c.loop-i-test.true (sym c.if-runs_on.ensures)) l.c _ _ refl
+          put_step c.requires.1 l.invariant.written (merge-parts _ l.i _ l.c r e (omega arith) (sym c.if-runs_on.ensures)) _ _
           c.put_row.ensures.0 c.put_row.ensures.1;
     }
 
 pub put_row-requires-2 : goal.put_row-requires-2
-put_row-requires-2 c = put-room c.requires.1 c.loop-i.invariant.written (merge-end _ c.loop-i.i _ c.loop-i.c c.loop-i-test.false)
+put_row-requires-2 c = put-room c.requires.1 c.loop-i.invariant.written (merge-end _ c.loop-i.i _ c.loop-i.c (omega arith))
 
 pub returns : goal.returns
 returns c =
     let l = c.loop-i in
     let w =
-    put_step c.requires.1 l.invariant.written (merge-end (row_at c.args.u.now c.args.s.now) l.i _ l.c c.loop-i-test.false) l.c _ _ refl c.put_row-2.ensures.0
+    put_step c.requires.1 l.invariant.written (merge-end (row_at c.args.u.now c.args.s.now) l.i _ l.c (omega arith)) _ _ c.put_row-2.ensures.0
     c.put_row-2.ensures.1 in
     let a = written_all w refl in
     (omega (arith, rows_all c.requires.1 w), a.0, a.1)

@@ -1,6 +1,6 @@
 use Rattle.std.proofs.Common.{◌+◌, ◌-◌, ◌<◌, ◌≤◌, length}
-use Rattle.choice.specs.Records.{run}
-use Rattle.choice.specs.Choice.{max_u64}
+use Rattle.slices.proofs.Ranges.{run}
+use Rattle.conditions.specs.Conditions.{max_u64}
 use Rattle.rows.specs.Rows.{merge, merge_into}
 use Rattle.rows.specs.Lent.{row_at, rows}
 use Rattle.maps.proofs.Written.{Written}
@@ -14,6 +14,3 @@ invariant-loop-i l =
       fits : l.c.first + l.c.count ≤ max_u64;
       written : Written (merge (rows l.u l.s)) (merge_into l.c (run (row_at l.u l.s) l.i (length l.s - l.i))) l.fn.ou l.fn.os l.ou l.os l.w;
     }
-
-abbrev pub decreases-loop-i : goal.decreases-loop-i
-decreases-loop-i l = length l.s - l.i

@@ -1,5 +1,5 @@
-use Rattle.std.proofs.Common.{◌≡◌, ◌-◌, ◌≤◌, length}
-use Rattle.choice.specs.Records.{run}
+use Rattle.std.proofs.Common.{◌≡◌, ◌≤◌, length}
+use Rattle.slices.proofs.Ranges.{run}
 use Rattle.slices.specs.Slices.{laid}
 use Rattle.rows.specs.Rows.{moved}
 use Rattle.rows.specs.Lent.{row_at, words_of}
@@ -11,6 +11,3 @@ invariant-loop-i l =
       within : l.i ≤ length l.s;
       written : l.ou ≡ laid (words_of (run (λ j. moved l.d (row_at l.u l.s j)) 0 l.i)) l.fn.ou;
     }
-
-abbrev pub decreases-loop-i : goal.decreases-loop-i
-decreases-loop-i l = length l.s - l.i

@@ -1,10 +1,10 @@
--- What the private steps ask and promise. No public promise names these.
+-- Ranges that can be cut, room for the rows of their cuts, and what is written of them. No public promise names these.
 use Rattle.std.specs.Prelude.{ℕ, ◌/◌, ◌<◌, min, List, map, ◌≡◌, ℤ, length}
 use Rattle.slices.specs.Slices.{laid}
 use Rattle.rows.specs.declared.Row.{Row}
 use Rattle.rows.specs.Rows.{total}
 use Rattle.rows.specs.Lent.{rows, words_of, shifts_of}
-use Rattle.maps.specs.Steps.{Sound}
+use Rattle.maps.specs.Spans.{Sound}
 use Rattle.cuts.specs.Answers.{Inside, range_at, concat}
 
 -- a map that 51 doesn't refuse, and ranges that 50 doesn't

@@ -1,4 +1,4 @@
--- Words of the search for a row in lent words. No public promise names these.
+-- Where rows begin in lent words, and the last that has begun. No public promise names these.
 use Rattle.std.specs.Prelude.{ℕ, ◌+◌, ◌*◌, ◌≤◌, ◌<◌, List, length, get_or}
 
 -- where row k begins in the output

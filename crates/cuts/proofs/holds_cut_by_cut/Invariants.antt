@@ -1,8 +1,8 @@
-use Rattle.std.proofs.Common.{◌≡◌, ◌-◌, ◌≤◌, leb, length}
+use Rattle.std.proofs.Common.{◌≡◌, ◌≤◌, leb, length}
 use Rattle.rows.specs.Lent.{rows}
 use Rattle.cuts.specs.Answers.{range_at, ranges_of, cuts_of, concat}
 use Rattle.cuts.proofs.Rows.{rest}
-use Rattle.cuts.proofs.holds_counted.Given as goal
+use Rattle.cuts.proofs.holds_cut_by_cut.Given as goal
 
 abbrev pub invariant-loop-k : goal.invariant-loop-k
 invariant-loop-k l =
@@ -12,6 +12,3 @@ invariant-loop-k l =
           leb (length (rest (rows l.u l.s) (range_at l.ranges) l.k l.n)) l.left
           ≡ leb (length (concat (cuts_of (rows l.u l.s) (ranges_of l.ranges)))) l.room;
     }
-
-abbrev pub decreases-loop-k : goal.decreases-loop-k
-decreases-loop-k l = l.n - l.k

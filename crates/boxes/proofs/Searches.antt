@@ -6,7 +6,7 @@ use Rattle.std.specs.Prelude.{Option, None, Some, Result}
 use Rattle.std.specs.Option.{is_some, ok_or}
 use Prim.Native.Nat.{ℕ}
 use borrow.Author.Tests.{eq-eqb, ne_eqb, not-true, not-false}
-use Rattle.choice.proofs.Tests.{tf}
+use Rattle.conditions.proofs.Tests.{tf}
 use Rattle.boxes.specs.Boxes.{Boxes, bad, box, header_at, after_header, boxes_at, is_text, textual, searched, place, first_such, first_of}
 use Rattle.boxes.specs.Places.{all_of, only_of}
 use Rattle.boxes.specs.declared.BoxAt.{BoxAt}
@@ -17,7 +17,7 @@ use Rattle.boxes.specs.declared.Place.{Place}
 use Rattle.refusal.specs.declared.Reason.TheVariants as reason
 use Rattle.refusal.specs.declared.Refusal.{Refusal}
 use Rattle.refusal.specs.Refusals.{refused, refusal_at}
-use Rattle.boxes.specs.Steps.{stop_at}
+use Rattle.boxes.specs.Walks.{stop_at}
 use Rattle.boxes.proofs.Walks.{Stops, at-header}
 
 -- a type that the search may pass, and one at which it stops; the code has `t` for whether it is text

@@ -9,7 +9,7 @@ use lib.ListN.{length, take, drop, length-drop}
 use lib.Seq.{get_or-drop}
 use lib.Dec.{ltb, eqb}
 use borrow.Author.Tests.{lt-ltb, le-ltb, ltb-false, ne_eqb}
-use Rattle.choice.proofs.Tests.{either}
+use Rattle.conditions.proofs.Tests.{either}
 use Rattle.boxes.specs.Bytes.{be32_at, be64_at}
 use Rattle.boxes.specs.Boxes.{fitting_in, size_of, header_by, header_at}
 use Rattle.boxes.specs.declared.BoxSize.{BoxSize}

@@ -10,7 +10,7 @@ use Rattle.boxes.specs.declared.BoxAt.{BoxAt}
 use Rattle.boxes.specs.declared.Header.{Header}
 use Rattle.boxes.specs.declared.Header.TheVariants.{Whole, Short, Bad}
 use Rattle.boxes.specs.declared.Walk.TheVariants.{Found}
-use Rattle.boxes.specs.Steps.{stop_at}
+use Rattle.boxes.specs.Walks.{stop_at}
 use Rattle.boxes.proofs.Sizes.{Lies, header-lies, short}
 
 -- any count that is enough gives the same boxes

@@ -10,7 +10,7 @@ use native.Mathlib.Omega.{arith}
 use lib.ListN.{length, take, drop}
 use lib.Dec.{ltb, eqb}
 use borrow.Author.Tests.{ltb-false}
-use Rattle.choice.proofs.Tests.{either}
+use Rattle.conditions.proofs.Tests.{either}
 use Rattle.boxes.specs.Bytes.{moov, udta, mtrm}
 use Rattle.boxes.specs.Boxes.{most_bytes, Boxes, clean, bad, box, header_at, after_header, boxes_from, boxes_at, boxes_of, is_text, textual, searched, first_such, first_of}
 use Rattle.boxes.specs.Places.{found_place, place_of, moved_walk, moved_place, in_part, child_in, child_place, find_box_place, all_of, only_of, table_in, table_text_place}
@@ -22,7 +22,7 @@ use Rattle.boxes.specs.declared.Place.{Place}
 use Rattle.refusal.specs.declared.Reason.TheVariants as reason
 use Rattle.refusal.specs.declared.Refusal.{Refusal}
 use Rattle.refusal.specs.Refusals.{refusal_at}
-use Rattle.boxes.specs.Steps.{offset_in, Within, WalkStays}
+use Rattle.boxes.specs.Walks.{offset_in, Within, WalkStays}
 use Rattle.boxes.proofs.Sizes.{Lies, header-lies}
 use Rattle.boxes.proofs.Parts.{length_part}
 

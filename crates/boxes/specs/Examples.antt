@@ -1,6 +1,6 @@
 -- Worked examples of boxes and of the searches for them. They are the contract of `worked_examples_hold`.
 use Rattle.std.specs.Prelude.{ℕ, true, false, List, [], ◌∷◌, ◌++◌, Result, Ok}
-use Rattle.choice.specs.Worked.{Worked, is, AllRight}
+use Rattle.examples.specs.Worked.{Worked, is, AllRight}
 use Rattle.refusal.specs.declared.Reason.TheVariants as reason
 use Rattle.refusal.specs.declared.Refusal.{Refusal}
 use Rattle.refusal.specs.Refusals.{refused}

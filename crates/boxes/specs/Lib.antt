@@ -2,5 +2,5 @@ pub mod Bytes
 pub mod Boxes
 pub mod Places
 pub mod Tracks
-pub mod Steps
+pub mod Walks
 pub mod Examples

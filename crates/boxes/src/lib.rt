@@ -83,7 +83,7 @@ pub enum Walk {
 }
 
 // The size of the box at the start of data and of its header, where remaining bytes are left of what it is in: the Rust's box_size. 30, 31.
-#[tactic(auto, using(choice::proofs::Tests::tests), unfolding(crate::specs::Boxes::box_size))]
+#[tactic(auto, using(conditions::proofs::Tests::tests), unfolding(crate::specs::Boxes::box_size))]
 pub fn box_size(data: &[u8], remaining: u64) -> Result<BoxSize, Refusal>
     ensures { result ≡ box_size «data».now remaining }
 {
@@ -95,7 +95,7 @@ pub fn box_size(data: &[u8], remaining: u64) -> Result<BoxSize, Refusal>
 
 // The box at an offset: a turn of the Rust's children. From 0 on, and then from each answer's next, all boxes are met, in order,
 // until 31, where fewer than 8 bytes are left, or 36, where a bad header stands: both are the Rust's None. 30, 42, 31 or 36.
-#[tactic(auto, using(choice::proofs::Tests::tests), unfolding(crate::specs::Boxes::children_at))]
+#[tactic(auto, using(conditions::proofs::Tests::tests), unfolding(crate::specs::Boxes::children_at))]
 pub fn children(payload: &[u8], at: usize) -> Result<BoxAt, Refusal>
     ensures { result ≡ children_at payload.now at }
 {
@@ -114,7 +114,7 @@ pub fn children(payload: &[u8], at: usize) -> Result<BoxAt, Refusal>
 
 // Where the payload of the first child of a type lies: the Rust's child. 30, 31 where the boxes end without it, 36 where a bad header ends
 // them before, with its offset.
-#[tactic(auto, using(choice::proofs::Tests::tests), unfolding(crate::specs::Places::child_place))]
+#[tactic(auto, using(conditions::proofs::Tests::tests), unfolding(crate::specs::Places::child_place))]
 pub fn child_place(payload: &[u8], kind: u32) -> Result<Place, Refusal>
     ensures { result ≡ child_place payload.now kind }
 {
@@ -134,7 +134,7 @@ pub fn child(payload: &[u8], kind: u32) -> &[u8]
 
 // Where the payload of the first box of a type among those from start to end lies, in the whole of bytes: the Rust's find_box. 30, 42, 31
 // or 36; the bad header's offset is in the whole too.
-#[tactic(auto, using(choice::proofs::Tests::tests, crate::proofs::Within::offset_moves), unfolding(crate::specs::Places::find_box_place))]
+#[tactic(auto, using(conditions::proofs::Tests::tests, crate::proofs::Within::offset_moves), unfolding(crate::specs::Places::find_box_place))]
 pub fn find_box_place(
     bytes: &[u8],
     start: usize,
@@ -169,7 +169,7 @@ pub fn find_box(bytes: &[u8], start: usize, end: usize, kind: u32, text_types: b
 }
 
 // Where a file's segment table has its text, the payload of the only moov/udta/MTRM: the search of the Rust's read_isobmff. 30, 40, 41.
-#[tactic(auto, using(choice::proofs::Tests::tests), unfolding(crate::specs::Places::table_text_place))]
+#[tactic(auto, using(conditions::proofs::Tests::tests), unfolding(crate::specs::Places::table_text_place))]
 pub fn table_text_place(file: &[u8]) -> Result<Place, Refusal>
     ensures { result ≡ table_text_place file.now }
 {

@@ -1,7 +1,7 @@
 // Places in the caller's bytes, and the parts there.
 ghost use Rattle.std.specs.Prelude.{◌≡◌, ◌+◌, ◌<◌, ◌^◌, length};
 ghost use Rattle.boxes.specs.Places.{found_place, place_of, PartAt, child_in, place_moved, moved_walk};
-ghost use Rattle.boxes.specs.Steps.{offset_in, Within};
+ghost use Rattle.boxes.specs.Walks.{offset_in, Within};
 
 use crate::search::find_child;
 use crate::{Place, Walk};

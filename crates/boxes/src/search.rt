@@ -1,7 +1,7 @@
 // The walk over the boxes of some bytes.
 ghost use Rattle.std.specs.Prelude.{◌≡◌, length};
 ghost use Rattle.boxes.specs.Boxes.{boxes_of, searched, first_of, text_byte, is_text};
-ghost use Rattle.boxes.specs.Steps.{stop_at, WalkStays};
+ghost use Rattle.boxes.specs.Walks.{stop_at, WalkStays};
 
 use crate::size::header_at;
 use crate::{Header, Walk};

@@ -1,7 +1,7 @@
 // The first video track of a moov.
 ghost use Rattle.std.specs.Prelude.{◌≡◌, ◌+◌, ◌≤◌, length};
 ghost use Rattle.boxes.specs.Tracks.{is_video, is_video_track, video_track};
-ghost use Rattle.boxes.specs.Steps.{WalkStays};
+ghost use Rattle.boxes.specs.Walks.{WalkStays};
 
 use crate::part::inner_child;
 use crate::read::{be32, code};
@@ -10,7 +10,7 @@ use crate::size::header_at;
 use crate::{BoxAt, Header, Walk};
 
 // Whether a track is a video track: its first mdia's first hdlr has `vide` at 8.
-#[tactic(auto, using(choice::proofs::Tests::tests), unfolding(crate::specs::Tracks::is_video))]
+#[tactic(auto, using(conditions::proofs::Tests::tests), unfolding(crate::specs::Tracks::is_video))]
 fn is_video(trak: &[u8]) -> bool
     ensures { result ≡ is_video trak.now }
 {
@@ -22,7 +22,7 @@ fn is_video(trak: &[u8]) -> bool
 }
 
 // Whether a box of a moov is a video track.
-#[tactic(auto, using(choice::proofs::Tests::tests), unfolding(crate::specs::Tracks::is_video_track))]
+#[tactic(auto, using(conditions::proofs::Tests::tests), unfolding(crate::specs::Tracks::is_video_track))]
 fn is_video_track(moov: &[u8], child: BoxAt) -> bool
     requires { child.start + child.len ≤ length moov.now }
     ensures { result ≡ is_video_track moov.now child.kind child.start child.len }

@@ -2,7 +2,7 @@
 #![tactic(auto)]
 
 ghost use Rattle.frame_times.specs.Times.{room};
-ghost use Rattle.frame_times.specs.Steps.{OutcomeAnswered};
+ghost use Rattle.frame_times.specs.KeptFrames.{OutcomeAnswered};
 ghost use Rattle.frame_lines.specs.Files.{file_times};
 
 use boxes::read::code;

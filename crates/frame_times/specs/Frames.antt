@@ -1,5 +1,6 @@
 -- The frames of a track: when each is decoded and composed, which of them an edit keeps, and where those lie (ISO/IEC 14496-12, 8.6.1 and 8.6.6).
 use Rattle.std.specs.Prelude.{ℕ, ◌+◌, Bool, true, false, List, [], ◌∷◌, map, get_or, drop, Option, None, Some, ℤ, pos, ◌+ℤ◌, ◌-ℤ◌, if◌then◌else◌}
+use Rattle.std.specs.Int.{int_min, int_max}
 use Rattle.std.specs.Int.Signed.{le_z, lt_z}
 use Rattle.tracks.specs.declared.Edit.{Edit}
 
@@ -42,20 +43,14 @@ last_of f (g ∷ fs) = last_of (if le_z f.cts g.cts then g else f) fs
 abbrev pub end_of : Frame → ℤ
 end_of f = f.cts +ℤ pos f.duration
 
-abbrev pub max_z : ℤ → ℤ → ℤ
-max_z a b = if le_z a b then b else a
-
-abbrev pub min_z : ℤ → ℤ → ℤ
-min_z a b = if le_z a b then a else b
-
 -- capped at the media end
 abbrev pub capped : Option ℤ → ℤ → ℤ
 capped None z = z
-capped (Some end) z = min_z z end
+capped (Some end) z = int_min z end
 
 -- with an edit the larger of the least kept cts and the decode time of the first kept frame, without one 0
 abbrev pub time_origin : Edit → ℤ → ℤ → ℤ
-time_origin e least first = if e.edited then max_z least first else pos 0
+time_origin e least first = if e.edited then int_max least first else pos 0
 
 -- minus origin plus empty ticks
 abbrev pub moved_time : ℤ → ℤ → ℤ → ℤ

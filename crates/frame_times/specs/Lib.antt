@@ -1,4 +1,4 @@
 pub mod Frames
 pub mod Times
 pub mod Found
-pub mod Steps
+pub mod KeptFrames

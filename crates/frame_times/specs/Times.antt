@@ -1,8 +1,8 @@
 -- The frame times of a moov: what is answered, from its bytes down to its frames. With `standard` composition offsets are read by the standard, else by the Rust
 -- (`offsets` of tracks/specs/Tables.antt); nothing else goes by it.
 use Rattle.std.specs.Prelude.{ℕ, ◌+◌, min, ◌≡◌, Bool, ◌||◌, List, [], ◌∷◌, map, length, get_or, ℤ, pos, ltb, eqb, if◌then◌else◌, Option, None, Some, Result, Ok, Err}
+use Rattle.std.specs.List.{list_any}
 use Rattle.std.specs.Int.Signed.{le_z}
-use Rattle.choice.specs.Records.{any}
 use Rattle.refusal.specs.declared.Reason.{Reason}
 use Rattle.refusal.specs.declared.Reason.TheVariants as reason
 use Rattle.refusal.specs.declared.Refusal.{Refusal}
@@ -17,7 +17,7 @@ use Rattle.boxes.specs.Tracks.{video_track}
 use Rattle.boxes.specs.declared.Walk.{Walk}
 use Rattle.boxes.specs.declared.Walk.TheVariants.{Found, End, Bad as BadAt}
 use Rattle.tracks.specs.declared.Edit.{Edit}
-use Rattle.tracks.specs.Tables.{timescale, table_rows, optional_rows, entries_of, entry_total, durations, offsets}
+use Rattle.tracks.specs.Tables.{timescale, table_entries, optional_entries, entries_of, entry_total, durations, offsets}
 use Rattle.tracks.specs.Edits.{edit_of}
 use Rattle.ticks.specs.declared.FrameTimes.{FrameTimes}
 use Rattle.frame_times.specs.Frames.{Frame, frames_from, kept, cts_of, last_of, end_of, capped, time_origin, moved_time}
@@ -60,7 +60,7 @@ no_times why = no_times_at why 0
 -- the answer of an end and starts, where an i64 holds each
 unfoldable pub placed : ℕ → ℤ → ℤ → List ℤ → Outcome
 placed scale nominal end starts =
-    if any is_outside (end ∷ starts) then no_times reason.Outside
+    if list_any is_outside (end ∷ starts) then no_times reason.Outside
     else record { answer = Ok (record { frames = length starts; scale = scale; nominal = nominal; end = end }); starts = starts }
 
 -- the answer of kept frames: the first one's decode time, where the last one ends, and the composition times, ascending
@@ -97,7 +97,7 @@ of_durations standard None bytes room movie scale edts ctts stts = no_times reas
 of_durations standard (Some n) bytes room movie scale edts ctts stts =
     if ltb bytes (entry_total (entries_of n stts)) then no_times reason.Missing
     else if ltb room (entry_total (entries_of n stts)) then no_times reason.NoRoom
-    else of_offsets standard (optional_rows ctts) ctts edts scale movie (durations n stts)
+    else of_offsets standard (optional_entries ctts) ctts edts scale movie (durations n stts)
 
 -- a box that has to be there, in the part that starts at `base` of the moov: its payload goes on, with where that starts in the moov.
 -- Where it isn't, 31 after a clean end; after a bad header 36, with the header's offset in the moov
@@ -112,7 +112,7 @@ in_child kind base s next = required base (first_of kind (boxes_of s)) s next
 
 -- of a stbl, which has the tables: the stts has to be there
 unfoldable pub of_tables : Bool → ℕ → ℕ → ℕ → ℕ → List ℕ → ℕ → List ℕ → Outcome
-of_tables standard bytes room movie scale edts base tables = in_child stts base tables (λ at d. of_durations standard (table_rows d) bytes room movie scale edts (child_of ctts tables) d)
+of_tables standard bytes room movie scale edts base tables = in_child stts base tables (λ at d. of_durations standard (table_entries d) bytes room movie scale edts (child_of ctts tables) d)
 
 -- a timescale that has to be whole
 abbrev pub with_scale : Option ℕ → (ℕ → Outcome) → Outcome

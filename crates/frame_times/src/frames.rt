@@ -3,7 +3,7 @@ ghost use Rattle.std.specs.Prelude.{◌≡◌, ◌≤◌, length};
 ghost use Rattle.tracks.specs.Tables.{entries_of, entry_total};
 ghost use Rattle.frame_times.specs.Frames.{in_edit};
 ghost use Rattle.frame_times.specs.Found.{frames_kept};
-ghost use Rattle.frame_times.specs.Steps.{Told, kept_with};
+ghost use Rattle.frame_times.specs.KeptFrames.{Told, kept_with};
 
 use crate::Kept;
 use crate::track::Timing;
@@ -24,7 +24,7 @@ fn in_edit(edit: Edit, c: i64) -> bool
 }
 
 // One kept frame more, which comes last where its composition time isn't below the last one's.
-#[tactic(auto, using(choice::proofs::Tests::tests), unfolding(crate::specs::Steps::kept_with))]
+#[tactic(auto, using(conditions::proofs::Tests::tests), unfolding(crate::specs::KeptFrames::kept_with))]
 fn with_frame(k: Kept, decode: u64, c: i64, duration: u64) -> Kept
     requires { k.count ≤ 16777216 }
     ensures { result ≡ kept_with k decode c duration }
@@ -53,8 +53,8 @@ fn with_frame(k: Kept, decode: u64, c: i64, duration: u64) -> Kept
 
 // Walks the durations beside the offsets, one frame of each a turn, and lays the composition times that are kept over times: the Rust's decoded and presented.
 pub(crate) fn keep(timing: Timing<'_>, times: &mut [i64]) -> Kept
-    requires { (length times.old ≡ entry_total (entries_of timing.durations.rows timing.durations.payload.now)) × (length times.old ≤ 16777216) }
-    ensures { Told (frames_kept timing.entry) result times.new }
+    requires { (length times.old ≡ entry_total (entries_of timing.durations.entries timing.durations.payload.now)) × (length times.old ≤ 16777216) }
+    ensures { Told timing.entry.edit (frames_kept timing.entry) result times.new }
 {
     let wrap = offset_wrap(timing.standard, timing.offsets.payload);
     let mut offsets = timing.offsets.frames();

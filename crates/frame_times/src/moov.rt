@@ -2,7 +2,7 @@
 ghost use Rattle.std.specs.Prelude.{◌≡◌, ℕ, Bool};
 ghost use Rattle.frame_times.specs.Times.{room, times_of_moov};
 ghost use Rattle.frame_times.specs.Found.{of_found};
-ghost use Rattle.frame_times.specs.Steps.{OutcomeAnswered};
+ghost use Rattle.frame_times.specs.KeptFrames.{OutcomeAnswered};
 
 use crate::part::Part;
 use crate::track::Track;
@@ -15,7 +15,7 @@ use ticks::FrameTimes;
 use tracks::tables::timescale;
 
 // The first video track of a moov.
-#[tactic(auto, using(choice::proofs::Tests::tests), unfolding(crate::specs::Times::times_of_moov, crate::specs::Times::of_track, crate::specs::Times::of_media, crate::specs::Times::of_tables))]
+#[tactic(auto, using(conditions::proofs::Tests::tests), unfolding(crate::specs::Times::times_of_moov, crate::specs::Times::of_track, crate::specs::Times::of_media, crate::specs::Times::of_tables))]
 fn video_track(moov: &[u8]) -> Result<Track<'_>, Refusal>
     ensures { (standard : Bool) (room : ℕ) → times_of_moov standard moov.now room ≡ of_found standard room result }
 {

@@ -16,7 +16,7 @@ pub(crate) struct Part<'a> {
 
 impl<'a> Part<'a> {
     ghost use Rattle.boxes.specs.Bytes.{be32_at};
-    ghost use Rattle.boxes.specs.Steps.{WalkStays};
+    ghost use Rattle.boxes.specs.Walks.{WalkStays};
     ghost use Rattle.frame_times.specs.Times.{Outcome, in_child, required};
     ghost use Rattle.frame_times.specs.Found.{onwards};
 

@@ -1,34 +1,27 @@
 // Starts and the end, from the composition times that are kept.
 ghost use Rattle.std.specs.Prelude.{◌≡◌, map, ◌-◌, ◌≤◌, ◌<◌, length, pos};
-ghost use Rattle.slices.specs.Slices.{All, laid};
-ghost use Rattle.order.specs.Order.{Asc, mode};
+ghost use Rattle.std.specs.List.{AllByRecursion};
+ghost use Rattle.slices.specs.Slices.{laid};
+ghost use Rattle.order.specs.Order.{mode};
 ghost use Rattle.tracks.specs.Tables.{entries_of, entry_total, durations};
-ghost use Rattle.tracks.specs.Steps.{Sound};
-ghost use Rattle.frame_times.specs.Frames.{time_origin, capped, moved_time, max_z};
+ghost use Rattle.tracks.specs.SoundEdits.{Sound};
+ghost use Rattle.frame_times.specs.Frames.{time_origin, capped, moved_time};
 ghost use Rattle.frame_times.specs.Times.{shown};
 ghost use Rattle.frame_times.specs.Found.{times_of_timing};
-ghost use Rattle.frame_times.specs.Steps.{Movable, Showable, OutcomeAnswered};
+ghost use Rattle.frame_times.specs.KeptFrames.{Movable, Showable, OutcomeAnswered};
 
 use crate::frames::keep;
 use crate::track::Timing;
 use refusal::{Reason, Refusal};
-use signed::Held;
 use ticks::FrameTimes;
 use tracks::Edit;
-
-// The larger of two.
-fn larger(a: i64, b: i64) -> i64
-    ensures { result ≡ max_z a b }
-{
-    if a <= b { b } else { a }
-}
 
 // Where the starts count from, with the least composition time and the first decode time that are kept.
 fn origin_of(edit: Edit, least: i64, first: i64) -> i64
     ensures { result ≡ time_origin edit least first }
 {
     if edit.edited {
-        return larger(least, first);
+        return least.max(first);
     }
     0
 }
@@ -44,9 +37,10 @@ fn capped_at(end: Option<i64>, z: i64) -> i64
 }
 
 // Writes the times, each less the origin and later by the empty ticks, over the first of starts.
+#[tactic(auto, using(crate::proofs::ShowLaws::start_fits, crate::proofs::ShowLaws::place_more))]
 fn write_starts(times: &[i64], origin: i64, empty: i64, starts: &mut [i64])
     requires times_in_bounds { length times.now ≤ length starts.old }
-    requires all { All (λ x. Movable origin empty x) times.now }
+    requires all { AllByRecursion (λ x. Movable origin empty x) times.now }
     ensures { starts.new ≡ laid (map (moved_time origin empty) times.now) starts.old }
 {
     for i in 0..times.len() {
@@ -64,12 +58,14 @@ fn show(
     scale: u64,
     starts: &mut [i64],
 ) -> Result<FrameTimes, Refusal>
-    requires { Showable times.now first last edit × (0 < length times.now) × (length times.now ≤ length starts.old) }
+    requires able { Showable times.now first last edit }
+    requires some { 0 < length times.now }
+    requires room { length times.now ≤ length starts.old }
     ensures { OutcomeAnswered (shown scale nominal edit first last times.now) result starts.old starts.new }
 {
     let origin = origin_of(edit, times[0], first);
     let empty = edit.empty;
-    let Held::Is(end) = signed::sum(capped_at(edit.end, last) - origin, empty) else {
+    let Some(end) = (capped_at(edit.end, last) - origin).checked_add(empty) else {
         return Err(Reason::Outside.at(0));
     };
     write_starts(times, origin, empty, starts);
@@ -81,19 +77,21 @@ fn show(
     })
 }
 
-// The most frequent of ascending durations, of several the smallest; 0 where there are none.
-#[tactic(auto, using(crate::proofs::FrameLaws::mode_none))]
-fn nominal_of(durations: &[i64]) -> i64
-    requires { Asc durations.now }
-    ensures { result ≡ mode durations.now }
+// The most frequent of durations, of several the smallest; 0 where there are none. They are sorted.
+#[tactic(auto, using(crate::proofs::FrameLaws::modes))]
+fn nominal_of(durations: &mut [i64], scratch: &mut [i64]) -> i64
+    requires { length durations.old ≤ length scratch.old }
+    ensures { result ≡ mode durations.old }
 {
     if durations.len() == 0 {
         return 0;
     }
+    order::sort_any(durations, scratch);
     order::most_frequent(durations)
 }
 
 // Answers with two whole tables and an edit. b has the durations: their sort takes both working slices, and so the stts is walked again beside the ctts.
+#[tactic(auto, using(crate::proofs::KeepLaws::lengths))]
 pub(crate) fn present(
     timing: Timing<'_>,
     scale: u64,
@@ -101,12 +99,12 @@ pub(crate) fn present(
     a: &mut [i64],
     b: &mut [i64],
 ) -> Result<FrameTimes, Refusal>
-    requires in_bounds { (length a.old ≡ entry_total (entries_of timing.durations.rows timing.durations.payload.now)) × (length a.old ≤ 16777216) × (length a.old ≤ length starts.old) }
-    requires b_value { (b.old ≡ map pos (durations timing.durations.rows timing.durations.payload.now)) × Sound timing.edit }
+    requires in_bounds { (length a.old ≡ entry_total (entries_of timing.durations.entries timing.durations.payload.now)) × (length a.old ≤ 16777216) × (length a.old ≤ length starts.old) }
+    requires b_value { b.old ≡ map pos (durations timing.durations.entries timing.durations.payload.now) }
+    requires sound { Sound timing.edit }
     ensures { OutcomeAnswered (times_of_timing timing.entry scale) result starts.old starts.new }
 {
-    order::sort_any(b, a);
-    let nominal = nominal_of(b);
+    let nominal = nominal_of(b, a);
     if nominal <= 0 {
         return Err(Reason::Missing.at(0));
     }

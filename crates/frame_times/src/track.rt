@@ -37,9 +37,10 @@ pub(crate) struct Timing<'a> {
 impl Track<'_> {
     ghost use Rattle.frame_times.specs.Times.{room};
     ghost use Rattle.frame_times.specs.Found.{times_of_track};
-    ghost use Rattle.frame_times.specs.Steps.{OutcomeAnswered};
+    ghost use Rattle.frame_times.specs.KeptFrames.{OutcomeAnswered};
 
     // Answers with the tables: as many frames as bytes at most (31), no more than there is room for (32), and then the offsets and the edit (31).
+    #[tactic(auto, using(crate::proofs::KeepLaws::lengths))]
     pub(crate) fn times(
         self,
         standard: bool,

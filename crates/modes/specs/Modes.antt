@@ -1,11 +1,11 @@
 -- Where the standard's reading of composition offsets and the Rust's are the same (document 02, d).
 use Rattle.std.specs.Prelude.{ℕ, ◌<◌, ◌^◌, ◌≡◌, List, get_or, Some}
-use Rattle.slices.specs.Slices.{All}
+use Rattle.std.specs.List.{AllByRecursion}
 use Rattle.boxes.specs.Bytes.{mdia}
 use Rattle.boxes.specs.Places.{found_place, part_of, child_of}
 use Rattle.boxes.specs.Tracks.{video_track}
 use Rattle.tracks.specs.declared.entries.Run.{Run}
-use Rattle.tracks.specs.Tables.{optional_rows, entries_of}
+use Rattle.tracks.specs.Tables.{optional_entries, entries_of}
 use Rattle.frame_times.specs.Times.{minf, stbl, ctts}
 
 -- the ctts of a moov's first video track; empty where there is none
@@ -18,4 +18,4 @@ TopClear x = x < 2 ^ 31
 
 -- no entry of a whole ctts of version 0 has an offset with its top bit set: those for no frames, and those past the last frame, count too
 abbrev pub NoTopBit : List ℕ → Type 0
-NoTopBit c = (n : ℕ) → optional_rows c ≡ Some n → get_or c 0 0 ≡ 0 → All (λ (e : Run). TopClear e.value) (entries_of n c)
+NoTopBit c = (n : ℕ) → optional_entries c ≡ Some n → get_or c 0 0 ≡ 0 → AllByRecursion (λ (e : Run). TopClear e.value) (entries_of n c)

@@ -10,7 +10,7 @@ use lib.ListN.{length, take, drop}
 use lib.Seq.{take-take, take-length, drop-drop}
 use lib.Dec.{ltb, eqb}
 use Rattle.std.specs.Prelude.{Option, None, Some}
-use Rattle.choice.proofs.Tests.{either}
+use Rattle.conditions.proofs.Tests.{either}
 use Rattle.refusal.specs.declared.Reason.TheVariants as reason
 use Rattle.boxes.specs.Bytes.{mdia}
 use Rattle.boxes.specs.Boxes.{most_bytes, boxes_of, first_such}
@@ -21,7 +21,7 @@ use Rattle.boxes.specs.declared.Walk.{Walk}
 use Rattle.boxes.specs.declared.Walk.TheVariants.{Found, End, Bad as BadAt}
 use Rattle.boxes.proofs.Parts.{length_part}
 use Rattle.boxes.proofs.Within.{walk-stays}
-use Rattle.tracks.specs.Tables.{timescale, table_rows}
+use Rattle.tracks.specs.Tables.{timescale, table_entries}
 use Rattle.frame_times.specs.Times.{Outcome, mvhd, mdhd, minf, stbl, stts, ctts, edts, required, with_scale, of_durations, of_tables, of_scale, of_media, of_track, of_movie, times_of_moov}
 use Rattle.stops.specs.Stops.{StopsAt, Part, whole_part, inner_part, Search, search_for, search_for_video, and_in, in_tables, in_info, in_media, in_track, searches, StopsIn, OfOne}
 use Rattle.stops.proofs.Ends.{stopped-at-bad}
@@ -102,8 +102,8 @@ module _ (moov : List ℕ) where
     tables-told scale edts p l =
         let offsets = child_of ctts p.bytes in
         beside p [] (λ k start len. eqb k stts) _ l _ refl
-        (λ at d. told-weaker reason.Broken (of_durations standard (table_rows d) bytes room movie scale edts offsets d).answer (λ i. absurd)
-        (plain-durations standard (table_rows d) bytes room movie scale edts offsets d))
+        (λ at d. told-weaker reason.Broken (of_durations standard (table_entries d) bytes room movie scale edts offsets d).answer (λ i. absurd)
+        (plain-durations standard (table_entries d) bytes room movie scale edts offsets d))
 
     scale-told : (scale : ℕ) (edts : List ℕ) (p : Part) → Lying p → Stopped (and_in (search_for minf p) in_info) (of_scale standard bytes room movie scale edts p.base p.bytes)
     scale-told scale edts p l =

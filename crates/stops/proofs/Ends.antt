@@ -8,7 +8,7 @@ use native.Mathlib.Omega.{arith}
 use lib.ListN.{length, drop}
 use lib.Dec.{ltb}
 use Rattle.std.specs.Prelude.{Option, None, Some}
-use Rattle.choice.proofs.Tests.{either}
+use Rattle.conditions.proofs.Tests.{either}
 use Rattle.boxes.specs.Bytes.{be32_at}
 use Rattle.boxes.specs.Boxes.{Boxes, clean, bad, box, size_of, header_by, header_at, after_header, boxes_from, boxes_at, boxes_of, is_text, textual, searched, first_such}
 use Rattle.boxes.specs.declared.BoxSize.{BoxSize}

@@ -1,17 +1,17 @@
 -- Below the stts no answer is 36. Assumes nothing.
 use mathlib.Core.Bool.{Bool}
+use Rattle.std.specs.List.{list_any}
 use mathlib.Core.List.{List, [], ◌∷◌}
 use Prim.Native.Nat.{ℕ}
 use native.Mathlib.Omega.{arith}
 use lib.IntN.{ℤ, pos}
 use lib.Signed.{le_z}
 use lib.Dec.{ltb}
-use Rattle.choice.specs.Records.{any}
-use Rattle.choice.proofs.Tests.{either}
+use Rattle.conditions.proofs.Tests.{either}
 use Rattle.signed.specs.Signed.{is_outside}
 use Rattle.std.specs.Prelude.{Option, None, Some}
 use Rattle.tracks.specs.declared.Edit.{Edit}
-use Rattle.tracks.specs.Tables.{optional_rows, entries_of, entry_total, durations, offsets}
+use Rattle.tracks.specs.Tables.{optional_entries, entries_of, entry_total, durations, offsets}
 use Rattle.tracks.specs.Edits.{edit_of}
 use Rattle.refusal.specs.declared.Reason.TheVariants as reason
 use Rattle.frame_times.specs.Frames.{Frame}
@@ -25,7 +25,7 @@ Plain o = Told reason.Broken (λ i. ⊥) o.answer
 -- from the kept frames on
 plain-placed : (scale : ℕ) (nominal end : ℤ) (starts : List ℤ) → Plain (placed scale nominal end starts)
 unfolding placed
-plain-placed scale nominal end starts = either Plain (any is_outside (end ∷ starts)) (λ t e. grind arith) (λ t. tt)
+plain-placed scale nominal end starts = either Plain (list_any is_outside (end ∷ starts)) (λ t e. grind arith) (λ t. tt)
 
 plain-kept : (scale : ℕ) (nominal : ℤ) (e : Edit) (l : List Frame) → Plain (of_kept scale nominal e l)
 unfolding of_kept shown
@@ -46,4 +46,4 @@ plain-durations standard None bytes room movie scale edts ctts stts = λ e. grin
 plain-durations standard (Some n) bytes room movie scale edts ctts stts =
     either Plain (ltb bytes (entry_total (entries_of n stts))) (λ t e. grind arith)
     (λ t. either Plain (ltb room (entry_total (entries_of n stts))) (λ t e. grind arith)
-    (λ t. plain-offsets standard (optional_rows ctts) ctts edts scale movie (durations n stts)))
+    (λ t. plain-offsets standard (optional_entries ctts) ctts edts scale movie (durations n stts)))

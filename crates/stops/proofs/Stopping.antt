@@ -9,7 +9,7 @@ use native.Mathlib.Omega.{arith}
 use lib.ListN.{length, take, drop}
 use lib.Dec.{ltb, eqb}
 use borrow.Author.Tests.{ltb-false}
-use Rattle.choice.proofs.Tests.{either}
+use Rattle.conditions.proofs.Tests.{either}
 use Rattle.refusal.specs.declared.Reason.TheVariants as reason
 use Rattle.boxes.specs.Boxes.{most_bytes, header_at, boxes_of, searched, first_of, reached_by, children_at}
 use Rattle.boxes.specs.Places.{child_place, find_box_place}

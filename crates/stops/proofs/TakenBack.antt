@@ -1,5 +1,5 @@
 -- Frame times with 36 taken back to 31 are those of document 01, down from the moov. Assumes nothing.
-use Rattle.std.specs.Prelude.{if◌then◌else◌, Option, None, Some, unwrap_or}
+use Rattle.std.specs.Prelude.{if◌then◌else◌, Option, None, Some, unwrap_or, Result, Ok, Err}
 use mathlib.Core.Path.{◌≡◌, refl, sym, ap, subst}
 use mathlib.Core.Bool.{Bool, true, false, ◌||◌}
 use mathlib.Core.List.{List}
@@ -12,8 +12,7 @@ use Rattle.boxes.specs.Places.{child_of}
 use Rattle.boxes.specs.Tracks.{video_track}
 use Rattle.boxes.specs.declared.Walk.{Walk}
 use Rattle.boxes.specs.declared.Walk.TheVariants.{Found, End, Bad as BadAt}
-use Rattle.tracks.specs.Tables.{timescale, table_rows}
-use Rattle.std.specs.Prelude.{Result, Ok, Err}
+use Rattle.tracks.specs.Tables.{timescale, table_entries}
 use Rattle.refusal.specs.declared.Reason.{Reason}
 use Rattle.refusal.specs.declared.Reason.TheVariants as reason
 use Rattle.refusal.specs.declared.Refusal.{Refusal}
@@ -57,7 +56,7 @@ module _ (standard : Bool) (bytes room movie : ℕ) where
   unfolding of_tables tables_undivided
   tables-back scale edts base s =
       required-back base (first_of stts (boxes_of s)) s _ _
-      (λ at d. plain-stays (of_durations standard (table_rows d) bytes room movie scale edts (child_of ctts s) d) (plain-durations standard (table_rows d) bytes room movie scale edts (child_of ctts s) d))
+      (λ at d. plain-stays (of_durations standard (table_entries d) bytes room movie scale edts (child_of ctts s) d) (plain-durations standard (table_entries d) bytes room movie scale edts (child_of ctts s) d))
 
   scale_back : (scale : ℕ) (edts : List ℕ) (base : ℕ) (s : List ℕ) → Back (of_scale standard bytes room movie scale edts base s) (scale_undivided standard bytes room movie scale edts s)
   scale_back scale edts base s =

@@ -16,7 +16,7 @@ use Rattle.boxes.specs.declared.Place.{Place}
 use Rattle.boxes.specs.declared.BoxAt.{BoxAt}
 use Rattle.boxes.specs.declared.Walk.{Walk}
 use Rattle.boxes.specs.declared.Walk.TheVariants.{Found, End, Bad as BadAt}
-use Rattle.tracks.specs.Tables.{timescale, table_rows}
+use Rattle.tracks.specs.Tables.{timescale, table_entries}
 use Rattle.frame_times.specs.Times.{Outcome, mvhd, mdhd, minf, stbl, stts, ctts, edts, no_times, of_durations}
 
 -- a refusal with 36 taken back to 31, whose index is 0
@@ -69,7 +69,7 @@ abbrev pub scale_of : List ℕ → ℕ
 scale_of h = unwrap_or (timescale h) 0
 
 unfoldable pub tables_undivided : Bool → ℕ → ℕ → ℕ → ℕ → List ℕ → List ℕ → Outcome
-tables_undivided standard bytes room movie scale edts tables = in_child_undivided stts tables (λ d. of_durations standard (table_rows d) bytes room movie scale edts (child_of ctts tables) d)
+tables_undivided standard bytes room movie scale edts tables = in_child_undivided stts tables (λ d. of_durations standard (table_entries d) bytes room movie scale edts (child_of ctts tables) d)
 
 abbrev pub scale_undivided : Bool → ℕ → ℕ → ℕ → ℕ → List ℕ → List ℕ → Outcome
 scale_undivided standard bytes room movie scale edts media =

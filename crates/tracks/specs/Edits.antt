@@ -1,6 +1,7 @@
 -- The edit list (ISO/IEC 14496-12, 8.6.6): none, one edit of the media, or an empty edit and then one.
 use Rattle.std.specs.Prelude.{Option, Some, None, ℕ, ◌+◌, ◌*◌, ◌^◌, Bool, true, false, List, length, get_or, ℤ, pos, negsuc, ltb, eqb, if◌then◌else◌}
-use Rattle.signed.specs.Signed.{eq_z, of_bits}
+use Rattle.std.specs.Ordering.{int_eq}
+use Rattle.std.specs.Int.{cast_signed, w32, w64}
 use Rattle.ticks.specs.Ticks.{media_ticks}
 use Rattle.boxes.specs.Bytes.{be32_at, be64_at}
 use Rattle.boxes.specs.Places.{bytes_at, child_in}
@@ -18,8 +19,8 @@ rate_one = 0x10000
 
 -- the entry at `at`, in version 1 (`true`) or another
 unfoldable pub entry_at : Bool → List ℕ → ℕ → EditEntry
-entry_at true p at = record { duration = be64_at p at; time = of_bits (2 ^ 63) (be64_at p (at + 8)); rate = be32_at p (at + 16) }
-entry_at false p at = record { duration = be32_at p at; time = of_bits (2 ^ 31) (be32_at p (at + 4)); rate = be32_at p (at + 8) }
+entry_at true p at = record { duration = be64_at p at; time = cast_signed w64 (be64_at p (at + 8)); rate = be32_at p (at + 16) }
+entry_at false p at = record { duration = be32_at p at; time = cast_signed w32 (be32_at p (at + 4)); rate = be32_at p (at + 8) }
 
 -- 20-byte entries for version 1, else 12
 abbrev pub entry_bytes : Bool → ℕ
@@ -55,7 +56,7 @@ after_empty (Some d) entry scale movie = kept_entry entry scale movie (pos d)
 -- two entries: the first has the time -1 and a duration that an i64 holds, and its rate isn't looked at
 unfoldable pub two_entries : EditEntry → EditEntry → ℕ → ℕ → Option Edit
 two_entries first second scale movie =
-    if eq_z first.time (negsuc 0) then
+    if int_eq first.time (negsuc 0) then
     if ltb first.duration (2 ^ 63) then after_empty (media_ticks first.duration scale movie) second scale movie
     else None else None
 

@@ -1,4 +1,5 @@
 pub mod Tables
 pub mod Edits
-pub mod Steps
+pub mod Opening
+pub mod SoundEdits
 pub mod Walking

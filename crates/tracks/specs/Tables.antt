@@ -1,6 +1,6 @@
 -- The timescales and the tables of a track (ISO/IEC 14496-12, 8.2.2, 8.4.2 and 8.6.1).
-use Rattle.std.specs.Prelude.{Option, Some, None, ℕ, zero, suc, ◌+◌, ◌*◌, ◌^◌, List, [], ◌∷◌, ◌++◌, map, length, get_or, replicate, ℤ, pos, Bool, true, false, ◌&&◌, ltb, eqb, if◌then◌else◌}
-use Rattle.signed.specs.Signed.{of_bits}
+use Rattle.std.specs.Prelude.{Option, Some, None, ℕ, zero, suc, ◌+◌, ◌*◌, List, [], ◌∷◌, ◌++◌, map, length, get_or, replicate, ℤ, pos, Bool, true, false, ◌&&◌, ltb, eqb, if◌then◌else◌}
+use Rattle.std.specs.Int.{cast_signed, w32}
 use Rattle.boxes.specs.Bytes.{be32_at}
 use Rattle.tracks.specs.declared.entries.Run.{Run}
 
@@ -12,12 +12,12 @@ timescale p =
     else Some (be32_at p (4 + 8))
 
 -- how many entries a stts or ctts has: after version and flags four bytes say, and so many entries of 8 bytes follow; none where they don't
-unfoldable pub table_rows : List ℕ → Option ℕ
-table_rows p = if ltb (length p) 8 then None else if ltb (length p) (be32_at p 4 * 8 + 8) then None else Some (be32_at p 4)
+unfoldable pub table_entries : List ℕ → Option ℕ
+table_entries p = if ltb (length p) 8 then None else if ltb (length p) (be32_at p 4 * 8 + 8) then None else Some (be32_at p 4)
 
 -- the same of a table that may be absent, as one under 4 bytes is
-unfoldable pub optional_rows : List ℕ → Option ℕ
-optional_rows p = if ltb (length p) 4 then Some 0 else table_rows p
+unfoldable pub optional_entries : List ℕ → Option ℕ
+optional_entries p = if ltb (length p) 4 then Some 0 else table_entries p
 
 -- so many entries from `at` on
 unfoldable pub entries_from : ℕ → List ℕ → ℕ → List Run
@@ -49,7 +49,7 @@ is_unsigned standard ctts = standard && eqb (get_or ctts 0 0) 0
 -- an offset, of its four bytes, unsigned or signed
 abbrev pub offset_of : Bool → ℕ → ℤ
 offset_of true x = pos x
-offset_of false x = of_bits (2 ^ 31) x
+offset_of false x = cast_signed w32 x
 
 -- the offsets that a ctts has, by the standard or by the Rust
 abbrev pub offsets : Bool → ℕ → List ℕ → List ℤ

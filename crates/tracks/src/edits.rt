@@ -1,6 +1,7 @@
 // The edit list.
-ghost use Rattle.std.specs.Prelude.{Some, ◌≡◌, ◌+◌, ◌≤◌, ◌<◌, ◌^◌, length};
+ghost use Rattle.std.specs.Prelude.{Some, IfSome, ◌≡◌, ◌+◌, ◌≤◌, ◌<◌, ◌^◌, length};
 ghost use Rattle.tracks.specs.Edits.{entry_at, entry_bytes, no_edit, ending_after, from_time, kept_entry, two_entries, edit_of_entries, elst_of, edit_of};
+ghost use Rattle.tracks.specs.SoundEdits.{EditTicks, Sound};
 
 use crate::{Edit, EditEntry};
 use boxes::read::{be32, be64, code};
@@ -24,7 +25,7 @@ fn entry_bytes(long: bool) -> usize
 }
 
 // The entry at at: the closure entry of video_frame_times_of_moov.
-#[tactic(auto, using(choice::proofs::Tests::tests), unfolding(crate::specs::Edits::entry_at))]
+#[tactic(auto, using(conditions::proofs::Tests::tests), unfolding(crate::specs::Edits::entry_at))]
 fn entry_at(long: bool, p: &[u8], at: usize) -> EditEntry
     requires { at + entry_bytes long ≤ length p.now }
     ensures { result ≡ entry_at long p.now at }
@@ -32,20 +33,21 @@ fn entry_at(long: bool, p: &[u8], at: usize) -> EditEntry
     if long {
         return EditEntry {
             duration: be64(p, at),
-            time: signed::of_bits64(be64(p, at + 8)),
+            time: be64(p, at + 8).cast_signed(),
             rate: be32(p, at + 16),
         };
     }
     EditEntry {
         duration: be32(p, at) as u64,
-        time: signed::of_bits32(be32(p, at + 4)),
+        time: be32(p, at + 4).cast_signed() as i64,
         rate: be32(p, at + 8),
     }
 }
 
 // No edit: everything is kept, from 0 on.
 fn no_edit() -> Edit
-    ensures { result ≡ no_edit }
+    ensures is { result ≡ no_edit }
+    ensures sound { Sound result }
 {
     Edit {
         edited: false,
@@ -57,8 +59,9 @@ fn no_edit() -> Edit
 
 // The edit from t on that ends so many ticks later.
 fn ending_after(n: u64, t: u64, empty: i64) -> Option<Edit>
-    requires { t < 2 ^ 63 }
-    ensures { result ≡ ending_after (Some n) t empty }
+    requires { (t < 2 ^ 63) × EditTicks empty }
+    ensures is { result ≡ ending_after (Some n) t empty }
+    ensures sound { IfSome result Sound }
 {
     if n < TOP - t {
         return Some(Edit {
@@ -73,8 +76,9 @@ fn ending_after(n: u64, t: u64, empty: i64) -> Option<Edit>
 
 // The edit from a time on, over a duration of the movie.
 fn from_time(t: i64, duration: u64, scale: u64, movie: u64, empty: i64) -> Option<Edit>
-    requires { (scale < 2 ^ 32) × (0 < movie) × (movie < 2 ^ 32) }
-    ensures { result ≡ from_time t duration scale movie empty }
+    requires { (scale < 2 ^ 32) × (0 < movie) × (movie < 2 ^ 32) × EditTicks empty }
+    ensures is { result ≡ from_time t duration scale movie empty }
+    ensures sound { IfSome result Sound }
 {
     if t < 0 {
         return None;
@@ -92,10 +96,11 @@ fn from_time(t: i64, duration: u64, scale: u64, movie: u64, empty: i64) -> Optio
 }
 
 // The edit of the entry that is kept.
-#[tactic(auto, using(choice::proofs::Tests::tests), unfolding(crate::specs::Edits::kept_entry))]
+#[tactic(auto, using(conditions::proofs::Tests::tests), unfolding(crate::specs::Edits::kept_entry))]
 fn kept_entry(entry: EditEntry, scale: u64, movie: u64, empty: i64) -> Option<Edit>
-    requires { (scale < 2 ^ 32) × (0 < movie) × (movie < 2 ^ 32) }
-    ensures { result ≡ kept_entry entry scale movie empty }
+    requires { (scale < 2 ^ 32) × (0 < movie) × (movie < 2 ^ 32) × EditTicks empty }
+    ensures is { result ≡ kept_entry entry scale movie empty }
+    ensures sound { IfSome result Sound }
 {
     if entry.rate == RATE_ONE {
         return from_time(entry.time, entry.duration, scale, movie, empty);
@@ -104,10 +109,11 @@ fn kept_entry(entry: EditEntry, scale: u64, movie: u64, empty: i64) -> Option<Ed
 }
 
 // The edit of two entries, the first an empty edit, whose rate isn't looked at.
-#[tactic(auto, using(choice::proofs::Tests::tests), unfolding(crate::specs::Edits::two_entries))]
+#[tactic(auto, using(crate::proofs::EditLaws::twos), unfolding(crate::specs::Edits::two_entries))]
 fn two_entries(first: EditEntry, second: EditEntry, scale: u64, movie: u64) -> Option<Edit>
     requires { (scale < 2 ^ 32) × (0 < movie) × (movie < 2 ^ 32) }
-    ensures { result ≡ two_entries first second scale movie }
+    ensures is { result ≡ two_entries first second scale movie }
+    ensures sound { IfSome result Sound }
 {
     if first.time != -1 {
         return None;
@@ -120,10 +126,11 @@ fn two_entries(first: EditEntry, second: EditEntry, scale: u64, movie: u64) -> O
 }
 
 // The edit of an edit list's n entries.
-#[tactic(auto, using(choice::proofs::Tests::tests), unfolding(crate::specs::Edits::edit_of_entries))]
+#[tactic(auto, using(conditions::proofs::Tests::tests), unfolding(crate::specs::Edits::edit_of_entries))]
 fn edit_of_entries(n: usize, long: bool, p: &[u8], scale: u64, movie: u64) -> Option<Edit>
     requires { (scale < 2 ^ 32) × (0 < movie) × (movie < 2 ^ 32) }
-    ensures { result ≡ edit_of_entries n long p.now scale movie }
+    ensures is { result ≡ edit_of_entries n long p.now scale movie }
+    ensures sound { IfSome result Sound }
 {
     if n == 0 {
         return Some(no_edit());
@@ -143,10 +150,11 @@ fn edit_of_entries(n: usize, long: bool, p: &[u8], scale: u64, movie: u64) -> Op
 }
 
 // The edit of an elst's payload.
-#[tactic(auto, using(choice::proofs::Tests::tests), unfolding(crate::specs::Edits::elst_of))]
+#[tactic(auto, using(conditions::proofs::Tests::tests), unfolding(crate::specs::Edits::elst_of))]
 fn elst(p: &[u8], scale: u64, movie: u64) -> Option<Edit>
     requires { (scale < 2 ^ 32) × (0 < movie) × (movie < 2 ^ 32) }
-    ensures { result ≡ elst_of p.now scale movie }
+    ensures is { result ≡ elst_of p.now scale movie }
+    ensures sound { IfSome result Sound }
 {
     if p.len() < 8 {
         return None;
@@ -155,10 +163,11 @@ fn elst(p: &[u8], scale: u64, movie: u64) -> Option<Edit>
 }
 
 // The edit of an edts' payload, which is empty where a track has none: the edit list of video_frame_times_of_moov.
-#[tactic(auto, using(choice::proofs::Tests::tests), unfolding(crate::specs::Edits::edit_of))]
+#[tactic(auto, using(conditions::proofs::Tests::tests), unfolding(crate::specs::Edits::edit_of))]
 pub fn edit_of(edts: &[u8], scale: u64, movie: u64) -> Option<Edit>
     requires { (scale < 2 ^ 32) × (0 < movie) × (movie < 2 ^ 32) }
-    ensures { result ≡ edit_of edts.now scale movie }
+    ensures is { result ≡ edit_of edts.now scale movie }
+    ensures sound { IfSome result Sound }
 {
     let Walk::Found(Place { start, len }) = find_child(edts, code(b"elst")) else {
         return Some(no_edit());

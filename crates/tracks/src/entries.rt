@@ -14,8 +14,8 @@ pub struct Run {
 #[derive(Clone, Copy)]
 pub struct Table<'a> {
     pub payload: &'a [u8],
-    pub rows: usize,
-    ghost there: { rows * 8 ≤ length payload.now - 8 },
+    pub entries: usize,
+    ghost there: { entries * 8 ≤ length payload.now - 8 },
 }
 
 // The entries that a walk hasn't passed: those from at to end.
@@ -37,50 +37,53 @@ pub struct Frames<'a> {
 }
 
 impl<'a> Table<'a> {
-    ghost use Rattle.tracks.specs.Tables.{table_rows, optional_rows, entries_of, durations};
-    ghost use Rattle.tracks.specs.Steps.{Opened};
+    ghost use Rattle.tracks.specs.Tables.{table_entries, optional_entries, entries_of, durations};
+    ghost use Rattle.tracks.specs.Opening.{Opened};
     ghost use Rattle.tracks.specs.Walking.{runs_left, frames_left};
 
     // The table of a payload whose entries are all there: one length tells.
-    #[tactic(auto, using(choice::proofs::Tests::tests), unfolding(crate::specs::Tables::table_rows))]
+    #[tactic(auto, using(conditions::proofs::Tests::tests), unfolding(crate::specs::Tables::table_entries))]
     pub fn of(payload: &'a [u8]) -> Option<Table<'a>>
-        ensures { Opened payload.now (table_rows payload.now) result }
+        ensures { Opened payload.now (table_entries payload.now) result }
     {
         if payload.len() < 8 {
             return None;
         }
-        let rows = be32(payload, 4) as usize;
-        if payload.len() < rows * 8 + 8 {
+        let entries = be32(payload, 4) as usize;
+        if payload.len() < entries * 8 + 8 {
             return None;
         }
-        Some(Table { payload, rows })
+        Some(Table { payload, entries })
     }
 
     // The same of a table that may be absent.
-    #[tactic(auto, using(choice::proofs::Tests::tests), unfolding(crate::specs::Tables::optional_rows))]
+    #[tactic(auto, using(conditions::proofs::Tests::tests), unfolding(crate::specs::Tables::optional_entries))]
     pub fn of_optional(payload: &'a [u8]) -> Option<Table<'a>>
-        ensures { Opened payload.now (optional_rows payload.now) result }
+        ensures { Opened payload.now (optional_entries payload.now) result }
     {
         if payload.len() < 4 {
-            return Some(Table { payload, rows: 0 });
+            return Some(Table {
+                payload,
+                entries: 0,
+            });
         }
         Table::of(payload)
     }
 
     // Its entries, in order.
     pub fn runs(self) -> Runs<'a>
-        ensures { runs_left result ≡ entries_of self.entry.rows self.entry.payload.now }
+        ensures { runs_left result ≡ entries_of self.entry.entries self.entry.payload.now }
     {
         Runs {
             payload: self.payload,
             at: 8,
-            end: self.rows * 8 + 8,
+            end: self.entries * 8 + 8,
         }
     }
 
     // The values of its frames, in order.
     pub fn frames(self) -> Frames<'a>
-        ensures { frames_left result ≡ durations self.entry.rows self.entry.payload.now }
+        ensures { frames_left result ≡ durations self.entry.entries self.entry.payload.now }
     {
         Frames {
             run: Run { count: 0, value: 0 },
@@ -89,6 +92,7 @@ impl<'a> Table<'a> {
     }
 }
 
+#[tactic(auto, using(crate::proofs::EntryLaws::runs))]
 impl Iterator for Runs<'_> {
     ghost use Rattle.std.specs.Iterator.{YieldsFirst, item_count};
     ghost use Rattle.tracks.specs.Walking.{runs_left};
@@ -112,6 +116,7 @@ impl Iterator for Runs<'_> {
     }
 }
 
+#[tactic(auto, unfolding(crate::specs::Tables::per_frame))]
 impl Iterator for Frames<'_> {
     ghost use Rattle.std.specs.Iterator.{YieldsFirst, item_count};
     ghost use Rattle.tracks.specs.Walking.{frames_left};

@@ -1,13 +1,13 @@
 // Timescales, and the tables that have a count and a value in each entry: durations (stts) and offsets (ctts).
-ghost use Rattle.std.specs.Prelude.{◌≡◌, ◌≤◌, ◌^◌, ℕ, Bool};
+ghost use Rattle.std.specs.Prelude.{◌≡◌, ◌≤◌, ◌<◌, ◌^◌, ℕ, Bool};
 ghost use Rattle.tracks.specs.Tables.{timescale, is_unsigned, offset_of};
-ghost use Rattle.tracks.specs.Steps.{Spread, offset_wrap, wrapped};
+ghost use Rattle.tracks.specs.Opening.{Spread, offset_wrap, wrapped};
 
 use crate::entries::Table;
 use boxes::read::be32;
 
 // The timescale of a mvhd or mdhd: full_box and be_u32, as video_frame_times_of_moov of the Rust calls them. Where it isn't whole, the Rust looks for no track.
-#[tactic(auto, using(choice::proofs::Tests::tests), unfolding(crate::specs::Tables::timescale))]
+#[tactic(auto, using(conditions::proofs::Tests::tests), unfolding(crate::specs::Tables::timescale))]
 pub fn timescale(p: &[u8]) -> Option<u32>
     ensures { result ≡ timescale p.now }
 {
@@ -57,14 +57,15 @@ pub fn offset(wrap: u64, x: u32) -> i64
 // An offset, less what is taken off it where its top bit is set, is what the definition reads, unsigned or signed.
 #[tactic(auto, using(crate::proofs::OffsetLaws::offset_wrapped))]
 pub fn wrapped_offsets_are_right()
-    ensures { (unsigned : Bool) (x : ℕ) → wrapped (offset_wrap unsigned) x ≡ offset_of unsigned x }
+    ensures { (unsigned : Bool) (x : ℕ) → x < 2 ^ 32 → wrapped (offset_wrap unsigned) x ≡ offset_of unsigned x }
 {}
 
 // Lays a table's values over out, each as often as its entry says, and answers how often that is together: the first loop of
 // video_frame_times_of_moov. Over most it stops, and answers most + 1; what doesn't fit out isn't laid.
+#[tactic(auto, unfolding(crate::specs::Tables::entry_total, crate::specs::Tables::per_frame))]
 pub fn lay(table: Table<'_>, most: usize, out: &mut [i64]) -> usize
     requires { most ≤ 16777216 }
-    ensures { Spread table.entry.payload.now table.entry.rows most result out.old out.new }
+    ensures { Spread table.entry.payload.now table.entry.entries most result out.old out.new }
 {
     let mut sum: usize = 0;
     for run in table.runs() {

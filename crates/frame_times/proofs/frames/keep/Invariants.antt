@@ -1,5 +1,5 @@
-use Rattle.std.proofs.Common.{length}
-use Rattle.tracks.specs.Tables.{is_unsigned}
+use Rattle.std.proofs.Common.{map}
+use Rattle.tracks.specs.Tables.{is_unsigned, offset_of}
 use Rattle.tracks.specs.Walking.{frames_left}
 use Rattle.frame_times.specs.Found.{frames_kept}
 use Rattle.frame_times.proofs.KeepLaws.{Keeping}
@@ -7,5 +7,5 @@ use Rattle.frame_times.proofs.frames.keep.Given as goal
 
 abbrev pub invariant-loop-duration : goal.invariant-loop-duration
 invariant-loop-duration l =
-    Keeping (is_unsigned l.timing.standard l.timing.offsets.payload.now) l.timing.edit (frames_kept l.timing)
-    l.fn.times l.times (frames_left l.duration-iterator) (frames_left l.offsets) l.k l.t (length l.yielded)
+    let offsets = map (offset_of (is_unsigned l.timing.standard l.timing.offsets.payload.now)) (frames_left l.offsets) in
+    Keeping l.timing.edit (frames_kept l.timing) l.times (frames_left l.duration-iterator) offsets l.k l.t

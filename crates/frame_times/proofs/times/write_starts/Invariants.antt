@@ -5,4 +5,4 @@ use Rattle.frame_times.proofs.times.write_starts.Given as goal
 
 -- the first i starts are written
 abbrev pub invariant-loop-i : goal.invariant-loop-i
-invariant-loop-i l = l.starts ≡ laid (map (moved_time l.origin l.empty) (take l.i l.times)) l.fn.starts
+invariant-loop-i l = l.starts ≡ laid (map (moved_time l.fn.origin l.fn.empty) (take l.i l.fn.times)) l.fn.starts

@@ -1,16 +1,13 @@
--- What the functions promise each other: of a table that is opened or laid, of an offset, and how large an edit's numbers are.
-use Rattle.std.specs.Prelude.{IfSome, Option, Some, None, ℕ, ◌+◌, ◌≤◌, ◌^◌, min, ◌≡◌, List, map, length, ℤ, pos, ◌-ℤ◌, Bool, true, false, ltb, if◌then◌else◌}
-use Rattle.std.specs.Int.Signed.{le_z}
-use Rattle.signed.specs.Steps.{I64}
+-- What the functions promise each other of a table that is opened or laid, and of an offset.
+use Rattle.std.specs.Prelude.{Option, Some, None, ℕ, ◌+◌, ◌≤◌, ◌^◌, min, ◌≡◌, List, map, length, ℤ, pos, ◌-ℤ◌, Bool, true, false, ltb, if◌then◌else◌}
 use Rattle.slices.specs.Slices.{laid}
 use Rattle.tracks.specs.declared.entries.Table.{Table}
-use Rattle.tracks.specs.declared.Edit.{Edit}
 use Rattle.tracks.specs.Tables.{entries_of, entry_total, durations}
 
--- a payload of so many rows is opened as a table, or isn't one
+-- a payload of so many entries is opened as a table, or isn't one
 abbrev pub Opened : List ℕ → Option ℕ → Option Table → Type 0
-Opened p rows None = rows ≡ None
-Opened p rows (Some t) = (rows ≡ Some t.rows) × (t.payload.now ≡ p)
+Opened p entries None = entries ≡ None
+Opened p entries (Some t) = (entries ≡ Some t.entries) × (t.payload.now ≡ p)
 
 -- r is how many frames a table's n entries are for, but no more than most + 1; where out has room for them, their values are laid over it
 pub record Spread (p : List ℕ) (n most r : ℕ) (before after : List ℤ) : Type 0 where
@@ -25,13 +22,3 @@ offset_wrap false = 2 ^ 32
 -- an offset, of its four bytes and of what is taken off
 abbrev pub wrapped : ℕ → ℕ → ℤ
 wrapped wrap x = if ltb x (2 ^ 31) then pos x else pos x -ℤ pos wrap
-
--- ticks that aren't below 0, and that an i64 holds
-pub record EditTicks (z : ℤ) : Type 0 where
-  pub above : le_z (pos 0) z ≡ true
-  pub fits : I64 z
-
--- an edit as an edit list gives it: of its end, where it has one, and of its empty ticks the same holds
-pub record Sound (e : Edit) : Type 0 where
-  pub end : IfSome e.end EditTicks
-  pub empty : EditTicks e.empty

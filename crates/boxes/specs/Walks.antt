@@ -1,4 +1,4 @@
--- Words of what inner functions promise each other and the crates above. No call's promise names these.
+-- How a walk over boxes ends, how far it came, and that it stays within the bytes; for contracts of this crate and of those above. No call's promise names these.
 use Rattle.std.specs.Prelude.{ℕ, ◌+◌, ◌≤◌, Option, None, Some}
 use Rattle.boxes.specs.declared.Header.{Header}
 use Rattle.boxes.specs.declared.Header.TheVariants.{Whole, Short, Bad}

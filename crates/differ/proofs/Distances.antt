@@ -7,7 +7,7 @@ use native.Mathlib.Omega.{arith}
 use lib.Dec.{leb→le, le→leb}
 use lib.IntN.{ℤ, pos, negsuc, nat_abs, ◌+ℤ◌, ◌-ℤ◌, ◌*ℤ◌, +ℤ_comm, +ℤ-neg_ℤ_cancel, pos-ne-negsuc}
 use lib.Signed.{◌≤ℤ◌}
-use Rattle.choice.proofs.Tests.{le-or-lt}
+use Rattle.conditions.proofs.Tests.{le-or-lt}
 use Rattle.signed.specs.Rounded.{nearest, rounded}
 use Rattle.ticks.proofs.Nearness.{above}
 use Rattle.rules.proofs.Accepted.{Timely}

@@ -1,27 +1,26 @@
 -- What `validate` and `check_mcraw` answer is right by the paper's conditions, in testing order. Assumes nothing.
-use Prim.Native.Nat.{ℕ, suc, ◌+◌, ◌-◌, ◌<◌, ◌^◌}
+use Prim.Native.Nat.{ℕ, suc, ◌+◌, ◌-◌, ◌<◌}
+use Rattle.std.proofs.lemmas.Bool.Decides.{Decides-int_eq}
+use Rattle.std.specs.Ordering.{int_eq}
 use native.Mathlib.Nat.{zero-add}
 use native.Mathlib.Omega.{arith}
 use mathlib.Core.Path.{◌≡◌, refl, sym, ap, ◌∙◌, subst}
 use mathlib.Core.Bool.{Bool, true, false, not, ◌||◌}
 use mathlib.Core.List.{List, [], ◌∷◌, ◌++◌}
-use mathlib.Core.Logic.{inl, inr, ⊎_elim}
-use lib.Dec.{eqb, ltb}
+use lib.Dec.{eqb}
 use lib.IntN.{ℤ, pos, negsuc}
 use lib.ListN.{length, get_or}
-use lib.Signed.{lt_z, mag, ◌<ℤ◌}
-use borrow.Author.Tests.{ltb-true, ltb-false, lt-ltb, le-ltb, leb-true, leb-false, lt-leb, le-leb, ne_eqb}
-use Rattle.std.specs.Prelude.{Result, Ok, Err}
+use lib.Signed.{lt_z, ◌<ℤ◌}
+use borrow.Author.Tests.{ne_eqb}
+use Rattle.std.specs.Prelude.{Result, Ok, Err, None}
 use Rattle.std.specs.Result.{result_and}
-use Rattle.choice.specs.Choice.{when}
-use Rattle.choice.proofs.Tests.{decide, tf}
+use Rattle.conditions.specs.Conditions.{when}
+use Rattle.conditions.proofs.Tests.{decide, tf}
 use Rattle.refusal.specs.declared.Reason.{Reason}
 use Rattle.refusal.specs.declared.Reason.TheVariants as reason
 use Rattle.refusal.specs.declared.Refusal.{Refusal}
 use Rattle.refusal.specs.Refusals.{refused, first_refused}
-use Rattle.signed.specs.declared.Held.TheVariants.{Outside}
-use Rattle.signed.specs.Signed.{within, eq_z, is_outside}
-use Rattle.signed.proofs.Order.{eq_z-true, eq_z-yes}
+use Rattle.signed.specs.Signed.{as_i64, is_outside}
 use Rattle.ticks.specs.Ticks.{largest_scale, micros_of, ends_near}
 use Rattle.rules.specs.Limits.{max_i64}
 use Rattle.rules.specs.declared.Segment.{Segment}
@@ -39,19 +38,12 @@ use Rattle.judge.specs.Judge.{starts_at, start_refusal, last_segment, video_refu
 use Rattle.judge.specs.Paper.{Beyond, NoVideo, TooLarge, frame_us, Near, of_start, video_tests, of_pair, times_tests, timed_tests, first_source, recording_tests, validate_tests, mcraw_tests}
 
 -- ---- integers
-same : (a b : ℤ) → Says (eq_z a b) (a ≡ b)
-same a b = record { holds = eq_z-true a b; fails = λ e q. tf (sym (eq_z-yes q) ∙ e) }
+same : (a b : ℤ) → Says (int_eq a b) (a ≡ b)
+same a b = record { holds = (Decides-int_eq a b).0; fails = λ e q. tf (sym ((Decides-int_eq a b).1 q) ∙ e) }
 
 -- no i64 is z
 beyond : (z : ℤ) → Says (is_outside z) (Beyond z)
-beyond (pos n) = record {
-  holds = λ e. inr ((below (pos max_i64) (pos n)).holds (lt-ltb max_i64 n (omega (arith, leb-true (2 ^ 63) n e))));
-  fails = λ e. ⊎_elim ((below (pos n) (negsuc max_i64)).fails refl) ((below (pos max_i64) (pos n)).fails (le-ltb max_i64 n (omega (arith, leb-false (2 ^ 63) n e))));
-}
-beyond (negsuc n) = record {
-  holds = λ e. inl ((below (negsuc n) (negsuc max_i64)).holds (lt-ltb max_i64 n (omega (arith, leb-true (2 ^ 63) n e))));
-  fails = λ e. ⊎_elim ((below (negsuc n) (negsuc max_i64)).fails (le-ltb max_i64 n (omega (arith, leb-false (2 ^ 63) n e)))) ((below (pos max_i64) (negsuc n)).fails refl);
-}
+beyond z = either (below z (negsuc max_i64)) (below (pos max_i64) z)
 
 -- ---- a video
 not-given : (video : Video) (starts : List ℤ) → Says (not (shown_by video starts).given) (NoVideo video)
@@ -67,13 +59,11 @@ too_large (Constant frames num den) starts = either (less largest_scale num) (le
 too_large (Times scale end nominal) starts = either (less largest_scale scale) (less most_starts (length starts))
 
 -- 23, and then 24, as a chain of tests
-chain : (us out : ℤ) (s : ℕ) → starts_at (when (eqb s 0) Outside (within us)) out ≡ when (eqb s 0 || is_outside us) (Err reason.NoFrameTime) (when (not (eq_z us out)) (Err reason.OtherFrameTime) (Ok tt))
+chain : (us out : ℤ) (s : ℕ) → starts_at (when (eqb s 0) None (as_i64 us)) out ≡ when (eqb s 0 || is_outside us) (Err reason.NoFrameTime) (when (not (int_eq us out)) (Err reason.OtherFrameTime) (Ok tt))
 unfolding starts_at when
 chain us out s =
     decide (eqb s 0) (λ e. rw e)
-    (λ e. decide (ltb (mag us) (2 ^ 63))
-    (λ q. rw (e, q, lt-leb (2 ^ 63) (mag us) (ltb-true (mag us) (2 ^ 63) q)) (turned (eq_z us out)))
-    (λ q. rw (e, q, le-leb (2 ^ 63) (mag us) (ltb-false (mag us) (2 ^ 63) q))))
+    (λ e. decide (is_outside us) (λ q. rw (e, q)) (λ q. rw (e, q) (turned (int_eq us out))))
   where
     turned : (b : Bool) → ◌≡◌ {A = Result (Unit {0}) Reason} (when b (Ok tt) (Err reason.OtherFrameTime)) (when (not b) (Err reason.OtherFrameTime) (Ok tt))
     turned true = refl

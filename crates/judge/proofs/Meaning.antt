@@ -1,5 +1,7 @@
 -- A table is accepted for a video exactly where it fits it, and for a recording exactly where it is recorded. Nothing else meets the promises. Assumes nothing.
 use mathlib.Core.Path.{◌≡◌, refl, sym, ap, ◌∙◌, subst}
+use Rattle.std.proofs.lemmas.Bool.Decides.{Decides-int_eq}
+use Rattle.std.specs.Ordering.{int_eq}
 use mathlib.Core.Bool.{Bool, true, false}
 use mathlib.Core.List.{List}
 use mathlib.Core.Logic.{inl, inr, ⊎_elim, ◌↔◌}
@@ -10,22 +12,19 @@ use lib.Dec.{T, eqb}
 use lib.IntN.{ℤ, pos, nat_abs, ◌+ℤ◌, ◌-ℤ◌, ◌*ℤ◌}
 use lib.ListN.{length}
 use lib.Signed.{◌≤ℤ◌, le_z_yes}
-use Rattle.std.specs.Prelude.{Result, Ok, Err}
+use Rattle.std.specs.Prelude.{Result, Ok, Err, Option, Some, None}
 use Rattle.std.specs.Result.{result_and}
-use Rattle.choice.specs.Choice.{when}
-use Rattle.choice.proofs.Tests.{decide, tf}
+use Rattle.conditions.specs.Conditions.{when}
+use Rattle.conditions.proofs.Tests.{decide, tf}
 use Rattle.refusal.specs.declared.Reason.{Reason}
 use Rattle.refusal.specs.declared.Reason.TheVariants as reason
 use Rattle.refusal.specs.declared.Refusal.{Refusal}
 use Rattle.refusal.proofs.Chains.{when-ok, and-ok, ok-of}
 use Rattle.refusal.proofs.First.{none-refused, refuses-none}
-use Rattle.signed.specs.declared.Held.{Held}
-use Rattle.signed.specs.declared.Held.TheVariants.{Is, Outside}
-use Rattle.signed.specs.Signed.{within, eq_z}
+use Rattle.signed.specs.Signed.{as_i64}
 use Rattle.signed.specs.Rounded.{rounded}
-use Rattle.signed.specs.Steps.{I64}
-use Rattle.signed.proofs.Order.{eq_z-refl, eq_z-true}
-use Rattle.signed.proofs.Ranges.{in-range}
+use Rattle.signed.specs.Fits.{I64}
+use Rattle.signed.proofs.Ranges.{is_some, held}
 use Rattle.ticks.specs.Ticks.{micros_of, ends_near}
 use Rattle.ticks.proofs.Microseconds.{micros-none, micros-some}
 use Rattle.rules.specs.Records.{Table, no_segment, segment, out_end, out_end_us, frame_total}
@@ -33,33 +32,32 @@ use Rattle.rules.specs.Rules.{refusal, check_of}
 use Rattle.rules.proofs.Accepted.{Accepted, accepted}
 use Rattle.ticks.specs.declared.FrameTimes.{FrameTimes}
 use Rattle.mcraw.specs.Mcraw.{nanoseconds, starts_of, nominal, end, refusal_of, times_of, mcraw_times}
-use Rattle.mcraw.proofs.Holds.{held}
 use Rattle.judge.specs.Video.{Shown, timed}
 use Rattle.judge.specs.Judge.{starts_at, start_refusal, last_segment, video_refusal, validate_of, single, times_refusal, recording_refusal, check_mcraw}
 use Rattle.judge.specs.Means.{Fits, Recorded}
 
 -- a segment that starts at its first frame's time
-starts-right : (h : Held) (out : ℤ) → starts_at h out ≡ Ok tt → h ≡ Is out
+starts-right : (h : Option ℤ) (out : ℤ) → starts_at h out ≡ Ok tt → h ≡ Some out
 unfolding starts_at when
-starts-right Outside out e = absurd (grind arith)
-starts-right (Is us) out e = decide (eq_z us out) (λ t. ap Is (eq_z-true us out t)) (λ t. let z : ◌≡◌ {A = Result (Unit {0}) Reason} (Err reason.OtherFrameTime) (Ok tt) = sym (rw t) ∙ e in absurd (grind arith))
+starts-right None out e = absurd (grind arith)
+starts-right (Some us) out e = decide (int_eq us out) (λ t. ap Some ((Decides-int_eq us out).0 t)) (λ t. let z : ◌≡◌ {A = Result (Unit {0}) Reason} (Err reason.OtherFrameTime) (Ok tt) = sym (rw t) ∙ e in absurd (grind arith))
 
-right-starts : (out : ℤ) → starts_at (Is out) out ≡ Ok tt
+right-starts : (out : ℤ) → starts_at (Some out) out ≡ Ok tt
 unfolding starts_at when
-right-starts out = rw (eq_z-refl out)
+right-starts out = rw ((Decides-int_eq out out).1 refl)
 
 -- a time that is had, in microseconds
-time-had : (z : ℤ) (s : ℕ) (us : ℤ) → micros_of z s ≡ Is us → (0 < s) × (us ≡ rounded (z *ℤ pos 1000000) s)
+time-had : (z : ℤ) (s : ℕ) (us : ℤ) → micros_of z s ≡ Some us → (0 < s) × (us ≡ rounded (z *ℤ pos 1000000) s)
 time-had z s us e =
     decide (eqb s 0)
-    (λ t. let q : Outside ≡ Is us = micros-none z s (eqb-true s 0 t) ∙ e in let n : ◌≡◌ {A = ℕ} 0 1 = cc in absurd (omega arith))
+    (λ t. let q : None ≡ Some us = micros-none z s (eqb-true s 0 t) ∙ e in let n : ◌≡◌ {A = ℕ} 0 1 = cc in absurd (omega arith))
     (λ t.
     let f = eqb-false s 0 t in
     (omega arith, (held (rounded (z *ℤ pos 1000000) s) us (micros-some z s f ∙ e)).1))
 
-had-time : (z : ℤ) (s : ℕ) (us : ℤ) → 0 < s → I64 us → us ≡ rounded (z *ℤ pos 1000000) s → micros_of z s ≡ Is us
+had-time : (z : ℤ) (s : ℕ) (us : ℤ) → 0 < s → I64 us → us ≡ rounded (z *ℤ pos 1000000) s → micros_of z s ≡ Some us
 had-time z s us p h e =
-    sym (micros-some z s (λ q. absurd (omega arith))) ∙ ap within (sym e) ∙ sym (in-range us h)
+    sym (micros-some z s (λ q. absurd (omega arith))) ∙ ap as_i64 (sym e) ∙ sym (is_some us h)
 
 -- the inequality, and its test
 near-so : (us e m : ℤ) (s : ℕ) → ends_near us e m s ≡ true
@@ -105,12 +103,12 @@ module _ (t : Table) (v : Shown) (N : ℕ) where
       let d = and-ok _ _ _ c.1 in
       let e = when-ok _ _ _ _ d.1 in
       let last = eqb-true (out_end (last_segment t.segments)) v.frames (not-false _ c.0) in
-      let had : (k : ℕ) → k < length t.segments → micros_of (v.time (segment t k).words.out) v.scale ≡ Is (segment t k).stamps.outstart
+      let had : (k : ℕ) → k < length t.segments → micros_of (v.time (segment t k).words.out) v.scale ≡ Some (segment t k).stamps.outstart
       = λ k i. starts-right _ _ (none-refused (start_refusal v) 0 t.segments no_segment d.0 k i) in
       record {
         checked = q;
         given = not-false _ a.0;
-        within = b.0;
+        in-limits = b.0;
         first = g.first;
         next = λ k i. (g.follows k i).frame;
         some = λ k i. (g.segments k i).some;
@@ -126,8 +124,8 @@ module _ (t : Table) (v : Shown) (N : ℕ) where
   video-fits h =
       let g = accepted t N h.checked in
       let right : (k : ℕ) → k < length t.segments → start_refusal v (segment t k) ≡ Ok tt
-      = λ k i. ap (λ (x : Held). starts_at x (segment t k).stamps.outstart) (had-time _ _ _ h.scaled (start_fits g k i) (h.starts k i)) ∙ right-starts _ in
-      simp (h.given, h.within, eq-eqb _ _ h.last, refuses-none (start_refusal v) 0 t.segments no_segment right, so-near (out_end_us (last_segment t.segments)) v.end v.nominal v.scale h.near)
+      = λ k i. ap (λ (x : Option ℤ). starts_at x (segment t k).stamps.outstart) (had-time _ _ _ h.scaled (start_fits g k i) (h.starts k i)) ∙ right-starts _ in
+      simp (h.given, h.in-limits, eq-eqb _ _ h.last, refuses-none (start_refusal v) 0 t.segments no_segment right, so-near (out_end_us (last_segment t.segments)) v.end v.nominal v.scale h.near)
 
   pub validated : (validate_of t v ≡ Ok N) ↔ Fits t v N
   unfolding validate_of

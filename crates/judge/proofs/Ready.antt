@@ -4,12 +4,12 @@ use Prim.Native.Nat.{ℕ, ◌-◌}
 use native.Mathlib.Omega.{arith}
 use lib.ListN.{length}
 use Rattle.std.specs.Prelude.{Ok}
-use Rattle.signed.specs.Steps.{I64}
+use Rattle.signed.specs.Fits.{I64}
 use Rattle.rules.specs.Records.{Table, out_end_us}
 use Rattle.rules.specs.Rules.{check_of}
 use Rattle.rules.proofs.Accepted.{Accepted, accepted}
 use Rattle.judge.specs.Judge.{last_segment}
-use Rattle.judge.specs.Steps.{Ready}
+use Rattle.judge.specs.Ready.{Ready}
 
 -- the end time of the last segment of an accepted table
 end_fits : (t : Table) (N : ℕ) → Accepted t N → I64 (out_end_us (last_segment t.segments))

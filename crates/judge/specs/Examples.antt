@@ -1,6 +1,6 @@
 -- Document 01's numbers on near ends, and some beside them on every refusal by a video; and some of recordings. They are the contract of `worked_examples_hold`.
 use Rattle.std.specs.Prelude.{ℕ, false, List, [], ◌∷◌, ℤ, pos, neg_ℤ, Result, Ok}
-use Rattle.choice.specs.Worked.{Worked, is, AllRight}
+use Rattle.examples.specs.Worked.{Worked, is, AllRight}
 use Rattle.refusal.specs.declared.Reason.TheVariants as reason
 use Rattle.refusal.specs.declared.Refusal.{Refusal}
 use Rattle.refusal.specs.Refusals.{refused}

@@ -1,14 +1,12 @@
 -- A table against its video, over records: refusals 20 to 25 after 1 to 17, and the same of a MotionCam recording.
-use Rattle.std.specs.Prelude.{ℕ, ◌-◌, ◌≡◌, not, List, eqb, ℤ, length, get_or, Result, Ok, Err}
+use Rattle.std.specs.Prelude.{ℕ, ◌-◌, ◌≡◌, not, List, eqb, ℤ, length, get_or, Result, Ok, Err, Option, Some, None}
+use Rattle.std.specs.Ordering.{int_eq}
 use Rattle.std.specs.Result.{result_and}
 use Rattle.refusal.specs.declared.Reason.{Reason}
 use Rattle.refusal.specs.declared.Reason.TheVariants as reason
 use Rattle.refusal.specs.declared.Refusal.{Refusal}
 use Rattle.refusal.specs.Refusals.{refused, first_refused}
-use Rattle.choice.specs.Choice.{when}
-use Rattle.signed.specs.declared.Held.{Held}
-use Rattle.signed.specs.declared.Held.TheVariants.{Is, Outside}
-use Rattle.signed.specs.Signed.{eq_z}
+use Rattle.conditions.specs.Conditions.{when}
 use Rattle.slices.specs.Slices.{zeros}
 use Rattle.ticks.specs.Ticks.{micros_of, ends_near}
 use Rattle.rules.specs.declared.Source.{Source}
@@ -20,9 +18,9 @@ use Rattle.mcraw.specs.Mcraw.{starts_of, mcraw_times}
 use Rattle.judge.specs.Video.{Shown, constant, timed}
 
 -- 23: the time of the segment's first frame can't be had. 24: it differs from out_start
-unfoldable pub starts_at : Held → ℤ → Result (Unit {0}) Reason
-starts_at Outside out = Err reason.NoFrameTime
-starts_at (Is us) out = when (eq_z us out) (Ok tt) (Err reason.OtherFrameTime)
+unfoldable pub starts_at : Option ℤ → ℤ → Result (Unit {0}) Reason
+starts_at None out = Err reason.NoFrameTime
+starts_at (Some us) out = when (int_eq us out) (Ok tt) (Err reason.OtherFrameTime)
 
 unfoldable pub start_refusal : Shown → Segment → Result (Unit {0}) Reason
 start_refusal v e = starts_at (micros_of (v.time e.words.out) v.scale) e.stamps.outstart

@@ -2,5 +2,5 @@ pub mod Video
 pub mod Judge
 pub mod Means
 pub mod Paper
-pub mod Steps
+pub mod Ready
 pub mod Examples

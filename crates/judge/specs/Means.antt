@@ -12,7 +12,7 @@ pub record Fits (t : Table) (v : Shown) (N : ℕ) : Type 0 where
   -- refusals 1 to 17 don't hold, and N is the frame total; there is a video, and none of its numbers is over its limit
   pub checked : check_of t ≡ Ok N
   pub given : v.given ≡ true
-  pub within : v.over ≡ false
+  pub in-limits : v.over ≡ false
   -- the rows cover the video's frames exactly: from frame 0, each row on from the one before it, to the frame count
   pub first : (segment t 0).words.out ≡ 0
   pub next : (k : ℕ) → suc k < length t.segments → (segment t (suc k)).words.out ≡ out_end (segment t k)

@@ -3,7 +3,7 @@
 
 ghost use Rattle.std.specs.Prelude.{◌≡◌, false, List, ◌*◌, ◌<◌, ◌^◌, length, get_or, ℤ, pos, ◌+ℤ◌, ◌↔◌, ℕ, Ok};
 ghost use Rattle.refusal.specs.Refusals.{first_refused};
-ghost use Rattle.signed.specs.Steps.{I64};
+ghost use Rattle.signed.specs.Fits.{I64};
 ghost use Rattle.ticks.specs.Ticks.{micros_of, ends_near};
 ghost use Rattle.rules.specs.Records.{Table, segment, frame_total};
 ghost use Rattle.rules.specs.Paper.{Rightly};
@@ -13,12 +13,11 @@ ghost use Rattle.judge.specs.Video.{Shown, shown_by};
 ghost use Rattle.judge.specs.Judge.{starts_at, start_refusal, video_refusal, validate_of, single, recoded, recording_refusal, check_mcraw, Settled};
 ghost use Rattle.judge.specs.Means.{Fits, Recorded};
 ghost use Rattle.judge.specs.Paper.{validate_tests, mcraw_tests};
-ghost use Rattle.judge.specs.Steps.{Ready};
+ghost use Rattle.judge.specs.Ready.{Ready};
 ghost use Rattle.judge.specs.Examples.{WorkedExamples};
 
 use refusal::{Reason, Refusal};
 use rules::Stamps;
-use signed::Held;
 use table::layout::Segments;
 use table::{SegmentTable, Tabled};
 use wide::Big;
@@ -96,16 +95,19 @@ fn frame_count(video: Video, starts: &[i64]) -> u64
 }
 
 // k × den ticks of scale num, in microseconds.
-fn constant_us(k: u64, num: u64, den: u64) -> Held
+fn constant_us(k: u64, num: u64, den: u64) -> Option<i64>
     requires { (num < 2 ^ 32) × (den < 2 ^ 32) }
     ensures { result ≡ micros_of (pos (k * den)) num }
 {
-    let mag = wide::product(k, den);
-    ticks::micros(Big { neg: false, mag }, num)
+    let time = Big {
+        negative: false,
+        magnitude: wide::product(k, den),
+    };
+    ticks::micros(time, num)
 }
 
 // The start of frame k in microseconds; past the last, the end.
-fn start_us(starts: &[i64], k: u64, scale: u64, end: i64) -> Held
+fn start_us(starts: &[i64], k: u64, scale: u64, end: i64) -> Option<i64>
     requires { scale < 2 ^ 32 }
     ensures { result ≡ micros_of (get_or starts.now k end) scale }
 {
@@ -118,12 +120,12 @@ fn start_us(starts: &[i64], k: u64, scale: u64, end: i64) -> Held
 
 // The time of frame k in microseconds. The Rust's time_us.
 #[tactic(auto, using(signed::proofs::Bits::back, crate::proofs::Lent::lent), unfolding(crate::specs::Video::shown_by))]
-fn frame_us(video: Video, starts: &[i64], k: u64) -> Held
+fn frame_us(video: Video, starts: &[i64], k: u64) -> Option<i64>
     requires { (shown_by video starts.now).over ≡ false }
     ensures { result ≡ micros_of ((shown_by video starts.now).time k) (shown_by video starts.now).scale }
 {
     match video {
-        Video::Nothing => Held::Outside,
+        Video::Nothing => None,
         Video::Constant {
             frames: _,
             num,
@@ -146,8 +148,11 @@ fn is_near(video: Video, starts: &[i64], us: i64) -> bool
     match video {
         Video::Nothing => false,
         Video::Constant { frames, num, den } => {
-            let mag = wide::product(frames, den);
-            ticks::ends_near(us, Big { neg: false, mag }, den as i64, num)
+            let end = Big {
+                negative: false,
+                magnitude: wide::product(frames, den),
+            };
+            ticks::ends_near(us, end, den as i64, num)
         }
         Video::Times {
             scale,
@@ -158,14 +163,14 @@ fn is_near(video: Video, starts: &[i64], us: i64) -> bool
 }
 
 // 23 and 24 of a segment that starts at out, of its first frame's time.
-#[tactic(auto, using(signed::proofs::Bits::back), unfolding(crate::specs::Judge::starts_at, choice::specs::Choice::when))]
-fn starts_at(us: Held, out: i64) -> Result<(), Reason>
+#[tactic(auto, using(signed::proofs::Bits::back), unfolding(crate::specs::Judge::starts_at, conditions::specs::Conditions::when))]
+fn starts_at(us: Option<i64>, out: i64) -> Result<(), Reason>
     ensures { result ≡ starts_at us out }
 {
-    let Held::Is(time) = us else {
+    let Some(time) = us else {
         return Err(Reason::NoFrameTime);
     };
-    if !signed::same(time, out) {
+    if time != out {
         return Err(Reason::OtherFrameTime);
     }
     Ok(())
@@ -181,7 +186,7 @@ fn start_refusal_at<S: Segments>(
 ) -> Result<(), Reason>
     requires even { table.now.uneven ≡ false }
     requires inside { k < length table.now.segments }
-    requires within { (shown_by video starts.now).over ≡ false }
+    requires in_limits { (shown_by video starts.now).over ≡ false }
     ensures { result ≡ start_refusal (shown_by video starts.now) (segment table.now k) }
 {
     let e = table.segment(k);
@@ -196,16 +201,14 @@ fn first_start<S: Segments>(
     starts: &[i64],
 ) -> Result<(), Refusal>
     requires even { table.now.uneven ≡ false }
-    requires within { (shown_by video starts.now).over ≡ false }
+    requires in_limits { (shown_by video starts.now).over ≡ false }
     ensures { result ≡ first_refused (start_refusal (shown_by video starts.now)) 0 table.now.segments }
 {
     let m = table.segment_count();
-    let mut k = 0;
-    while k < m {
+    for k in 0..m {
         if let Err(reason) = start_refusal_at(table, k, video, starts) {
             return Err(reason.at(k));
         }
-        k += 1;
     }
     Ok(())
 }
@@ -219,7 +222,7 @@ fn end_us(stamps: Stamps) -> i64
 }
 
 // 20 to 25 of an accepted table of n frames.
-#[tactic(auto, unfolding(crate::specs::Judge::video_refusal, choice::specs::Choice::when))]
+#[tactic(auto, unfolding(crate::specs::Judge::video_refusal, conditions::specs::Conditions::when))]
 fn video_refusal<S: Segments>(
     table: &SegmentTable<'_, S>,
     n: u64,
@@ -275,7 +278,7 @@ fn recode(reason: Reason) -> Reason
 }
 
 // 20 to 35 of an accepted table of n frames and a recording; the working slices are left as they happen to be.
-#[tactic(auto, unfolding(crate::specs::Judge::recording_refusal, crate::specs::Judge::times_refusal, choice::specs::Choice::when))]
+#[tactic(auto, unfolding(crate::specs::Judge::recording_refusal, crate::specs::Judge::times_refusal, conditions::specs::Conditions::when))]
 fn recording_refusal<S: Segments>(
     table: &SegmentTable<'_, S>,
     n: u64,

@@ -5,12 +5,12 @@ use mathlib.Core.Path.{◌≡◌, ap, ◌∙◌}
 use lib.IntN.{nat_abs}
 use lib.ListN.{length}
 use Rattle.std.specs.Prelude.{Ok}
-use Rattle.choice.specs.Choice.{max_u64}
+use Rattle.conditions.specs.Conditions.{max_u64}
 use Rattle.rules.specs.Records.{Table, segment}
 use Rattle.rules.specs.Rules.{check_of}
 use Rattle.rules.proofs.Accepted.{Accepted, accepted}
 use Rattle.rules.proofs.Search.{frames-ordered, times-ordered}
-use Rattle.lookup.specs.Steps.{Chained, Timed}
+use Rattle.lookup.specs.Searchable.{Chained, Timed}
 
 module _ (t : Table) {N : ℕ} (e : check_of t ≡ Ok N) where
   given : Accepted t N

@@ -1,36 +1,24 @@
 -- Of segments each of which begins where the one before it ends, the last that has begun, or the first, is the one that is looked up: as many have ended as
 -- come before it, or it is the last. So for frames and for times. Assumes nothing.
-use Prim.Native.Nat.{ℕ, zero, suc, ◌+◌, ◌-◌, ◌≤◌, ◌<◌, zero-le, suc-le-suc}
-use native.Mathlib.Nat.{le_of_suc-le-suc, not-suc-le-zero}
+use Prim.Native.Nat.{ℕ, suc, ◌+◌, ◌-◌, ◌≤◌, ◌<◌}
 use native.Mathlib.Omega.{arith}
 use mathlib.Core.Path.{◌≡◌, sym, ap, ◌∙◌}
 use mathlib.Core.Bool.{Bool, true, false}
-use mathlib.Core.List.{List, [], ◌∷◌}
+use mathlib.Core.List.{List}
 use mathlib.Core.Logic.{⊎_elim}
 use lib.Dec.{leb}
 use lib.IntN.{ℤ, pos}
 use lib.ListN.{length}
 use lib.Signed.{le_z, ◌≤ℤ◌}
 use Rattle.std.proofs.lemmas.Int.{ints}
-use Rattle.choice.specs.Choice.{when}
-use Rattle.choice.proofs.Tests.{decide, tf, le-or-lt}
+use Rattle.conditions.proofs.Tests.{decide, tf, le-or-lt}
+use Rattle.slices.proofs.Counts.{count-split}
 use Rattle.rows.specs.Halving.{LastThat}
 use Rattle.rules.specs.declared.Segment.{Segment}
-use Rattle.rules.specs.Records.{Table, nth, segment, out_end}
-use Rattle.rules.specs.Lookups.{count_such, ended, over_by, over_by_us}
-use Rattle.rules.specs.Steps.{Ordered}
-use Rattle.lookup.specs.Steps.{Chained, Timed, start_us, end_us}
-
--- n pass, and then none
-count-split : (p : Segment → Bool) (l : List Segment) (n : ℕ) → n ≤ length l → ((k : ℕ) → k < n → p (nth l k) ≡ true) → ((k : ℕ) → n ≤ k → k < length l → p (nth l k) ≡ false)
-    → count_such p l ≡ n
-unfolding when count_such
-count-split p [] n h y z = omega arith
-count-split p (a ∷ l) zero h y z =
-    rw (z 0 zero-le (suc-le-suc zero-le)) (count-split p l zero zero-le (λ k b. absurd (not-suc-le-zero b)) (λ k b c. z (suc k) zero-le (suc-le-suc c)))
-count-split p (a ∷ l) (suc n) h y z =
-    rw (y 0 (suc-le-suc zero-le))
-    (ap suc (count-split p l n (le_of_suc-le-suc h) (λ k b. y (suc k) (suc-le-suc b)) (λ k b c. z (suc k) (suc-le-suc b) (suc-le-suc c))))
+use Rattle.rules.specs.Records.{Table, no_segment, nth, segment, out_end}
+use Rattle.rules.specs.Lookups.{ended, over_by, over_by_us}
+use Rattle.rules.specs.Walks.{Ordered}
+use Rattle.lookup.specs.Searchable.{Chained, Timed, start_us, end_us}
 
 -- which have begun, and which have ended: one that isn't the first begins as the one before it ends, and those that have ended come first
 pub record InTurn (has : ℕ → Bool) (over : Segment → Bool) (l : List Segment) : Type 0 where
@@ -58,10 +46,10 @@ module _ {has : ℕ → Bool} {over : Segment → Bool} {l : List Segment} (o : 
       ⊎_elim (λ (y : length l ≤ r + 1). omega (arith, h.within))
       (λ (y : r + 1 < length l). tf (sym t ∙ sym (o.next r y) ∙ sym (says (r + 1) false y (h.high y))))
       (le-or-lt (length l) (r + 1)) in
-      let c = count-split over l (length l) (omega arith) (λ k b. o.ended-first k r (omega arith) h.within t) (λ k b d. absurd (omega arith)) in
+      let c = count-split over l no_segment (length l) (omega arith) (λ k b. o.ended-first k r (omega arith) h.within t) (λ k b d. absurd (omega arith)) in
       omega arith)
       (λ f.
-      let c = count-split over l r (omega (arith, h.within)) (before r h.within (λ z. sym (says r true h.within (h.low z)))) (after r f) in
+      let c = count-split over l no_segment r (omega (arith, h.within)) (before r h.within (λ z. sym (says r true h.within (h.low z)))) (after r f) in
       omega (arith, h.within))
 
 module _ {t : Table} where

@@ -1,6 +1,6 @@
 -- The lookups in T of document 01, and which of its segments continue. They are the contract of `worked_examples_hold`.
 use Rattle.std.specs.Prelude.{true, false, List, [], ◌∷◌, ◌++◌, ℤ, pos, neg_ℤ, ℕ, Bool, Result, Ok}
-use Rattle.choice.specs.Worked.{Worked, is, AllRight}
+use Rattle.examples.specs.Worked.{Worked, is, AllRight}
 use Rattle.refusal.specs.declared.Refusal.{Refusal}
 use Rattle.rules.specs.Records.{Table}
 use Rattle.rules.specs.Lookups.{segment_of_frame, segment_of_time, continues_at}

@@ -3,10 +3,10 @@
 #![tactic(auto)]
 
 ghost use Rattle.std.specs.Prelude.{◌≡◌, ◌+◌, ◌≤◌};
-ghost use Rattle.choice.specs.Choice.{max_u64};
+ghost use Rattle.conditions.specs.Conditions.{max_u64};
 ghost use Rattle.rules.specs.Lookups.{ended, over_by, over_by_us, segment_of_frame, segment_of_time, same_shift, segment_runs_on, continues_at};
 ghost use Rattle.table.specs.Layout.{table_of};
-ghost use Rattle.lookup.specs.Steps.{Chained, Timed};
+ghost use Rattle.lookup.specs.Searchable.{Chained, Timed};
 ghost use Rattle.lookup.specs.Examples.{WorkedExamples};
 
 use refusal::Refusal;
@@ -33,7 +33,7 @@ fn index_of_time<S: Segments>(table: &SegmentTable<'_, S>, time: i64) -> usize
     ensures { result ≡ ended (over_by_us time) table.now.segments }
 {
     halving::last_that(table.segment_count(), |k| {
-        signed::at_most(table.segment(k).stamps.outstart, time)
+        table.segment(k).stamps.outstart <= time
     })
 }
 
@@ -41,7 +41,7 @@ fn index_of_time<S: Segments>(table: &SegmentTable<'_, S>, time: i64) -> usize
 fn same_shift(flag: u64, shift: i64, other: u64, second: i64) -> bool
     ensures { result ≡ same_shift flag shift other second }
 {
-    (flag == other) & ((flag == 0) | signed::same(shift, second))
+    (flag == other) & ((flag == 0) | (shift == second))
 }
 
 // Whether segment e continues segment p.

@@ -1,17 +1,16 @@
 -- Words of absent things are ignored by the lookups of a list. Assumes nothing.
 use Prim.Native.Nat.{ℕ}
 use mathlib.Core.Path.{◌≡◌, ◌∙◌, ap}
-use mathlib.Core.List.{List}
+use mathlib.Core.List.{List, map}
 use lib.ListN.{length}
 use lib.Dec.{ltb}
 use Rattle.std.specs.Prelude.{Result, Ok}
 use Rattle.std.specs.Result.{result_and}
-use Rattle.choice.specs.Choice.{when}
+use Rattle.conditions.specs.Conditions.{when}
 use Rattle.refusal.specs.declared.Refusal.{Refusal}
 use Rattle.refusal.specs.declared.Reason.TheVariants as reason
 use Rattle.refusal.specs.Refusals.{refused}
 use Rattle.slices.specs.Slices.{after}
-use Rattle.slices.proofs.Lists.{map_same}
 use Rattle.rules.specs.Records.{Table}
 use Rattle.rules.specs.Absent.{stripped}
 use Rattle.rules.proofs.Ignored.{refusal-stripped, over-stripped, alike}
@@ -19,7 +18,7 @@ use Rattle.lookups.specs.Indices.{indices_of, indices_refusal, Indexing}
 
 indices-stripped : (frames : List ℕ) (t : Table) → indices_of t frames ≡ indices_of (stripped t) frames
 unfolding indices_of
-indices-stripped frames t = map_same _ _ (λ k. over-stripped k t) frames
+indices-stripped frames t = λ i. map (λ k. over-stripped k t i) frames
 
 room-stripped : (n room : ℕ) (t : Table) → indices_refusal t n room ≡ indices_refusal (stripped t) n room
 unfolding indices_refusal

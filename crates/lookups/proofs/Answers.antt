@@ -1,5 +1,6 @@
 -- What the lookups of a list answer, and that each index is the single lookup's. Assumes nothing.
 use Prim.Native.Nat.{ℕ, ◌+◌, ◌≤◌, ◌<◌}
+use Rattle.std.proofs.lemmas.List.{get_or-map}
 use native.Mathlib.Omega.{arith}
 use mathlib.Core.Path.{◌≡◌, sym, ap, ◌∙◌}
 use mathlib.Core.Bool.{Bool}
@@ -9,18 +10,17 @@ use lib.Seq.{drop_at}
 use lib.Dec.{ltb}
 use borrow.Author.Tests.{lt-ltb, le-ltb, ltb-false}
 use Rattle.std.specs.Prelude.{Result, Ok, Err}
-use Rattle.choice.specs.Choice.{when}
+use Rattle.conditions.specs.Conditions.{when}
 use Rattle.refusal.specs.declared.Refusal.{Refusal}
 use Rattle.refusal.specs.declared.Reason.TheVariants as reason
 use Rattle.refusal.specs.Refusals.{refused}
 use Rattle.refusal.proofs.Chains.{when-ok, and-ok, ok-of, err-of}
 use Rattle.slices.specs.Slices.{laid, after}
-use Rattle.slices.proofs.Lists.{map_at}
 use Rattle.rules.specs.Records.{Table}
 use Rattle.rules.specs.Rules.{refusal, check_of}
 use Rattle.rules.specs.Lookups.{segment_of_frame}
 use Rattle.rules.proofs.Answers.{check-first, then-rest}
-use Rattle.lookups.specs.Steps.{index_in}
+use Rattle.lookups.specs.Pieces.{index_in}
 use Rattle.lookups.specs.Indices.{indices_of, indices_refusal, Indexing}
 
 -- ---- the refusal
@@ -92,7 +92,7 @@ module _ (t : Table) (frames out : List ℕ) where
     each_index k h =
         let i = indices_of t frames in
         rw accepted.0 (ap Ok
-        (ap (λ (l : List ℕ). get_or l k 0) over ∙ get_or-append i (drop (length i) out) 0 k (omega (arith, many)) ∙ map_at _ frames k 0 0 h))
+        (ap (λ (l : List ℕ). get_or l k 0) over ∙ get_or-append i (drop (length i) out) 0 k (omega (arith, many)) ∙ get_or-map _ frames k 0 0 h))
 
   -- a refusal leaves all as lent
   pub all-kept : {why : Refusal} {out' : List ℕ} → Indexing t frames out (Err why) out' → out' ≡ out

@@ -1,20 +1,20 @@
 -- The frames of a piece lie in its segment. Assumes nothing.
 use Prim.Native.Nat.{ℕ, ◌+◌, ◌≤◌, ◌<◌}
+use Rattle.std.proofs.lemmas.Bool.{and_parts}
 use native.Mathlib.Omega.{arith}
 use mathlib.Core.Path.{◌≡◌, sym}
 use mathlib.Core.Bool.{true, ◌&&◌}
 use lib.Dec.{leb, ltb}
 use lib.ListN.{length}
 use borrow.Author.Tests.{ne_eqb, le-leb, lt-leb, leb-true, ltb-true}
-use Rattle.choice.specs.Choice.{when}
-use Rattle.choice.proofs.Tests.{and_left, and_right}
+use Rattle.conditions.specs.Conditions.{when}
 use Rattle.rows.specs.Halving.{LastThat}
 use Rattle.rules.specs.Lookups.{ended}
 use Rattle.rules.specs.Records.{Table, segment}
-use Rattle.lookup.specs.Steps.{Chained}
+use Rattle.lookup.specs.Searchable.{Chained}
 use Rattle.lookup.proofs.Last.{last-ended, frames-in-turn}
 use Rattle.lookups.specs.declared.Piece.{Piece}
-use Rattle.lookups.specs.Steps.{index_in, piece_end, piece_at, Covers}
+use Rattle.lookups.specs.Pieces.{index_in, piece_end, piece_at, Covers}
 
 module _ (t : Table) (s : Chained t) where
   module _ (k : ℕ) (h : k < length t.segments) (frame : ℕ) (from : (segment t k).words.out ≤ frame) (before : frame < piece_end t k) where
@@ -42,4 +42,4 @@ pub hit : (t : Table) (p : Piece) (frame : ℕ) → Covers t p → leb p.from fr
 hit t p frame c e =
     let a = leb p.from frame in
     let b = ltb frame p.end in
-    sym (c.each frame (leb-true _ _ (and_left a b e)) (ltb-true _ _ (and_right a b e)))
+    sym (c.each frame (leb-true _ _ (and_parts a b e).0) (ltb-true _ _ (and_parts a b e).1))

@@ -1,7 +1,7 @@
 -- The segment of each frame of a list (document 02, a), and what `segments_of_frames` answers and leaves in the lent room.
 use Rattle.std.specs.Prelude.{ℕ, List, map, ◌≡◌, length, ltb, Result, Ok}
 use Rattle.std.specs.Result.{result_and}
-use Rattle.choice.specs.Choice.{when}
+use Rattle.conditions.specs.Conditions.{when}
 use Rattle.refusal.specs.declared.Refusal.{Refusal}
 use Rattle.refusal.specs.declared.Reason.TheVariants as reason
 use Rattle.refusal.specs.Refusals.{refused}

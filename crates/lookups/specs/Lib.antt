@@ -1,2 +1,2 @@
 pub mod Indices
-pub mod Steps
+pub mod Pieces

@@ -5,11 +5,10 @@
 ghost use Rattle.std.specs.Prelude.{◌≡◌, ◌&&◌, map, ◌≤◌, ◌<◌, leb, ltb, length};
 ghost use Rattle.slices.specs.Slices.{laid};
 ghost use Rattle.table.specs.Layout.{table_of};
-ghost use Rattle.lookup.specs.Steps.{Chained};
+ghost use Rattle.lookup.specs.Searchable.{Chained};
 ghost use Rattle.lookups.specs.Indices.{Indexing};
-ghost use Rattle.lookups.specs.Steps.{index_in, piece_end, piece_at, Covers};
+ghost use Rattle.lookups.specs.Pieces.{index_in, piece_end, piece_at, Covers};
 
-use choice::MAX_U64;
 use refusal::{Reason, Refusal};
 use table::layout::Segments;
 use table::{SegmentTable, Tabled};
@@ -23,7 +22,7 @@ pub struct Piece {
 }
 
 // Where the frames of segment k end. All frames past the table go to the last segment.
-#[tactic(auto, unfolding(choice::specs::Choice::when))]
+#[tactic(auto, unfolding(conditions::specs::Conditions::when))]
 fn piece_end<S: Segments>(table: &SegmentTable<'_, S>, k: usize) -> u64
     requires chained { Chained table.now }
     requires inside { k < length table.now.segments }
@@ -31,7 +30,7 @@ fn piece_end<S: Segments>(table: &SegmentTable<'_, S>, k: usize) -> u64
 {
     let m = table.segment_count();
     if k + 1 == m {
-        return MAX_U64;
+        return u64::MAX;
     }
     table.segment(k + 1).words.out
 }
@@ -91,11 +90,9 @@ fn write_indices<S: Segments>(table: &SegmentTable<'_, S>, frames: &[u64], out: 
     ensures { out.new ≡ laid (map (index_in table.now) frames.now) out.old }
 {
     let mut p = piece_at(table, 0);
-    let mut k = 0;
-    while k < frames.len() {
+    for k in 0..frames.len() {
         p = piece_of(table, frames[k], p);
         out[k] = p.index as u64;
-        k += 1;
     }
 }
 

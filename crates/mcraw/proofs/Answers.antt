@@ -1,5 +1,7 @@
 -- The answers to the test of the end, and what an answer with times says of the tests. Assumes nothing.
 use mathlib.Core.Path.{◌≡◌}
+use Rattle.std.proofs.lemmas.Bool.{or_parts}
+use Rattle.std.specs.Ordering.{int_eq}
 use mathlib.Core.Bool.{true, false, ◌||◌}
 use mathlib.Core.List.{List}
 use Prim.Native.Nat.{ℕ, ◌≤◌}
@@ -8,20 +10,19 @@ use lib.Dec.{ltb}
 use lib.IntN.{ℤ, pos}
 use lib.ListN.{length}
 use Rattle.std.specs.Prelude.{Ok}
-use Rattle.choice.specs.Choice.{when}
-use Rattle.choice.proofs.Tests.{or-false}
+use Rattle.conditions.specs.Conditions.{when}
 use Rattle.refusal.specs.declared.Reason.TheVariants as reason
 use Rattle.refusal.specs.Refusals.{refused}
 use Rattle.refusal.proofs.Chains.{when-ok, and-ok, ok-of}
-use Rattle.signed.specs.Signed.{eq_z, is_outside}
-use Rattle.signed.specs.Steps.{I64}
+use Rattle.signed.specs.Signed.{is_outside}
+use Rattle.signed.specs.Fits.{I64}
+use Rattle.signed.proofs.Ranges.{inside}
 use Rattle.ticks.specs.declared.FrameTimes.{FrameTimes}
 use Rattle.mcraw.specs.Mcraw.{most_timestamps, span, nominal, end, fall_of, refusal_of, times_of, mcraw_times}
-use Rattle.mcraw.proofs.Holds.{inside}
 
 -- the tests before the end's, none of which held
 module _ (ts : List ℤ) (s w : ℕ) (few : length ts ≤ most_timestamps) (two : 2 ≤ length ts) (rise : fall_of ts ≡ Ok tt) (near : is_outside (span ts) ≡ false)
-    (room : ltb s (length ts) || ltb w (length ts) ≡ false) (moves : eq_z (nominal ts) (pos 0) ≡ false)
+    (room : ltb s (length ts) || ltb w (length ts) ≡ false) (moves : int_eq (nominal ts) (pos 0) ≡ false)
   where
     pub late : is_outside (end ts) ≡ true → refused reason.Outside 0 ≡ mcraw_times ts s w
     unfolding mcraw_times refusal_of when
@@ -50,6 +51,6 @@ accepted ts s w times h =
     record {
       rise = falls.0;
       near = inside (span ts) far.0;
-      room = ltb-false s (length ts) (or-false (ltb s (length ts)) (ltb w (length ts)) tight.0).0;
+      room = ltb-false s (length ts) (or_parts (ltb s (length ts)) (ltb w (length ts)) tight.0).0;
       is = r.1;
     }

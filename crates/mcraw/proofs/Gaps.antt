@@ -13,12 +13,12 @@ use lib.ListN.{length, get_or, drop, drop_of_length-le}
 use lib.Seq.{drop-cons}
 use lib.Signed.{le_z, lt_z}
 use Rattle.std.specs.Prelude.{Result, Ok}
-use Rattle.choice.specs.Choice.{when}
+use Rattle.conditions.specs.Conditions.{when}
 use Rattle.refusal.specs.declared.Reason.TheVariants as reason
 use Rattle.refusal.specs.declared.Refusal.{Refusal}
 use Rattle.refusal.specs.Refusals.{refused, first_refused}
-use Rattle.choice.proofs.Tests.{decide}
-use Rattle.signed.specs.Steps.{I64}
+use Rattle.conditions.proofs.Tests.{decide}
+use Rattle.signed.specs.Fits.{I64}
 use Rattle.signed.proofs.Bits.{read, lt-read}
 use Rattle.signed.proofs.Order.{not-lt-le}
 use Rattle.order.specs.Order.{Asc}

@@ -1,5 +1,7 @@
 -- Timestamps that ascend, and whose span an i64 holds: so it holds every interval and every start. Over ℤ, whatever the timestamps. Assumes nothing.
 use mathlib.Core.Path.{◌≡◌, refl, sym, ap, ◌∙◌, subst}
+use Rattle.std.proofs.lemmas.List.{get_or-map}
+use Rattle.std.specs.List.{AllByRecursion}
 use mathlib.Core.Bool.{true, false}
 use mathlib.Core.List.{List}
 use Prim.Native.Nat.{ℕ, ◌+◌, ◌-◌, ◌≤◌, ◌<◌, ◌^◌}
@@ -7,12 +9,10 @@ use native.Mathlib.Omega.{arith}
 use lib.IntN.{ℤ, pos, negsuc, neg_ℤ, nat_abs, ◌+ℤ◌, ◌-ℤ◌, +ℤ_assoc, -ℤ-+ℤ_cancel}
 use lib.ListN.{length, get_or, length-map}
 use lib.Signed.{le_z, lt_z}
-use Rattle.signed.specs.Steps.{I64}
-use Rattle.choice.proofs.Tests.{decide, tf}
+use Rattle.signed.specs.Fits.{I64}
+use Rattle.conditions.proofs.Tests.{decide, tf}
 use Rattle.signed.proofs.Order.{lt_not_le}
-use Rattle.slices.specs.Slices.{All}
 use Rattle.slices.proofs.Every.{all-at, all_of}
-use Rattle.slices.proofs.Lists.{map_at}
 use Rattle.order.specs.Order.{Asc}
 use Rattle.order.proofs.Sorted.{asc-le}
 use Rattle.mcraw.specs.Mcraw.{gaps, first, last, starts_of, span}
@@ -50,9 +50,9 @@ length-starts ts = length-map ts (λ t. t -ℤ first ts)
 
 pub start-at : (ts : List ℤ) (i : ℕ) → i < length ts → get_or (starts_of ts) i (pos 0) ≡ get_or ts i (pos 0) -ℤ first ts
 unfolding starts_of
-start-at ts i h = map_at (λ t. t -ℤ first ts) ts i (pos 0) (pos 0) h
+start-at ts i h = get_or-map (λ t. t -ℤ first ts) ts i (pos 0) (pos 0) h
 
-pub start_fits : (ts : List ℤ) (i : ℕ) → i < length ts → All I64 (starts_of ts) → I64 (get_or ts i (pos 0) -ℤ first ts)
+pub start_fits : (ts : List ℤ) (i : ℕ) → i < length ts → AllByRecursion I64 (starts_of ts) → I64 (get_or ts i (pos 0) -ℤ first ts)
 start_fits ts i h all = rw (start-at ts i h) at (all-at I64 (starts_of ts) i (pos 0) all (omega (arith, length-starts ts)))
 
 module _ (ts : List ℤ) (asc : Asc ts) (h : I64 (span ts)) where
@@ -63,14 +63,14 @@ module _ (ts : List ℤ) (asc : Asc ts) (h : I64 (span ts)) where
       inner (first ts) (get_or ts i (pos 0)) (get_or ts j (pos 0)) (last ts)
       (asc-le ts 0 i (pos 0) asc (omega arith) (omega arith)) (asc-le ts i j (pos 0) asc le b) (asc-le ts j (length ts - 1) (pos 0) asc (omega arith) (omega arith)) h
 
-  pub gaps-fit : All I64 (gaps ts)
+  pub gaps-fit : AllByRecursion I64 (gaps ts)
   gaps-fit = all_of I64 (gaps ts) (pos 0) (λ k b.
       let n = length-gaps ts in
       let e : k + 1 - 1 ≡ k = omega arith in
       let g : get_or (gaps ts) k (pos 0) ≡ get_or ts (k + 1) (pos 0) -ℤ get_or ts k (pos 0) = rw e at (gap_at ts (k + 1) (omega arith) (omega arith)) in
       rw g (between k (k + 1) (omega arith) (omega arith)))
 
-  pub starts_fit : All I64 (starts_of ts)
+  pub starts_fit : AllByRecursion I64 (starts_of ts)
   starts_fit = all_of I64 (starts_of ts) (pos 0) (λ k b.
       let n = length-starts ts in
       let inside : k < length ts = omega arith in

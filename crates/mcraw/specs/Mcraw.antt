@@ -1,13 +1,14 @@
 -- The frame times of a MotionCam recording, of its frames' timestamps in nanoseconds (document 01, "mcraw").
 use Rattle.std.specs.Prelude.{ℕ, ◌-◌, ◌/◌, ◌≡◌, ◌||◌, List, [], ◌∷◌, map, ltb, ℤ, pos, ◌+ℤ◌, ◌-ℤ◌, length, get_or, Result, Ok, Err}
+use Rattle.std.specs.Ordering.{int_eq}
 use Rattle.std.specs.Result.{result_and}
 use Rattle.std.specs.Int.Signed.{lt_z}
 use Rattle.refusal.specs.declared.Reason.{Reason}
 use Rattle.refusal.specs.declared.Reason.TheVariants as reason
 use Rattle.refusal.specs.declared.Refusal.{Refusal}
 use Rattle.refusal.specs.Refusals.{refused, first_refused}
-use Rattle.choice.specs.Choice.{when}
-use Rattle.signed.specs.Signed.{eq_z, is_outside}
+use Rattle.conditions.specs.Conditions.{when}
+use Rattle.signed.specs.Signed.{is_outside}
 use Rattle.slices.specs.Slices.{laid, zeros}
 use Rattle.order.specs.Order.{sorted}
 use Rattle.ticks.specs.declared.FrameTimes.{FrameTimes}
@@ -61,7 +62,7 @@ refusal_of ts starts work =
     (result_and (fall_of ts)
     (when (is_outside (span ts)) (refused reason.Outside 0)
     (when (ltb starts (length ts) || ltb work (length ts)) (refused reason.NoRoom 0)
-    (when (eq_z (nominal ts) (pos 0)) (refused reason.Missing 0)
+    (when (int_eq (nominal ts) (pos 0)) (refused reason.Missing 0)
     (when (is_outside (end ts)) (refused reason.Outside 0)
     (Ok tt)))))))
 

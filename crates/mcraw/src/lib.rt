@@ -2,13 +2,13 @@
 #![tactic(auto)]
 
 ghost use Rattle.std.specs.Prelude.{◌≡◌, ◌-◌, ◌≤◌, length};
-ghost use Rattle.signed.specs.Steps.{I64};
-ghost use Rattle.slices.specs.Slices.{laid, All};
+ghost use Rattle.std.specs.List.{AllByRecursion};
+ghost use Rattle.signed.specs.Fits.{I64};
+ghost use Rattle.slices.specs.Slices.{laid};
 ghost use Rattle.mcraw.specs.Mcraw.{gaps, starts_of, nominal, fall_of, mcraw_times, starts_written, McrawAnswers};
 ghost use Rattle.mcraw.specs.Examples.{WorkedExamples};
 
 use refusal::{Reason, Refusal};
-use signed::Held;
 use ticks::FrameTimes;
 
 // The most timestamps, and the timescale of a recording.
@@ -31,7 +31,7 @@ fn first_fall(ts: &[i64]) -> Result<(), Refusal>
 
 // Writes each timestamp less the one before it.
 fn write_intervals(ts: &[i64], out: &mut [i64])
-    requires { (length out.old ≡ length ts.now - 1) × All I64 (gaps ts.now) }
+    requires { (length out.old ≡ length ts.now - 1) × AllByRecursion I64 (gaps ts.now) }
     ensures { out.new ≡ gaps ts.now }
 {
     for i in 1..ts.len() {
@@ -42,7 +42,7 @@ fn write_intervals(ts: &[i64], out: &mut [i64])
 // The lower middle one of the intervals, which are moved about in out.
 #[tactic(auto, using(signed::proofs::Bits::back), unfolding(crate::specs::Mcraw::nominal))]
 fn middle_interval(ts: &[i64], out: &mut [i64]) -> i64
-    requires { (2 ≤ length ts.now) × (length out.old ≡ length ts.now - 1) × All I64 (gaps ts.now) }
+    requires { (2 ≤ length ts.now) × (length out.old ≡ length ts.now - 1) × AllByRecursion I64 (gaps ts.now) }
     ensures { result ≡ nominal ts.now }
 {
     write_intervals(ts, out);
@@ -51,7 +51,7 @@ fn middle_interval(ts: &[i64], out: &mut [i64]) -> i64
 
 // Writes each timestamp less the first over the start of starts.
 fn write_starts(ts: &[i64], starts: &mut [i64])
-    requires { (length ts.now ≤ length starts.old) × All I64 (starts_of ts.now) }
+    requires { (length ts.now ≤ length starts.old) × AllByRecursion I64 (starts_of ts.now) }
     ensures { starts.new ≡ laid (starts_of ts.now) starts.old }
 {
     for i in 0..ts.len() {
@@ -60,7 +60,7 @@ fn write_starts(ts: &[i64], starts: &mut [i64])
 }
 
 // Answers with so much room in starts. What work holds afterwards isn't said.
-#[tactic(auto, unfolding(crate::specs::Mcraw::mcraw_times, crate::specs::Mcraw::refusal_of, crate::specs::Mcraw::times_of, crate::specs::Mcraw::span, crate::specs::Mcraw::end, choice::specs::Choice::when))]
+#[tactic(auto, unfolding(crate::specs::Mcraw::mcraw_times, crate::specs::Mcraw::refusal_of, crate::specs::Mcraw::times_of, crate::specs::Mcraw::span, crate::specs::Mcraw::end, conditions::specs::Conditions::when))]
 fn times_of(ts: &[i64], room: usize, work: &mut [i64]) -> Result<FrameTimes, Refusal>
     ensures { result ≡ mcraw_times ts.now room (length work.old) }
 {
@@ -72,7 +72,7 @@ fn times_of(ts: &[i64], room: usize, work: &mut [i64]) -> Result<FrameTimes, Ref
         return Err(Reason::Missing.at(0));
     }
     first_fall(ts)?;
-    let Held::Is(span) = signed::difference(ts[n - 1], ts[0]) else {
+    let Some(span) = ts[n - 1].checked_sub(ts[0]) else {
         return Err(Reason::Outside.at(0));
     };
     if (room < n) | (work.len() < n) {
@@ -82,7 +82,7 @@ fn times_of(ts: &[i64], room: usize, work: &mut [i64]) -> Result<FrameTimes, Ref
     if nominal == 0 {
         return Err(Reason::Missing.at(0));
     }
-    let Held::Is(end) = signed::sum(span, nominal) else {
+    let Some(end) = span.checked_add(nominal) else {
         return Err(Reason::Outside.at(0));
     };
     Ok(FrameTimes {
@@ -118,7 +118,7 @@ pub fn mcraw_times(
 }
 
 // The definitions give the numbers of specs/Examples.antt.
-#[tactic(auto, unfolding(crate::specs::Mcraw::mcraw_times, crate::specs::Mcraw::refusal_of, crate::specs::Mcraw::times_of, crate::specs::Mcraw::fall_of, crate::specs::Mcraw::gaps, crate::specs::Mcraw::span, crate::specs::Mcraw::nominal, crate::specs::Mcraw::end, crate::specs::Mcraw::starts_of, crate::specs::Mcraw::starts_written, choice::specs::Choice::when, refusal::specs::Refusals::first_refused, order::specs::Order::sorted, order::specs::Order::insert))]
+#[tactic(auto, unfolding(crate::specs::Mcraw::mcraw_times, crate::specs::Mcraw::refusal_of, crate::specs::Mcraw::times_of, crate::specs::Mcraw::fall_of, crate::specs::Mcraw::gaps, crate::specs::Mcraw::span, crate::specs::Mcraw::nominal, crate::specs::Mcraw::end, crate::specs::Mcraw::starts_of, crate::specs::Mcraw::starts_written, conditions::specs::Conditions::when, refusal::specs::Refusals::first_refused, order::specs::Order::sorted, order::specs::Order::insert))]
 pub fn worked_examples_hold()
     ensures { WorkedExamples }
 {}

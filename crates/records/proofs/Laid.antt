@@ -1,12 +1,12 @@
 -- The words of a list of records, read as a table, have one segment a record. Assumes nothing.
-use Rattle.std.proofs.Common.{◌≡◌, ℕ, zero, suc, ◌*◌, ◌/◌, ◌%◌, Bool, false, List, map, [], ◌∷◌, length, refl, ap, ◌∙◌, arith, eq-eqb}
-use native.Mathlib.Numerals.{unary_clauses}
-use Rattle.choice.specs.Records.{run}
+use Rattle.std.proofs.Common.{◌+◌, ◌≡◌, ℕ, zero, suc, ◌*◌, ◌/◌, ◌%◌, Bool, false, List, map, [], ◌∷◌, length, refl, ap, ◌∙◌, arith, eq-eqb}
+use Rattle.slices.proofs.Ranges.{run}
+use native.Mathlib.Numerals.{add-one, unary_clauses}
 use Rattle.rules.specs.declared.Segment.{Segment}
 use Rattle.table.specs.Layout.{segment_at, segments_of, uneven_rows, table_with, table_of}
 use Rattle.records.specs.declared.TrimSegment.{TrimSegment}
 use Rattle.records.specs.Records.{all_unsigned, all_signed}
-use Rattle.records.specs.Steps.{segment_of}
+use Rattle.records.specs.Segments.{segment_of}
 
 -- segment k of the words
 abbrev at : List TrimSegment → ℕ → Segment
@@ -33,20 +33,19 @@ even rs =
 -- ---- words read back
 module _ (r : TrimSegment) (rs : List TrimSegment) where
   -- behind the first segment are those of the other records
-  next : (k : ℕ) → at (r ∷ rs) (suc k) ≡ at rs k
+  next : (k : ℕ) → at (r ∷ rs) (k + 1) ≡ at rs k
   unfolding all_unsigned all_signed
   next k =
       let u : suc k * 5 ≡ suc (suc (suc (suc (suc (k * 5))))) = omega arith in
       let t : suc k * 7 ≡ suc (suc (suc (suc (suc (suc (suc (k * 7))))))) = omega arith in
-      rw (u, t) (simp unary_clauses)
+      rw (add-one, u, t) (simp unary_clauses)
 
-  run-next : (i n : ℕ) → run (at (r ∷ rs)) (suc i) n ≡ run (at rs) i n
-  unfolding run
+  run-next : (i n : ℕ) → run (at (r ∷ rs)) (i + 1) n ≡ run (at rs) i n
   run-next i zero = refl
-  run-next i (suc n) = λ j. next i j ∷ run-next (suc i) n j
+  run-next i (suc n) = λ j. next i j ∷ run-next (i + 1) n j
 
 run-all : (rs : List TrimSegment) → run (at rs) 0 (length rs) ≡ map segment_of rs
-unfolding run all_unsigned all_signed
+unfolding all_unsigned all_signed
 run-all [] = refl
 run-all (r ∷ rs) = ap (λ l. segment_of r ∷ l) (run-next r rs 0 (length rs) ∙ run-all rs)
 

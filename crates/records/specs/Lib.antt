@@ -1,2 +1,2 @@
 pub mod Records
-pub mod Steps
+pub mod Segments

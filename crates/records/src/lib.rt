@@ -4,7 +4,7 @@
 ghost use Rattle.std.specs.Prelude.{◌≡◌, false, map, if◌then◌else◌};
 ghost use Rattle.table.specs.Layout.{table_of};
 ghost use Rattle.records.specs.Records.{all_unsigned, all_signed, locate};
-ghost use Rattle.records.specs.Steps.{segment_of};
+ghost use Rattle.records.specs.Segments.{segment_of};
 
 use lookup::Lookups;
 use refusal::Refusal;

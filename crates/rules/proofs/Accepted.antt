@@ -1,5 +1,7 @@
 -- What an accepted table gives, whatever its layout: `accepted`. Read off the paper's conditions, none of which holds. Assumes nothing.
 use Prim.Native.Nat.{ℕ, zero, suc, ◌+◌, ◌-◌, ◌≤◌, ◌<◌, zero-le, suc-le-suc}
+use Rattle.std.proofs.lemmas.Bool.Decides.{Decides-int_eq}
+use Rattle.std.specs.Ordering.{int_eq}
 use native.Mathlib.Nat.{le_of_suc-le-suc, not-suc-le-zero, add-zero, zero-add}
 use native.Mathlib.Omega.{arith}
 use mathlib.Core.Path.{◌≡◌, refl, sym, ap, ◌∙◌, subst}
@@ -12,10 +14,8 @@ use lib.IntN.{ℤ, pos, negsuc, nat_abs, ◌+ℤ◌}
 use lib.Signed.{◌<ℤ◌, ◌≤ℤ◌}
 use Rattle.std.specs.Prelude.{Ok}
 use borrow.Author.Tests.{ltb-false, leb-false}
-use Rattle.choice.specs.Choice.{max_u64}
-use Rattle.choice.proofs.Tests.{decide, tf}
-use Rattle.signed.specs.Signed.{eq_z}
-use Rattle.signed.proofs.Order.{eq_z-true, eq_z-yes}
+use Rattle.conditions.specs.Conditions.{max_u64}
+use Rattle.conditions.proofs.Tests.{decide, tf}
 use Rattle.utc.specs.Utc.{utc_second}
 use Rattle.rules.specs.declared.Source.{Source}
 use Rattle.rules.specs.Limits.{max_sources, max_segments, max_i64}
@@ -101,13 +101,13 @@ holds : {b : Bool} {C : Type 0} → Says b C → ((C → ⊥) → ⊥) → C
 holds {b} {C} s f = decide b s.holds (λ e. absurd (f (s.fails e)))
 
 same : (a b : ℤ) → ((a ≡ b → ⊥) → ⊥) → a ≡ b
-same a b f = decide (eq_z a b) (eq_z-true a b) (λ e. absurd (f (λ q. tf (sym (eq_z-yes q) ∙ e))))
+same a b f = decide (int_eq a b) (Decides-int_eq a b).0 (λ e. absurd (f (λ q. tf (sym ((Decides-int_eq a b).1 q) ∙ e))))
 
-within : (m n : ℕ) → ((pos m <ℤ pos n) → ⊥) → n ≤ m
-within m n f = decide (ltb m n) (λ e. absurd (f ((below (pos m) (pos n)).holds e))) (ltb-false m n)
+not_above : (m n : ℕ) → ((pos m <ℤ pos n) → ⊥) → n ≤ m
+not_above m n f = decide (ltb m n) (λ e. absurd (f ((below (pos m) (pos n)).holds e))) (ltb-false m n)
 
 timely : (a b : ℤ) → ((a <ℤ pos 0) → ⊥) → ((b <ℤ pos 0) → ⊥) → ((pos max_i64 <ℤ (a +ℤ b)) → ⊥) → Timely a b
-timely (pos m) (pos n) p q r = record { start = refl; duration = refl; sum = refl; fits = within max_i64 (m + n) r }
+timely (pos m) (pos n) p q r = record { start = refl; duration = refl; sum = refl; fits = not_above max_i64 (m + n) r }
 timely (pos m) (negsuc n) p q r = absurd (q (record { lt = tt }))
 timely (negsuc m) b p q r = absurd (p (record { lt = tt }))
 

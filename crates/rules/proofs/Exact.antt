@@ -1,5 +1,8 @@
 -- A check answers what the paper says: it refuses with the first condition that holds, in testing order, and accepts where none does. Assumes nothing.
 use Prim.Native.Nat.{ℕ, zero, suc, ◌+◌}
+use Rattle.std.proofs.lemmas.Bool.{or_parts}
+use native.Mathlib.Numerals.{add-one}
+use Rattle.slices.proofs.Ranges.{run}
 use native.Mathlib.Nat.{add-zero, zero-add}
 use native.Mathlib.Omega.{arith}
 use mathlib.Core.Path.{◌≡◌, refl, sym, ap, ◌∙◌, subst}
@@ -10,9 +13,8 @@ use lib.Dec.{eqb}
 use lib.IntN.{ℤ, pos, nat_abs}
 use lib.Signed.{◌<ℤ◌}
 use Rattle.std.specs.Prelude.{Ok}
-use Rattle.choice.specs.Records.{run}
-use Rattle.choice.specs.Choice.{max_u64}
-use Rattle.choice.proofs.Tests.{tf, or-false}
+use Rattle.conditions.specs.Conditions.{max_u64}
+use Rattle.conditions.proofs.Tests.{tf}
 use Rattle.refusal.specs.declared.Reason.TheVariants as reason
 use Rattle.utc.specs.Utc.{utc_second}
 use Rattle.rules.specs.declared.Ends.{Ends}
@@ -28,12 +30,11 @@ use Rattle.rules.proofs.Says.{Says, is, isnt, equal, less, most, passes, either,
 
 -- a list is the run of its records
 pub as-run : {A : Type 0} (d : A) (l : List A) → run (λ k. get_or l k d) 0 (length l) ≡ l
-unfolding run
 as-run {A} d l = go l 0 (λ k. get_or l k d) (λ k. ap (λ (j : ℕ). get_or l j d) (zero-add k))
   where
     go : (m : List A) (i : ℕ) (f : ℕ → A) → ((k : ℕ) → f (i + k) ≡ get_or m k d) → run f i (length m) ≡ m
     go [] i f q = refl
-    go (a ∷ m) i f q = λ j. head j ∷ go m (suc i) f (λ k. ap f (omega arith) ∙ q (suc k)) j
+    go (a ∷ m) i f q = λ j. head j ∷ go m (i + 1) f (λ k. ap f (omega arith) ∙ q (suc k)) j
       where
         head : f i ≡ a
         head = ap f (sym (add-zero i)) ∙ q 0
@@ -71,11 +72,11 @@ negatives e =
 positive : (e : Segment) → (stamp_times e.stamps).negative ≡ false → Positive e
 unfolding stamp_times
 positive e q =
-    let a = or-false _ _ q in
-    let b = or-false _ _ a.0 in
-    let x = or-false _ _ b.0 in
-    let y = or-false _ _ b.1 in
-    let z = or-false _ _ a.1 in
+    let a = or_parts _ _ q in
+    let b = or_parts _ _ a.0 in
+    let x = or_parts _ _ b.0 in
+    let y = or_parts _ _ b.1 in
+    let z = or_parts _ _ a.1 in
     record { srcstart = x.0; outstart = x.1; duration = y.0; srccap = y.1; outcap = z.0; capdur = z.1 }
 
 untrue : (b : Bool) {C : Type 0} → Says b C → (C → ⊥) → b ≡ false
@@ -124,11 +125,11 @@ segment-finds t k prev v =
     λ _. tt
 
 segments-agree : (t : Table) (m i : ℕ) (prev : Ends) → Prev t i prev → Agrees (segments_from t.sources i prev (run (segment t) i m)) (each (of_segment t) i m)
-unfolding segments_from run Agrees Prev
+unfolding segments_from Agrees Prev
 segments-agree t zero i prev p = tt
 segments-agree t (suc m) i prev p =
-    record-first (segment_refusal t.sources prev (segment t i)) i _ (of_segment t i) (each (of_segment t) (suc i) m) (segment-finds t i prev p)
-    (λ z. segments-agree t m (suc i) (ends (segment t i)) (refl, positive (segment t i) (judged-fit _ _ _ _ (not-refused _ _ _ z).1).positive))
+    rw add-one (record-first (segment_refusal t.sources prev (segment t i)) i _ (of_segment t i) (each (of_segment t) (suc i) m) (segment-finds t i prev p)
+    (λ z. segments-agree t m (suc i) (ends (segment t i)) (refl, positive (segment t i) (judged-fit _ _ _ _ (not-refused _ _ _ z).1).positive)))
 
 -- ---- the whole
 malformed-says : (t : Table) → Says (malformed t) (Malformed t)

@@ -1,5 +1,6 @@
 -- Tests of sources and segments that nothing refuses. Assumes nothing.
 use Prim.Native.Nat.{ℕ, ◌+◌, ◌^◌, ◌≤◌, ◌<◌}
+use Rattle.std.proofs.lemmas.Bool.{or_parts}
 use native.Mathlib.Omega.{arith}
 use mathlib.Core.Path.{◌≡◌, sym, ap, ◌∙◌}
 use mathlib.Core.Bool.{Bool, true, false, not, ◌||◌, ◌&&◌}
@@ -11,9 +12,9 @@ use mir.Syntax.{w64}
 use mir.Val.{SFits}
 use Rattle.std.specs.Prelude.{Ok}
 use borrow.Author.Tests.{eq-eqb, ne_eqb, eqb-true, eqb-false, ltb-false, leb-false, not-true, not-false}
-use Rattle.choice.specs.Choice.{past, max_u64, when}
-use Rattle.choice.proofs.Tests.{tf, or-false}
-use Rattle.choice.proofs.Sums.{not-past, past-not}
+use Rattle.conditions.specs.Conditions.{past, max_u64, when}
+use Rattle.conditions.proofs.Tests.{tf}
+use Rattle.conditions.proofs.Sums.{not-past, past-not}
 use Rattle.refusal.specs.Refusals.{first_refused}
 use Rattle.rules.specs.declared.Source.{Source}
 use Rattle.rules.specs.declared.Words.{Words}
@@ -21,7 +22,7 @@ use Rattle.rules.specs.declared.Ends.{Ends}
 use Rattle.rules.specs.Limits.{max_i64}
 use Rattle.rules.specs.declared.Stamps.{Stamps}
 use Rattle.rules.specs.Rules.{bad_source, source_refusal, over_limit, front_refusal, negative, stamp_times, start, ends_of}
-use Rattle.rules.specs.Steps.{FineFrames, FineShift, out_of_time, Passes, Passing, FineSource}
+use Rattle.rules.specs.Walks.{FineFrames, FineShift, out_of_time, Passes, Passing, FineSource}
 use Rattle.rules.proofs.Turns.{judged-fine, Tested, judged-tested}
 
 pub fine-frames : (frames first count out before : ℕ) → (count ≡ 0 → ⊥) → out ≡ before → out + count ≤ max_u64 → first + count ≤ max_u64 → first + count ≤ frames
@@ -34,53 +35,12 @@ fine-frames frames first count out before a b c d e = record {
 }
 
 pub frames-fit : {frames first count out before : ℕ} → FineFrames frames first count out before → out + count ≤ max_u64
-frames-fit {frames} {first} {count} {out} f = past-not out count max_u64 (or-false (past out count max_u64) (past first count max_u64) f.fits).0
+frames-fit {frames} {first} {count} {out} f = past-not out count max_u64 (or_parts (past out count max_u64) (past first count max_u64) f.fits).0
 
--- what each of the tests would find, where one doesn't hold
+-- what one of the tests would find, where it doesn't hold
 module _ {frames first count out before : ℕ} (f : FineFrames frames first count out before) where
-  pub some-frames : count ≡ 0 → ⊥
-  some-frames e = tf (sym (eq-eqb count 0 e) ∙ f.some)
-
-  pub chained : out ≡ before
-  chained = eqb-true out before (not-false (eqb out before) f.next)
-
   pub in_source : first + count ≤ frames
   in_source = past-not first count frames f.inside
-
--- a number that isn't negative is at most 2^63 - 1
-pub short : (x : ℤ) → SFits w64 x → negative x ≡ false → nat_abs x ≤ max_i64
-short (pos n) f t = let h : n < 2 ^ 63 = f.sfits in omega arith
-short (negsuc n) f t = let z : ◌≡◌ {A = ℕ} 0 1 = cc in absurd (omega arith)
-
--- and what each test of a flag and a shift would find
-module _ (kind modulus flag : ℕ) (shift : ℤ) (f : FineShift kind modulus flag shift) where
-  few : flag ≤ 1
-  few = ltb-false 1 flag f.flagged
-
-  abbrev clocks : Bool
-  clocks = (eqb kind 0 && eqb flag 1) || (not (eqb kind 0) && eqb flag 0)
-
-  abbrev outside : Bool
-  outside = eqb kind 2 && (negative shift || leb modulus (nat_abs shift))
-
-  parts : (clocks ≡ false) × (outside ≡ false)
-  parts = or-false clocks outside f.within
-
-  pub clocked : (kind ≡ 0 → ⊥) → flag ≡ 1
-  clocked h =
-      let x : eqb flag 0 ≡ false = rw (ne_eqb kind 0 h) at (or-false (eqb kind 0 && eqb flag 1) (not (eqb kind 0) && eqb flag 0) parts.0).1 in
-      let n = eqb-false flag 0 x in
-      omega (arith, few)
-
-  module _ (e : kind ≡ 2) where
-    both : (negative shift ≡ false) × (leb modulus (nat_abs shift) ≡ false)
-    both = or-false (negative shift) (leb modulus (nat_abs shift)) (rw e at parts.1)
-
-    pub from_zero : negative shift ≡ false
-    from_zero = both.0
-
-    pub below : nat_abs shift < modulus
-    below = leb-false modulus (nat_abs shift) both.1
 
 -- what has no end isn't passed
 pub not-passed : {X : Type 0} {r : Ends} → r ≡ start → r.some ≡ true → X
@@ -95,7 +55,7 @@ pub passes : (s : Source) (prev : Ends) (w : Words) (e : Stamps) (to : Ends) {a 
 unfolding stamp_times ends_of
 passes s prev w e to h k n ea eb ec ed ef eg l r = record {
   flagged = k.flagged;
-  none = judged-fine s prev w (stamp_times e) h n (sym (λ i. out_of_time prev (ea i) (eb i) (ec i) (ed i) (ef i) (eg i)) ∙ l) k.within;
+  none = judged-fine s prev w (stamp_times e) h n (sym (λ i. out_of_time prev (ea i) (eb i) (ec i) (ed i) (ef i) (eg i)) ∙ l) k.allowed;
   end = r ∙ (λ i. record { some = true; frame = w.out + w.count; time = eb i + ec i; capture = ef i + eg i });
 }
 
@@ -109,7 +69,7 @@ pub plain-source : (log : Bool) (text : List ℕ) (s : Source) → not (eqb s.da
     → (s.frames ≡ 0 → ⊥) → (s.num ≡ 0 → ⊥) → not (eqb s.den 0) ≡ true → FineSource log text s
 unfolding bad_source source_refusal when
 plain-source log text s e l a b c =
-    let x = or-false (not (eqb s.dated 0)) (not (eqb s.kind 0)) e in
+    let x = or_parts (not (eqb s.dated 0)) (not (eqb s.kind 0)) e in
     let d : s.dated ≡ 0 = eqb-true s.dated 0 (not-false (eqb s.dated 0) x.0) in
     let k : s.kind ≡ 0 = eqb-true s.kind 0 (not-false (eqb s.kind 0) x.1) in
     record {
@@ -122,5 +82,5 @@ pub front-none : (log : Bool) (text : List ℕ) (srcs : List Source) (n : ℕ) �
     → Ok tt ≡ first_refused (source_refusal log text) 0 srcs → front_refusal log text srcs false n ≡ Ok tt
 unfolding front_refusal when
 front-none log text srcs n o e f =
-    let x = or-false (eqb (length srcs) 0) (eqb n 0) e in
+    let x = or_parts (eqb (length srcs) 0) (eqb n 0) e in
     rw (o, x.0, ← f, x.1)

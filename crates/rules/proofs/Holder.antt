@@ -1,15 +1,16 @@
 -- The segment that is looked up for a frame of an accepted table is the one that has it. Assumes nothing.
 use Prim.Native.Nat.{ℕ, zero, suc, ◌-◌, ◌≤◌, ◌<◌, min}
+use Rattle.std.specs.List.{count_by}
 use native.Mathlib.Omega.{arith}
 use mathlib.Core.Path.{◌≡◌, refl, sym, ap, ◌∙◌, subst}
 use lib.ListN.{length}
 use lib.Dec.{leb}
 use borrow.Author.Tests.{leb-true, leb-false}
-use Rattle.choice.specs.Choice.{max_u64}
-use Rattle.choice.proofs.Tests.{decide}
+use Rattle.conditions.specs.Conditions.{max_u64}
+use Rattle.conditions.proofs.Tests.{decide}
 use Rattle.rules.specs.Records.{Table, no_segment, segment, out_end}
-use Rattle.rules.specs.Lookups.{count_such, ended, over_by}
-use Rattle.rules.specs.Steps.{Ordered}
+use Rattle.rules.specs.Lookups.{ended, over_by}
+use Rattle.rules.specs.Walks.{Ordered}
 use Rattle.rules.proofs.Accepted.{Accepted}
 use Rattle.rules.proofs.Exact.{as-run}
 use Rattle.rules.proofs.Search.{Bracket, bracket-end, count-ended, frames-ordered}
@@ -44,9 +45,9 @@ holder {t} {N} a frame inside =
     let s = split (λ k. out_end (segment t k)) n max_u64 frame (frames-ordered a) n (omega arith) (λ k l q. absurd (omega arith)) in
     let some = a.some-segments in
     let within : s.0 < n = decide (leb n s.0) (λ q. absurd (omega (arith, leb-true n s.0 q, s.1.below (n - 1) (omega (arith, leb-true n s.0 q)), a.last))) (leb-false n s.0) in
-    let counted : count_such (over_by frame) t.segments ≡ s.0 =
-    ap (count_such (over_by frame)) (sym (as-run no_segment t.segments))
+    let frames-are : count_by (over_by frame) t.segments ≡ s.0 =
+    ap (count_by (over_by frame)) (sym (as-run no_segment t.segments))
     ∙ count-ended (over_by frame) (segment t) (λ k. out_end (segment t k)) n frame (λ k h. refl)
     ∙ sym (bracket-end (λ k. out_end (segment t k)) n frame s.0 s.0 s.1 (omega arith)) in
-    let e : s.0 ≡ min (count_such (over_by frame) t.segments) (n - 1) = omega arith in
+    let e : s.0 ≡ min (count_by (over_by frame) t.segments) (n - 1) = omega arith in
     subst (Holds t frame) e (holds a frame s.0 within s.1)

@@ -1,8 +1,10 @@
 -- Words of an absent thing are ignored by every answer. Assumes nothing.
 use Prim.Native.Nat.{ℕ, suc, ◌+◌, ◌-◌}
+use Rattle.std.specs.List.{list_any, count_by}
+use Rattle.std.proofs.lemmas.List.Folds.{fold-map}
 use native.Mathlib.Omega.{arith}
 use mathlib.Core.Path.{◌≡◌, refl, sym, ap, ◌∙◌}
-use mathlib.Core.Bool.{Bool, true, false, ◌||◌, ◌&&◌}
+use mathlib.Core.Bool.{Bool, cond, true, false, ◌||◌, ◌&&◌}
 use mathlib.Core.List.{List, [], ◌∷◌, map}
 use lib.ListN.{length, get_or, length-map, get_or-map}
 use lib.Dec.{eqb, leb, ltb}
@@ -10,9 +12,8 @@ use lib.IntN.{ℤ, pos, nat_abs}
 use borrow.Author.Tests.{eqb-true, ne_eqb}
 use Rattle.std.specs.Prelude.{Result, Ok, Err}
 use Rattle.std.specs.Result.{result_and}
-use Rattle.choice.specs.Choice.{when}
-use Rattle.choice.specs.Records.{any}
-use Rattle.choice.proofs.Tests.{decide}
+use Rattle.conditions.specs.Conditions.{when}
+use Rattle.conditions.proofs.Tests.{decide}
 use Rattle.refusal.specs.declared.Reason.{Reason}
 use Rattle.refusal.specs.declared.Reason.TheVariants as reason
 use Rattle.refusal.specs.Refusals.{first_refused}
@@ -21,19 +22,16 @@ use Rattle.rules.specs.declared.Ends.{Ends}
 use Rattle.rules.specs.declared.Segment.{Segment}
 use Rattle.rules.specs.Records.{Table, no_source, no_segment, segment, source_of, frame_total}
 use Rattle.rules.specs.Rules.{negative, bad_words, bad_source, bad_segment, malformed, bad_date, bad_clock, bad_shift, source_refusal, stamp_times, judged, segment_refusal, start, ends_of, ends, segments_from, front_refusal, refusal, check_of}
-use Rattle.rules.specs.Lookups.{count_such, ended, over_by, over_by_us, segment_of_frame, segment_of_time, same_shift, segment_runs_on, continues_at}
+use Rattle.rules.specs.Lookups.{ended, over_by, over_by_us, segment_of_frame, segment_of_time, same_shift, segment_runs_on, continues_at}
 use Rattle.rules.specs.Absent.{stripped_source, stripped_segment, stripped}
 
 -- ---- lists of records that are changed where no one looks
-any-map : {A : Type 0} (p : A → Bool) (f : A → A) (l : List A) → ((a : A) → p (f a) ≡ p a) → any p (map f l) ≡ any p l
-unfolding any
+any-map : {A : Type 0} (p : A → Bool) (f : A → A) (l : List A) → ((a : A) → p (f a) ≡ p a) → list_any p (map f l) ≡ list_any p l
 any-map p f [] h = refl
 any-map p f (a ∷ l) h = rw (h a, any-map p f l h)
 
-count_map : {A : Type 0} (p : A → Bool) (f : A → A) (l : List A) → ((a : A) → p (f a) ≡ p a) → count_such p (map f l) ≡ count_such p l
-unfolding count_such
-count_map p f [] h = refl
-count_map p f (a ∷ l) h = rw (h a, count_map p f l h)
+count_map : {A : Type 0} (p : A → Bool) (f : A → A) (l : List A) → ((a : A) → p (f a) ≡ p a) → count_by p (map f l) ≡ count_by p l
+count_map p f l h = fold-map (λ s a. s + cond (p a) 1 0) f 0 l ∙ (λ i. count_by (λ a. h a i) l)
 
 pub first-map : {A : Type 0} (g : A → Result (Unit {0}) Reason) (f : A → A) (i : ℕ) (l : List A) → ((a : A) → g (f a) ≡ g a) → first_refused g i (map f l) ≡ first_refused g i l
 unfolding first_refused

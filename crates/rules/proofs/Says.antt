@@ -1,5 +1,6 @@
 -- Tests that say the same as a condition: Bool on one side, the paper's words on the other. Assumes nothing.
 use Prim.Native.Nat.{ℕ, zero, suc, ◌+◌, ◌≤◌, ◌<◌, zero-le, suc-le-suc}
+use Rattle.std.specs.List.{list_any}
 use native.Mathlib.Nat.{le_of_suc-le-suc, not-suc-le-zero}
 use native.Mathlib.Omega.{arith}
 use mathlib.Core.Path.{◌≡◌, refl, sym, ap, ◌∙◌, subst}
@@ -11,9 +12,8 @@ use lib.Dec.{T, ltb, leb, eqb}
 use lib.IntN.{ℤ, pos, negsuc, nat_abs, ◌+ℤ◌}
 use lib.Signed.{lt_z, le_z, ◌<ℤ◌, ◌≤ℤ◌}
 use borrow.Author.Tests.{ltb-true, ltb-false, leb-true, leb-false, eqb-true, eqb-false}
-use Rattle.choice.specs.Choice.{past}
-use Rattle.choice.specs.Records.{any}
-use Rattle.choice.proofs.Tests.{tf}
+use Rattle.conditions.specs.Conditions.{past}
+use Rattle.conditions.proofs.Tests.{tf}
 use Rattle.rules.specs.Limits.{max_i64}
 use Rattle.rules.specs.Rules.{negative}
 use Rattle.rules.specs.Paper.{Some}
@@ -71,8 +71,7 @@ three {b} {A} {B} {C} s = record {
 }
 
 -- some record passes
-pub some : {A : Type 0} (p : A → Bool) (P : A → Type 0) (d : A) (l : List A) → ((a : A) → Says (p a) (P a)) → Says (any p l) (Some d P l)
-unfolding any
+pub some : {A : Type 0} (p : A → Bool) (P : A → Type 0) (d : A) (l : List A) → ((a : A) → Says (p a) (P a)) → Says (list_any p l) (Some d P l)
 some p P d [] s = record { holds = λ e. tf (sym e); fails = λ e x. not-suc-le-zero x.1 }
 some {A} p P d (a ∷ l) s = go (either (s a) (some p P d l s))
   where
@@ -80,7 +79,7 @@ some {A} p P d (a ∷ l) s = go (either (s a) (some p P d l s))
     split zero h q = inl q
     split (suc k) h q = inr (k, le_of_suc-le-suc h, q)
 
-    go : Says (p a || any p l) (P a ⊎ Some d P l) → Says (p a || any p l) (Some d P (a ∷ l))
+    go : Says (p a || list_any p l) (P a ⊎ Some d P l) → Says (p a || list_any p l) (Some d P (a ∷ l))
     go w = record {
       holds = λ e. ⊎_elim (λ q. (0, suc-le-suc zero-le, q)) (λ x. (suc x.0, suc-le-suc x.1, x.2)) (w.holds e);
       fails = λ e x. w.fails e (split x.0 x.1 x.2);

@@ -1,55 +1,33 @@
 -- How many ends are at most a value, and the ends of an accepted table, which never fall. Assumes nothing.
 use Prim.Native.Nat.{ℕ, zero, suc, ◌+◌, ◌-◌, ◌≤◌, ◌<◌, zero-le, suc-le-suc}
-use native.Mathlib.Nat.{le_of_suc-le-suc, not-suc-le-zero, add-zero, zero-add}
+use Rattle.slices.proofs.Ranges.{run}
+use Rattle.slices.proofs.Counts.{count-cons, count-split}
+use Rattle.std.specs.List.{count_by}
+use Rattle.std.proofs.lemmas.List.FromFn.{length-map-range_with_len, get_or-map-range_with_len}
+use native.Mathlib.Nat.{add-zero, zero-add}
 use native.Mathlib.Omega.{arith}
 use mathlib.Core.Path.{◌≡◌, refl, sym, ap, ◌∙◌, subst}
-use mathlib.Core.Bool.{Bool, true, false}
-use lib.ListN.{length}
+use mathlib.Core.Bool.{Bool, cond}
+use lib.ListN.{length, get_or}
 use lib.Dec.{leb}
 use lib.IntN.{nat_abs}
 use borrow.Author.Tests.{le-leb, lt-leb}
-use Rattle.choice.specs.Choice.{when, max_u64}
-use Rattle.choice.specs.Records.{run}
+use Rattle.conditions.specs.Conditions.{max_u64}
 use Rattle.rules.specs.Limits.{max_i64}
 use Rattle.rules.specs.Records.{Table, segment, out_end}
-use Rattle.rules.specs.Lookups.{count_such}
-use Rattle.rules.specs.Steps.{ended_by, Ordered}
+use Rattle.rules.specs.Walks.{ended_by, Ordered}
 use Rattle.rules.proofs.Accepted.{Accepted}
 
-module _ {A : Type 0} (p : A → Bool) (f : ℕ → A) where
-  none_pass : (m i : ℕ) → ((k : ℕ) → k < m → p (f (i + k)) ≡ false) → count_such p (run f i m) ≡ 0
-  unfolding when run count_such
-  none_pass zero i h = refl
-  none_pass (suc m) i h =
-      let e : p (f i) ≡ false = subst (λ (j : ℕ). p (f j) ≡ false) (add-zero i) (h 0 (suc-le-suc zero-le)) in
-      rw e (none_pass m (suc i) (λ k l. subst (λ (j : ℕ). p (f j) ≡ false) (omega arith) (h (suc k) (suc-le-suc l))))
-
-  -- none passes
-  pub count_none : (n : ℕ) → ((k : ℕ) → k < n → p (f k) ≡ false) → count_such p (run f 0 n) ≡ 0
-  count_none n h = none_pass n 0 (λ k l. subst (λ (j : ℕ). p (f j) ≡ false) (sym (zero-add k)) (h k l))
-
-  -- all before n pass, none from n on: n pass
-  count-split : (n m i : ℕ) → n ≤ m → ((k : ℕ) → k < n → p (f (i + k)) ≡ true) → ((k : ℕ) → n ≤ k → k < m → p (f (i + k)) ≡ false) → count_such p (run f i m) ≡ n
-  unfolding when run count_such
-  count-split zero m i l h g = none_pass m i (λ k q. g k zero-le q)
-  count-split (suc n) zero i l h g = absurd (not-suc-le-zero l)
-  count-split (suc n) (suc m) i l h g =
-      let e : p (f i) ≡ true = subst (λ (j : ℕ). p (f j) ≡ true) (add-zero i) (h 0 (suc-le-suc zero-le)) in
-      rw e (ap suc (count-split n m (suc i) (le_of_suc-le-suc l)
-      (λ k q. subst (λ (j : ℕ). p (f j) ≡ true) (omega arith) (h (suc k) (suc-le-suc q)))
-      (λ k q r. subst (λ (j : ℕ). p (f j) ≡ false) (omega arith) (g (suc k) (suc-le-suc q) (suc-le-suc r)))))
-
 -- two counts of as many records, where each passes as its twin does
-count_same : {A B : Type 0} (p : A → Bool) (f : ℕ → A) (q : B → Bool) (g : ℕ → B) (m i : ℕ) → ((k : ℕ) → k < m → p (f (i + k)) ≡ q (g (i + k))) → count_such p (run f i m) ≡ count_such q (run g i m)
-unfolding when run count_such
+count_same : {A B : Type 0} (p : A → Bool) (f : ℕ → A) (q : B → Bool) (g : ℕ → B) (m i : ℕ) → ((k : ℕ) → k < m → p (f (i + k)) ≡ q (g (i + k))) → count_by p (run f i m) ≡ count_by q (run g i m)
 count_same p f q g zero i h = refl
 count_same p f q g (suc m) i h =
     let e : p (f i) ≡ q (g i) = subst (λ (j : ℕ). p (f j) ≡ q (g j)) (add-zero i) (h 0 (suc-le-suc zero-le)) in
-    let r : count_such p (run f (suc i) m) ≡ count_such q (run g (suc i) m) = count_same p f q g m (suc i) (λ k l. subst (λ (j : ℕ). p (f j) ≡ q (g j)) (omega arith) (h (suc k) (suc-le-suc l))) in
-    rw (e, r)
+    let r : count_by p (run f (i + 1) m) ≡ count_by q (run g (i + 1) m) = count_same p f q g m (i + 1) (λ k l. subst (λ (j : ℕ). p (f j) ≡ q (g j)) (omega arith) (h (suc k) (suc-le-suc l))) in
+    omega (arith, count-cons p (f i) (run f (i + 1) m), count-cons q (g i) (run g (i + 1) m), ap {B = ℕ} (λ b. cond b 1 0) e, r)
 
 -- records that pass exactly where their end is at most v
-pub count-ended : {A : Type 0} (p : A → Bool) (f : ℕ → A) (e : ℕ → ℕ) (n v : ℕ) → ((k : ℕ) → k < n → p (f k) ≡ leb (e k) v) → count_such p (run f 0 n) ≡ ended_by e n v
+pub count-ended : {A : Type 0} (p : A → Bool) (f : ℕ → A) (e : ℕ → ℕ) (n v : ℕ) → ((k : ℕ) → k < n → p (f k) ≡ leb (e k) v) → count_by p (run f 0 n) ≡ ended_by e n v
 unfolding ended_by
 count-ended p f e n v h = count_same p f (λ k. leb (e k) v) (λ k. k) n 0 (λ k l. subst (λ (j : ℕ). p (f j) ≡ leb (e j) v) (sym (zero-add k)) (h k l))
 
@@ -64,9 +42,15 @@ pub record Bracket (e : ℕ → ℕ) (n v lo hi : ℕ) : Type 0 where
 pub bracket-end : (e : ℕ → ℕ) (n v lo hi : ℕ) → Bracket e n v lo hi → hi ≤ lo → lo ≡ ended_by e n v
 unfolding ended_by
 bracket-end e n v lo hi b h =
-    sym (count-split (λ k. leb (e k) v) (λ k. k) lo n 0 (omega (arith, b.lo-le, b.hi-le))
-    (λ k l. rw zero-add (le-leb (e k) v (b.below k l)))
-    (λ k l q. rw zero-add (lt-leb (e k) v (b.above k (omega arith) q))))
+    sym (count-split (λ k. leb (e k) v) (run (λ k. k) 0 n) 0 lo (omega (arith, long, b.lo-le, b.hi-le))
+    (λ k l. rw (is k (omega (arith, b.lo-le, b.hi-le))) (le-leb (e k) v (b.below k l)))
+    (λ k l q. rw (is k (omega (arith, long))) (lt-leb (e k) v (b.above k (omega arith) (omega (arith, long))))))
+  where
+    long : length (run (λ j. j) 0 n) ≡ n
+    long = length-map-range_with_len (λ j. j) 0 n
+
+    is : (k : ℕ) → k < n → get_or (run (λ j. j) 0 n) k 0 ≡ k
+    is k l = get_or-map-range_with_len (λ j. j) 0 n k k 0 l (zero-add k)
 
 -- each end is at most the next
 steps : (e : ℕ → ℕ) (n : ℕ) → ((k : ℕ) → suc k < n → e k ≤ e (suc k)) → (i j : ℕ) → i ≤ j → j < n → e i ≤ e j

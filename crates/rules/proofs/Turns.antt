@@ -1,5 +1,6 @@
 -- A segment's turn: where none of 10 to 17 refuses it, its sums fit. Assumes nothing.
 use Prim.Native.Nat.{◌+◌, ◌≤◌}
+use Rattle.std.proofs.lemmas.Bool.{or_parts}
 use native.Mathlib.Omega.{arith}
 use mathlib.Core.Path.{◌≡◌}
 use mathlib.Core.Bool.{false, ◌||◌}
@@ -7,9 +8,8 @@ use lib.Dec.{eqb}
 use Rattle.std.specs.Prelude.{Ok, Err}
 use Rattle.std.specs.Result.{result_and}
 use borrow.Author.Tests.{eqb-true, not-false}
-use Rattle.choice.specs.Choice.{when, past, max_u64}
-use Rattle.choice.proofs.Tests.{or-false}
-use Rattle.choice.proofs.Sums.{past-not}
+use Rattle.conditions.specs.Conditions.{when, past, max_u64}
+use Rattle.conditions.proofs.Sums.{past-not}
 use Rattle.refusal.specs.declared.Reason.TheVariants as reason
 use Rattle.refusal.proofs.Chains.{when-ok}
 use Rattle.rules.specs.declared.Source.{Source}
@@ -18,7 +18,7 @@ use Rattle.rules.specs.declared.SixTimes.{SixTimes}
 use Rattle.rules.specs.declared.Ends.{Ends}
 use Rattle.rules.specs.Limits.{max_i64}
 use Rattle.rules.specs.Rules.{too_late, apart, bad_shift, judged}
-use Rattle.rules.specs.Steps.{frames_or, times_or, FineFrames, out_of_time}
+use Rattle.rules.specs.Walks.{frames_or, times_or, FineFrames, out_of_time}
 
 -- 10 to 17 in parts, as code goes through them
 pub judged_parts : (s : Source) (prev : Ends) (w : Words) (t : SixTimes) → judged s prev w t
@@ -41,11 +41,11 @@ judged-fit s prev w t e =
     let c13 = when-ok _ _ _ _ (when-ok _ _ _ _ c11.1).1 in
     let c15 = when-ok _ _ _ _ (when-ok _ _ _ _ c13.1).1 in
     let c14 = when-ok _ _ _ _ (when-ok _ _ _ _ c15.1).1 in
-    let late = or-false (past t.outstart t.duration max_i64) (past t.outcap t.capdur max_i64) c14.0 in
+    let late = or_parts (past t.outstart t.duration max_i64) (past t.outcap t.capdur max_i64) c14.0 in
     record {
       positive = c13.0;
       chained = eqb-true w.out prev.frame (not-false (eqb w.out prev.frame) c15.0);
-      frame = past-not _ _ _ (or-false (past w.out w.count max_u64) (past w.first w.count max_u64) c11.0).0;
+      frame = past-not _ _ _ (or_parts (past w.out w.count max_u64) (past w.first w.count max_u64) c11.0).0;
       time = past-not _ _ _ late.0;
       capture = past-not _ _ _ late.1;
     }
@@ -81,6 +81,6 @@ pub judged-fine : (s : Source) (prev : Ends) (w : Words) (t : SixTimes) → Fine
     → bad_shift s.kind s.modulus w.flag t.back t.shift ≡ false → judged s prev w t ≡ Ok tt
 unfolding judged when
 judged-fine s prev w t f n l b =
-    let x = or-false (apart prev.some prev.time prev.capture t.outstart t.outcap) (too_late t.srcstart t.duration t.srccap t.capdur || too_late t.outstart t.duration t.outcap t.capdur) l in
-    let y = or-false (too_late t.srcstart t.duration t.srccap t.capdur) (too_late t.outstart t.duration t.outcap t.capdur) x.1 in
+    let x = or_parts (apart prev.some prev.time prev.capture t.outstart t.outcap) (too_late t.srcstart t.duration t.srccap t.capdur || too_late t.outstart t.duration t.outcap t.capdur) l in
+    let y = or_parts (too_late t.srcstart t.duration t.srccap t.capdur) (too_late t.outstart t.duration t.outcap t.capdur) x.1 in
     rw (f.some, f.fits, f.inside, n, y.0, f.next, x.0, y.1, b)

@@ -1,5 +1,6 @@
 -- The walk over the segments of any layout: a turn that goes on, one that stops, and the end; and how a check is put together. Assumes nothing.
 use Prim.Native.Nat.{ℕ, ◌+◌, ◌-◌, ◌≤◌, ◌<◌, zero-le}
+use Rattle.slices.proofs.Ranges.{run, run-cons, run-nil}
 use native.Mathlib.Nat.{sub-zero, zero-add}
 use native.Mathlib.Numerals.{add-one}
 use native.Mathlib.Omega.{arith}
@@ -9,10 +10,8 @@ use lib.ListN.{length}
 use borrow.Author.Tests.{le-leb, lt-leb, leb-false}
 use Rattle.std.specs.Prelude.{Ok, Err}
 use Rattle.std.specs.Result.{result_and}
-use Rattle.choice.specs.Choice.{when}
-use Rattle.choice.specs.Records.{run}
-use Rattle.choice.proofs.Tests.{tf}
-use Rattle.choice.proofs.Runs.{run-cons, run-nil}
+use Rattle.conditions.specs.Conditions.{when}
+use Rattle.conditions.proofs.Tests.{tf}
 use Rattle.refusal.specs.declared.Reason.{Reason}
 use Rattle.refusal.specs.declared.Reason.TheVariants as reason
 use Rattle.refusal.specs.declared.Refusal.{Refusal}
@@ -23,7 +22,7 @@ use Rattle.rules.specs.declared.Ends.{Ends}
 use Rattle.rules.specs.declared.Segment.{Segment}
 use Rattle.rules.specs.Records.{Table, source_of, frame_total}
 use Rattle.rules.specs.Rules.{bad_segment, stamp_times, judged, segment_refusal, start, ends_of, ends, segments_from, malformed, front_refusal, refusal, check_of}
-use Rattle.rules.specs.Steps.{turned, turn_of, walked, Passes, Passing, PassesOf, PassingOf, Walk, EndFits}
+use Rattle.rules.specs.Walks.{turned, turn_of, walked, Passes, Passing, PassesOf, PassingOf, Walk, EndFits}
 use Rattle.rules.proofs.Turns.{judged-fit}
 
 -- no refusal of 9 to 17: the source is there, and 10 to 17 don't refuse

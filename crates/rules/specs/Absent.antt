@@ -1,6 +1,6 @@
 -- Words of an absent thing, which are ignored: a table with these words set to 0, `stripped`, gets the same answers, so two tables that differ only in them do.
 use Rattle.std.specs.Prelude.{◌||◌, map, eqb, pos}
-use Rattle.choice.specs.Choice.{when}
+use Rattle.conditions.specs.Conditions.{when}
 use Rattle.rules.specs.declared.Source.{Source}
 use Rattle.rules.specs.declared.Segment.{Segment}
 use Rattle.rules.specs.Records.{Table}

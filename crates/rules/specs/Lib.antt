@@ -4,4 +4,4 @@ pub mod Rules
 pub mod Paper
 pub mod Lookups
 pub mod Absent
-pub mod Steps
+pub mod Walks

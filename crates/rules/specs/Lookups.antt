@@ -1,22 +1,17 @@
 -- What is asked of an accepted table: the segment of a frame or time, and whether a segment continues the one before. Each checks first.
-use Rattle.std.specs.Prelude.{ℕ, suc, ◌+◌, ◌-◌, min, Bool, ◌&&◌, ◌||◌, List, [], ◌∷◌, length, leb, ltb, eqb, ℤ, Result, Ok}
+use Rattle.std.specs.Prelude.{ℕ, ◌+◌, ◌-◌, min, Bool, ◌&&◌, ◌||◌, List, length, leb, ltb, eqb, ℤ, Result, Ok}
+use Rattle.std.specs.List.{count_by}
+use Rattle.std.specs.Ordering.{int_eq}
 use Rattle.std.specs.Result.{result_and}
 use Rattle.std.specs.Int.Signed.{le_z}
-use Rattle.choice.specs.Choice.{when}
 use Rattle.refusal.specs.declared.Refusal.{Refusal}
-use Rattle.signed.specs.Signed.{eq_z}
 use Rattle.rules.specs.declared.Segment.{Segment}
 use Rattle.rules.specs.Records.{Table, segment, out_end, out_end_us}
 use Rattle.rules.specs.Rules.{check_of}
 
--- how many records pass
-unfoldable pub count_such : {A : Type 0} → (A → Bool) → List A → ℕ
-count_such p [] = 0
-count_such p (a ∷ l) = when (p a) (suc (count_such p l)) (count_such p l)
-
 -- the number of segments that have ended, at most the last index
 unfoldable pub ended : (Segment → Bool) → List Segment → ℕ
-ended p l = min (count_such p l) (length l - 1)
+ended p l = min (count_by p l) (length l - 1)
 
 -- a segment has ended where a frame is reached, and where a time is
 abbrev pub over_by : ℕ → Segment → Bool
@@ -35,7 +30,7 @@ segment_of_time t time = result_and (check_of t) (Ok (ended (over_by_us time) t.
 
 -- shifts are equal: both absent, or both present and the same
 abbrev pub same_shift : ℕ → ℤ → ℕ → ℤ → Bool
-same_shift flag shift flag' shift' = eqb flag flag' && (eqb flag 0 || eq_z shift shift')
+same_shift flag shift flag' shift' = eqb flag flag' && (eqb flag 0 || int_eq shift shift')
 
 -- segment e continues segment p: the same source, source frames that run on, equal shift
 unfoldable pub segment_runs_on : Segment → Segment → Bool

@@ -2,7 +2,7 @@
 -- that of refusal/specs/Reasons.antt.
 -- Of every table what `check` answers is proved right by them, as the contract of `refusals_are_right`. Sums of times are integers here, without bounds.
 use Rattle.std.specs.Prelude.{ℕ, zero, suc, ◌+◌, ◌≤◌, ◌<◌, ◌≡◌, Bool, true, false, List, [], ◌∷◌, ◌++◌, ◌⊎◌, ◌↔◌, length, get_or, take, drop, pos, ◌+ℤ◌, ◌<ℤ◌, ◌≤ℤ◌, Result, Ok}
-use Rattle.choice.specs.Choice.{max_u64}
+use Rattle.conditions.specs.Conditions.{max_u64}
 use Rattle.refusal.specs.declared.Reason.{Reason}
 use Rattle.refusal.specs.declared.Reason.TheVariants as reason
 use Rattle.refusal.specs.declared.Refusal.{Refusal}

@@ -1,14 +1,14 @@
 -- Document 01's refusals 1 to 17, in testing order, over records: no word of this file knows how a table is lent.
 -- 1, 2, 3; 4 to 7 source by source; 8; 9 to 17 segment by segment. The index is the source in 4 to 7, the segment in 9 to 17, else 0.
 use Rattle.std.specs.Prelude.{ℕ, suc, ◌+◌, List, [], ◌∷◌, Bool, true, false, not, ◌||◌, ◌&&◌, length, take, drop, ltb, leb, eqb, ℤ, pos, nat_abs, Result, Ok, Err}
+use Rattle.std.specs.List.{list_any}
 use Rattle.std.specs.Result.{result_and}
 use Rattle.std.specs.Int.Signed.{lt_z}
 use Rattle.refusal.specs.declared.Reason.{Reason}
 use Rattle.refusal.specs.declared.Reason.TheVariants as reason
 use Rattle.refusal.specs.declared.Refusal.{Refusal}
 use Rattle.refusal.specs.Refusals.{refused, indexed, first_refused}
-use Rattle.choice.specs.Choice.{when, past, max_u64}
-use Rattle.choice.specs.Records.{any}
+use Rattle.conditions.specs.Conditions.{when, past, max_u64}
 use Rattle.utc.specs.Utc.{utc_second}
 use Rattle.rules.specs.declared.Source.{Source}
 use Rattle.rules.specs.declared.Words.{Words}
@@ -32,7 +32,7 @@ bad_segment e = ltb 1 e.words.flag
 
 -- 1, whole: also where lengths don't fit
 unfoldable pub malformed : Table → Bool
-malformed t = (t.uneven || any (bad_source (length t.text)) t.sources) || any bad_segment t.segments
+malformed t = (t.uneven || list_any (bad_source (length t.text)) t.sources) || list_any bad_segment t.segments
 
 -- 2: over 64 sources or 512 segments
 abbrev pub over_limit : ℕ → ℕ → Bool

@@ -6,9 +6,8 @@ ghost use Rattle.rules.specs.Limits.{max_i64};
 ghost use Rattle.rules.specs.Records.{Table, frame_total};
 ghost use Rattle.rules.specs.Rules.{bad_words, zero_in_source, bad_date, bad_clock, source_refusal, negative, stamp_times, too_late, apart, bad_shift, over_limit, judged, start, ends, check_of};
 ghost use Rattle.rules.specs.Paper.{tests, Rightly};
-ghost use Rattle.rules.specs.Steps.{frames_or, times_or, turned, FineFrames, FineShift, out_of_time, Passing, EndFits};
+ghost use Rattle.rules.specs.Walks.{frames_or, times_or, turned, FineFrames, FineShift, out_of_time, Passing, EndFits};
 
-use choice::MAX_U64;
 use refusal::Reason;
 
 // Limits of 2.
@@ -115,7 +114,7 @@ pub struct Ends {
 pub fn bad_words(n: u64, dated: u64, from: u64, size: u64, kind: u64) -> bool
     ensures { result ≡ bad_words n dated from size kind }
 {
-    let leaves = choice::is_past(from, size, n);
+    let leaves = conditions::is_past(from, size, n);
     ((dated > 1) | (kind > 2)) | ((dated == 1) & leaves)
 }
 
@@ -160,7 +159,7 @@ fn bad_clock(kind: u64, ticks: u64, per: u64, modulus: u64) -> bool
 }
 
 // 4 to 7 of a source.
-#[tactic(auto, unfolding(choice::specs::Choice::when, crate::specs::Rules::source_refusal))]
+#[tactic(auto, unfolding(conditions::specs::Conditions::when, crate::specs::Rules::source_refusal))]
 pub fn source_refusal(log: bool, text: &[u8], s: Source) -> Result<(), Reason>
     ensures { result ≡ source_refusal log text.now s }
 {
@@ -183,10 +182,10 @@ pub fn source_refusal(log: bool, text: &[u8], s: Source) -> Result<(), Reason>
 fn too_late(start: u64, duration: u64, cap: u64, capdur: u64) -> bool
     ensures { result ≡ too_late start duration cap capdur }
 {
-    if choice::is_past(start, duration, MAX_I64) {
+    if conditions::is_past(start, duration, MAX_I64) {
         return true;
     }
-    choice::is_past(cap, capdur, MAX_I64)
+    conditions::is_past(cap, capdur, MAX_I64)
 }
 
 // 16: the first segment is free.
@@ -205,27 +204,27 @@ fn bad_shift(kind: u64, modulus: u64, flag: u64, back: bool, shift: u64) -> bool
 }
 
 // 10 to 12. Each test leaves at once, since most segments pass all and a walk of many is long.
-#[tactic(auto, unfolding(choice::specs::Choice::when))]
+#[tactic(auto, unfolding(conditions::specs::Conditions::when))]
 fn frames_refusal(frames: u64, first: u64, count: u64, out: u64) -> Result<(), Reason>
     ensures { result ≡ frames_or frames first count out (Ok tt) }
 {
     if count == 0 {
         return Err(Reason::NoFrames);
     }
-    if choice::is_past(out, count, MAX_U64) {
+    if conditions::is_past(out, count, u64::MAX) {
         return Err(Reason::FramesWrap);
     }
-    if choice::is_past(first, count, MAX_U64) {
+    if conditions::is_past(first, count, u64::MAX) {
         return Err(Reason::FramesWrap);
     }
-    if choice::is_past(first, count, frames) {
+    if conditions::is_past(first, count, frames) {
         return Err(Reason::PastSource);
     }
     Ok(())
 }
 
 // 13 to 16, and 14 of the out pairs.
-#[tactic(auto, unfolding(choice::specs::Choice::when))]
+#[tactic(auto, unfolding(conditions::specs::Conditions::when))]
 fn times_refusal(prev: Ends, out: u64, t: SixTimes) -> Result<(), Reason>
     ensures { result ≡ times_or prev out t (Ok tt) }
 {
@@ -248,7 +247,7 @@ fn times_refusal(prev: Ends, out: u64, t: SixTimes) -> Result<(), Reason>
 }
 
 // 10 to 17 of a segment of the source s, after one that ends at prev.
-#[tactic(auto, using(crate::proofs::Turns::judged_parts), unfolding(choice::specs::Choice::when))]
+#[tactic(auto, using(crate::proofs::Turns::judged_parts), unfolding(conditions::specs::Conditions::when))]
 fn judge(s: Source, prev: Ends, w: Words, t: SixTimes) -> Result<(), Reason>
     ensures { result ≡ judged s prev w t }
 {
@@ -261,7 +260,7 @@ fn judge(s: Source, prev: Ends, w: Words, t: SixTimes) -> Result<(), Reason>
 }
 
 // 10 to 17 of a segment, and where it ends.
-#[tactic(auto, unfolding(crate::specs::Steps::turned, crate::specs::Rules::ends_of))]
+#[tactic(auto, unfolding(crate::specs::Walks::turned, crate::specs::Rules::ends_of))]
 pub fn turn_of(s: Source, prev: Ends, w: Words, t: SixTimes) -> Result<Ends, Reason>
     ensures { result ≡ turned s prev w t }
 {
@@ -299,9 +298,9 @@ fn plain(x: i64) -> u64
 fn any_negative(a: i64, b: i64, c: i64, d: i64, e: i64, f: i64) -> bool
     ensures { result ≡ ((negative a || negative b) || (negative c || negative d)) || (negative e || negative f) }
 {
-    let first = signed::negative(a) | signed::negative(b);
-    let second = signed::negative(c) | signed::negative(d);
-    let third = signed::negative(e) | signed::negative(f);
+    let first = (a < 0) | (b < 0);
+    let second = (c < 0) | (d < 0);
+    let third = (e < 0) | (f < 0);
     (first | second) | third
 }
 
@@ -315,7 +314,7 @@ fn fine_frames(frames: u64, first: u64, count: u64, out: u64, before: u64) -> bo
     if out != before {
         return false;
     }
-    if count > MAX_U64 - out {
+    if count > u64::MAX - out {
         return false;
     }
     if count > frames {
@@ -337,14 +336,14 @@ fn fine_shift(kind: u64, modulus: u64, flag: u64, shift: i64) -> bool
     if kind != 2 {
         return true;
     }
-    if signed::negative(shift) {
+    if shift < 0 {
         return false;
     }
     plain(shift) < modulus
 }
 
 // 14 of numbers that aren't negative: their sums fit.
-#[tactic(auto, unfolding(choice::specs::Choice::past))]
+#[tactic(auto, unfolding(conditions::specs::Conditions::past))]
 fn late(start: u64, duration: u64, cap: u64, capdur: u64) -> bool
     requires { (start ≤ max_i64) × (duration ≤ max_i64) × (cap ≤ max_i64) × (capdur ≤ max_i64) }
     ensures { result ≡ too_late start duration cap capdur }
@@ -380,14 +379,14 @@ pub fn times_of(t: Stamps) -> SixTimes
         negative: any_negative(
             t.srcstart, t.outstart, t.duration, t.srccap, t.outcap, t.capdur,
         ),
-        srcstart: signed::magnitude(t.srcstart),
-        outstart: signed::magnitude(t.outstart),
-        duration: signed::magnitude(t.duration),
-        srccap: signed::magnitude(t.srccap),
-        outcap: signed::magnitude(t.outcap),
-        capdur: signed::magnitude(t.capdur),
-        back: signed::negative(t.shift),
-        shift: signed::magnitude(t.shift),
+        srcstart: t.srcstart.unsigned_abs(),
+        outstart: t.outstart.unsigned_abs(),
+        duration: t.duration.unsigned_abs(),
+        srccap: t.srccap.unsigned_abs(),
+        outcap: t.outcap.unsigned_abs(),
+        capdur: t.capdur.unsigned_abs(),
+        back: t.shift < 0,
+        shift: t.shift.unsigned_abs(),
     }
 }
 

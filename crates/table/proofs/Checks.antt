@@ -1,5 +1,8 @@
 -- How a check is put together: what the steps of front.rt and walk.rt find, and what refuses or accepts the table. Assumes nothing.
 use Prim.Native.Nat.{ℕ, zero, suc, ◌+◌, ◌-◌, ◌≤◌, ◌<◌, zero-le, suc-le-suc}
+use Rattle.std.proofs.lemmas.Bool.{or_parts}
+use Rattle.std.specs.List.{list_any}
+use Rattle.slices.proofs.Ranges.{run, any-turn, any-hit, any-end}
 use native.Mathlib.Numerals.{add-one}
 use native.Mathlib.Nat.{sub-zero, le_of_suc-le-suc}
 use native.Mathlib.Omega.{arith}
@@ -10,25 +13,23 @@ use lib.ListN.{length, get_or}
 use lib.Dec.{eqb}
 use borrow.Author.Tests.{eqb-true, eqb-false}
 use Rattle.std.specs.Prelude.{Ok, Err}
-use Rattle.choice.specs.Choice.{when}
-use Rattle.choice.specs.Records.{run, any}
-use Rattle.choice.proofs.Tests.{or-false, decide}
+use Rattle.conditions.specs.Conditions.{when}
+use Rattle.conditions.proofs.Tests.{decide}
 use Rattle.refusal.specs.declared.Reason.{Reason}
 use Rattle.refusal.specs.declared.Refusal.{Refusal}
 use Rattle.refusal.specs.declared.Reason.TheVariants as reason
 use Rattle.refusal.specs.Refusals.{refused}
 use Rattle.refusal.proofs.Chains.{when-ok, ok-of}
 use Rattle.refusal.proofs.First.{first-turn, first-hit, first-end}
-use Rattle.choice.proofs.Runs.{any-turn, any-hit, any-end}
 use Rattle.rules.specs.declared.Source.{Source}
 use Rattle.rules.specs.declared.Segment.{Segment}
 use Rattle.rules.specs.Records.{Table, no_source, no_segment, nth, segment}
 use Rattle.rules.specs.Rules.{bad_source, bad_segment, segment_refusal, start, ends, malformed, front_refusal, check_of}
 use Rattle.rules.specs.declared.Ends.{Ends}
-use Rattle.rules.specs.Steps.{turn_of, walked, Walk, end_before}
+use Rattle.rules.specs.Walks.{turn_of, walked, Walk, end_before}
 use Rattle.rules.proofs.Exact.{as-run}
 use Rattle.rules.proofs.Walks.{turn_on, turn-none, turn-some, walk_start, walk-go, walk-stop, check-stops, check-goes}
-use Rattle.table.specs.Steps.{FineAt, FineFront, FineSegments, Stopped, front_of}
+use Rattle.table.specs.FirstWalk.{FineAt, FineFront, FineSegments, Stopped, front_of}
 
 -- source k of a list, as `nth` has a segment
 abbrev pub nth_source : List Source → ℕ → Source
@@ -49,19 +50,17 @@ pub never-goes : (srcs : List Source) (prev : Ends) (e : Segment) {next : Ends} 
 unfolding turn_of
 never-goes srcs prev e h = (ok-of _ _ _ h).0
 
-pub flag-at : (l : List Segment) (k : ℕ) → k < length l → any bad_segment l ≡ false → bad_segment (nth l k) ≡ false
-unfolding any
+pub flag-at : (l : List Segment) (k : ℕ) → k < length l → list_any bad_segment l ≡ false → bad_segment (nth l k) ≡ false
 flag-at [] k h e = absurd (omega arith)
-flag-at (x ∷ l) zero h e = (or-false (bad_segment x) (any bad_segment l) e).0
-flag-at (x ∷ l) (suc k) h e = flag-at l k (le_of_suc-le-suc h) (or-false (bad_segment x) (any bad_segment l) e).1
+flag-at (x ∷ l) zero h e = (or_parts (bad_segment x) (list_any bad_segment l) e).0
+flag-at (x ∷ l) (suc k) h e = flag-at l k (le_of_suc-le-suc h) (or_parts (bad_segment x) (list_any bad_segment l) e).1
 
 -- one more of which neither holds
 pub fine-more : (srcs : List Source) (l : List Segment) (k : ℕ) → ((j : ℕ) → j < k → FineAt srcs l j) → FineAt srcs l k → (j : ℕ) → j < k + 1 → FineAt srcs l j
 fine-more srcs l k h f j b = decide (eqb j k) (λ e. rw (eqb-true j k e) f) (λ e. h j (let n = eqb-false j k e in omega arith))
 
 -- 1 holds of none
-pub flags-fine : (l : List Segment) → ((k : ℕ) → k < length l → bad_segment (nth l k) ≡ false) → any bad_segment l ≡ false
-unfolding any
+pub flags-fine : (l : List Segment) → ((k : ℕ) → k < length l → bad_segment (nth l k) ≡ false) → list_any bad_segment l ≡ false
 flags-fine [] h = refl
 flags-fine (x ∷ l) h = rw (h 0 (suc-le-suc zero-le)) (flags-fine l (λ k b. h (suc k) (suc-le-suc b)))
 
@@ -94,9 +93,9 @@ module _ (t : Table) where
   unfolding malformed
   fine-front h =
       let b = front-free t.log t.text t.sources (malformed t) (length t.segments) h in
-      let q = or-false (t.uneven || any (bad_source (length t.text)) t.sources) (any bad_segment t.segments) b in
+      let q = or_parts (t.uneven || list_any (bad_source (length t.text)) t.sources) (list_any bad_segment t.segments) b in
       record {
-        words = (or-false t.uneven (any (bad_source (length t.text)) t.sources) q.0).1;
+        words = (or_parts t.uneven (list_any (bad_source (length t.text)) t.sources) q.0).1;
         none = sym (ap (λ (x : Bool). front_refusal t.log t.text t.sources x (length t.segments)) b) ∙ h;
       }
 
@@ -111,7 +110,7 @@ module _ (t : Table) where
 
   -- they refuse nothing, but 1 of segments may
   module _ (e : t.uneven ≡ false) (f : FineFront t) where
-    fine : front_of t ≡ front_refusal t.log t.text t.sources (any bad_segment t.segments) (length t.segments)
+    fine : front_of t ≡ front_refusal t.log t.text t.sources (list_any bad_segment t.segments) (length t.segments)
     unfolding malformed
     fine = rw (e, f.words)
 
@@ -119,12 +118,12 @@ module _ (t : Table) where
     check-accepted g = g.frames ∙ check-goes t (fine ∙ rw g.flags f.none)
 
     -- 1 refuses a flag
-    pub check-flagged : any bad_segment t.segments ≡ true → refused reason.Malformed 0 ≡ check_of t
+    pub check-flagged : list_any bad_segment t.segments ≡ true → refused reason.Malformed 0 ≡ check_of t
     unfolding front_refusal when
     check-flagged b = check-refused (fine ∙ rw b)
 
     -- what refuses the segment at which the walk stopped
-    pub check-at : {k : ℕ} {why : Reason} → Stopped t.sources t.segments k → any bad_segment t.segments ≡ false → turn_of t.sources (end_before t.segments k) (segment t k) ≡ Err why → refused why k ≡ check_of t
+    pub check-at : {k : ℕ} {why : Reason} → Stopped t.sources t.segments k → list_any bad_segment t.segments ≡ false → turn_of t.sources (end_before t.segments k) (segment t k) ≡ Err why → refused why k ≡ check_of t
     check-at s b h =
         walk-stop _ _ _ (walk-to _ _ _ (omega (arith, s.inside)) s.before) s.inside h
         ∙ ap (walked t.sources) (segments-run _ refl) ∙ check-goes t (fine ∙ rw b f.none)

@@ -6,7 +6,7 @@ use mathlib.Core.List.{List}
 use mathlib.Core.Logic.{◌↔◌}
 use lib.ListN.{length}
 use lib.IntN.{ℤ}
-use Rattle.choice.proofs.Tests.{decide}
+use Rattle.conditions.proofs.Tests.{decide}
 use Rattle.rules.proofs.Says.{Says, equal, either, unless}
 use Rattle.table.specs.Layout.{source_words, segment_words, segment_stamps, uneven_sources, uneven_rows, Uneven, table_of}
 

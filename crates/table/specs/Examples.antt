@@ -1,6 +1,6 @@
 -- T of document 01, and each refusal of a check. They are the contract of `worked_examples_hold`.
 use Rattle.std.specs.Prelude.{ℕ, zero, suc, true, false, List, [], ◌∷◌, ◌++◌, ℤ, pos, neg_ℤ, Result, Ok}
-use Rattle.choice.specs.Worked.{Worked, is, AllRight}
+use Rattle.examples.specs.Worked.{Worked, is, AllRight}
 use Rattle.refusal.specs.declared.Reason.TheVariants as reason
 use Rattle.refusal.specs.declared.Refusal.{Refusal}
 use Rattle.refusal.specs.Refusals.{refused}

@@ -1,6 +1,6 @@
 -- How a table is lent: ten u64 a source, five u64 and seven i64 a segment, one after another; and the records that such words hold.
-use Rattle.std.specs.Prelude.{ℕ, ◌+◌, ◌*◌, ◌/◌, ◌%◌, Bool, not, ◌||◌, List, ◌⊎◌, ◌≡◌, get_or, length, eqb, ℤ, pos}
-use Rattle.choice.specs.Records.{run}
+use Rattle.std.specs.Prelude.{ℕ, ◌+◌, ◌*◌, ◌/◌, ◌%◌, Bool, not, ◌||◌, List, ◌⊎◌, ◌≡◌, get_or, length, eqb, ℤ, pos, map}
+use Rattle.std.specs.List.{range_with_len}
 use Rattle.rules.specs.declared.Source.{Source}
 use Rattle.rules.specs.declared.Words.{Words}
 use Rattle.rules.specs.declared.Stamps.{Stamps}
@@ -58,10 +58,10 @@ segment_at u t k = record { words = words_at u k; stamps = stamps_at t k }
 
 -- all sources, and all segments
 unfoldable pub sources_of : List ℕ → List Source
-sources_of s = run (source_at s) 0 (length s / source_words)
+sources_of s = map (source_at s) (range_with_len 0 (length s / source_words))
 
 unfoldable pub segments_of : List ℕ → List ℤ → List Segment
-segments_of u t = run (segment_at u t) 0 (length u / segment_words)
+segments_of u t = map (segment_at u t) (range_with_len 0 (length u / segment_words))
 
 -- the sources' words are no whole number of sources
 abbrev pub uneven_sources : ℕ → Bool

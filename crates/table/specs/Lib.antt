@@ -1,3 +1,3 @@
 pub mod Layout
-pub mod Steps
+pub mod FirstWalk
 pub mod Examples

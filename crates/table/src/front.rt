@@ -1,11 +1,11 @@
 // 1 to 8: a table's flags and kinds, its sources, and its limits.
 ghost use Rattle.std.specs.Prelude.{◌≡◌, true, false, ◌<◌, length};
-ghost use Rattle.choice.specs.Records.{any};
+ghost use Rattle.std.specs.List.{list_any};
 ghost use Rattle.refusal.specs.Refusals.{first_refused};
 ghost use Rattle.rules.specs.Records.{source};
 ghost use Rattle.rules.specs.Rules.{bad_source, bad_segment, malformed, source_refusal, check_of};
-ghost use Rattle.rules.specs.Steps.{FineSource};
-ghost use Rattle.table.specs.Steps.{FineSources, FineFront, front_of};
+ghost use Rattle.rules.specs.Walks.{FineSource};
+ghost use Rattle.table.specs.FirstWalk.{FineSources, FineFront, front_of};
 
 use crate::SegmentTable;
 use crate::layout::Segments;
@@ -66,15 +66,13 @@ impl<'a, S: Segments> SegmentTable<'a, S> {
     // 1, of all sources.
     #[tactic(auto, using(crate::proofs::Checks::loops))]
     fn has_bad_source(&self) -> bool
-        ensures { result ≡ any (bad_source (length self.now.text)) self.now.sources }
+        ensures { result ≡ list_any (bad_source (length self.now.text)) self.now.sources }
     {
         let m = self.source_count();
-        let mut k = 0;
-        while k < m {
+        for k in 0..m {
             if self.is_bad(k) {
                 return true;
             }
-            k += 1;
         }
         false
     }
@@ -83,15 +81,13 @@ impl<'a, S: Segments> SegmentTable<'a, S> {
     #[tactic(auto, using(crate::proofs::Checks::loops), unfolding(rules::specs::Rules::bad_segment))]
     pub(crate) fn has_bad_flag(&self) -> bool
         requires { self.now.uneven ≡ false }
-        ensures { result ≡ any bad_segment self.now.segments }
+        ensures { result ≡ list_any bad_segment self.now.segments }
     {
         let m = self.segment_count();
-        let mut k = 0;
-        while k < m {
+        for k in 0..m {
             if self.segment(k).words.flag > 1 {
                 return true;
             }
-            k += 1;
         }
         false
     }
@@ -111,12 +107,10 @@ impl<'a, S: Segments> SegmentTable<'a, S> {
         ensures { result ≡ first_refused (source_refusal self.now.log self.now.text) 0 self.now.sources }
     {
         let m = self.source_count();
-        let mut k = 0;
-        while k < m {
+        for k in 0..m {
             if let Err(reason) = self.source_refusal(k) {
                 return Err(reason.at(k));
             }
-            k += 1;
         }
         Ok(())
     }
@@ -127,12 +121,10 @@ impl<'a, S: Segments> SegmentTable<'a, S> {
         ensures { result ≡ true → FineSources self.now }
     {
         let m = self.source_count();
-        let mut k = 0;
-        while k < m {
+        for k in 0..m {
             if !self.is_fine(k) {
                 return false;
             }
-            k += 1;
         }
         true
     }
@@ -153,7 +145,7 @@ impl<'a, S: Segments> SegmentTable<'a, S> {
     }
 
     // 1 to 8, of lengths that fit.
-    #[tactic(auto, unfolding(choice::specs::Choice::when, rules::specs::Rules::front_refusal))]
+    #[tactic(auto, unfolding(conditions::specs::Conditions::when, rules::specs::Rules::front_refusal))]
     fn front_refusal(&self) -> Result<(), Refusal>
         requires { self.now.uneven ≡ false }
         ensures { result ≡ front_of self.now }

@@ -112,7 +112,7 @@ impl<'a, S: Segments> SegmentTable<'a, S> {
 
     // Checks the table: its frame total, or why it is refused. Most tables are accepted: that is asked first. The Rust's check.
     #[inline(always)]
-    #[tactic(auto, unfolding(crate::specs::Steps::FirstWalk))]
+    #[tactic(auto, unfolding(crate::specs::FirstWalk::FirstWalk))]
     pub fn check(&self) -> Result<u64, Refusal>
         ensures { result ≡ check_of self.now }
     {

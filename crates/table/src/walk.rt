@@ -1,9 +1,9 @@
 // 9 to 17: a table's segments, one after another.
 ghost use Rattle.std.specs.Prelude.{◌≡◌, false, ℕ, ◌<◌, length};
 ghost use Rattle.rules.specs.Records.{segment};
-ghost use Rattle.rules.specs.Steps.{turn_of, PassingOf, EndFits, end_before};
+ghost use Rattle.rules.specs.Walks.{turn_of, PassingOf, EndFits, end_before};
 ghost use Rattle.rules.specs.Rules.{check_of};
-ghost use Rattle.table.specs.Steps.{FineFront, Passed, StoppedAt, FirstWalk};
+ghost use Rattle.table.specs.FirstWalk.{FineFront, Passed, StoppedAt, FirstWalk};
 
 use crate::SegmentTable;
 use crate::layout::Segments;
@@ -51,21 +51,19 @@ impl<'a, S: Segments> SegmentTable<'a, S> {
     {
         let m = self.segment_count();
         let mut prev = rules::no_end();
-        let mut k = 0;
-        while k < m {
+        for k in 0..m {
             let next = self.pass(prev, self.segment(k));
             if !next.some {
                 return Err(k);
             }
             prev = next;
-            k += 1;
         }
         Ok(prev.frame)
     }
 
     // Asks whether nothing refuses the table. A function of its own, so that the walk has the registers to itself.
     #[inline(never)]
-    #[tactic(auto, using(crate::proofs::Checks::checks), unfolding(crate::specs::Steps::Passed, crate::specs::Steps::FirstWalk))]
+    #[tactic(auto, using(crate::proofs::Checks::checks), unfolding(crate::specs::FirstWalk::Passed, crate::specs::FirstWalk::FirstWalk))]
     pub(crate) fn first_walk(&self) -> Walked
         ensures { FirstWalk self.now result }
     {
@@ -82,7 +80,7 @@ impl<'a, S: Segments> SegmentTable<'a, S> {
     }
 
     // Checks the segments of a table that none of 1 to 8 refuses, but for 1 of segments.
-    #[tactic(auto, using(crate::proofs::Checks::checks), unfolding(crate::specs::Steps::Passed))]
+    #[tactic(auto, using(crate::proofs::Checks::checks), unfolding(crate::specs::FirstWalk::Passed))]
     pub(crate) fn check_segments(&self) -> Result<u64, Refusal>
         requires even { self.now.uneven ≡ false }
         requires fine { FineFront self.now }

@@ -10,8 +10,8 @@ use Rattle.std.specs.Result.{result_and}
 use Rattle.refusal.specs.declared.Refusal.{Refusal}
 use Rattle.refusal.specs.declared.Reason.TheVariants as reason
 use Rattle.refusal.specs.Refusals.{refused}
-use Rattle.choice.specs.Choice.{when}
-use Rattle.choice.proofs.Tests.{decide}
+use Rattle.conditions.specs.Conditions.{when}
+use Rattle.conditions.proofs.Tests.{decide}
 use Rattle.slices.specs.Slices.{after}
 use Rattle.rows.specs.Lent.{words_of, shifts_of}
 use Rattle.rules.specs.declared.Segment.{Segment}

@@ -7,9 +7,9 @@ use mathlib.Core.List.{List, [], ◌∷◌, map}
 use lib.ListN.{length, get_or, length-map}
 use lib.Dec.{eqb}
 use borrow.Author.Tests.{eq-eqb, ne_eqb, lt-ltb, eqb-true, eqb-false}
-use Rattle.choice.proofs.Sums.{not-past}
-use Rattle.choice.specs.Choice.{when, max_u64}
-use Rattle.choice.proofs.Tests.{decide}
+use Rattle.conditions.proofs.Sums.{not-past}
+use Rattle.conditions.specs.Conditions.{when, max_u64}
+use Rattle.conditions.proofs.Tests.{decide}
 use Rattle.rows.specs.Rows.{ok_shift, ok_row, WellFrom}
 use Rattle.rows.specs.Rows as rows
 use Rattle.rows.proofs.Flat.{rows-flat}

@@ -1,5 +1,7 @@
 -- The words and shifts that `rows_of_table` writes are those of the rows. Assumes nothing.
 use Prim.Native.Nat.{ℕ, ◌+◌, ◌*◌, ◌/◌, ◌≤◌, ◌<◌}
+use Rattle.std.specs.List.{range_with_len}
+use Rattle.std.proofs.lemmas.Simd.{map-map}
 use native.Mathlib.Numerals.{add-one}
 use native.Mathlib.Omega.{arith}
 use mathlib.Core.Path.{◌≡◌, sym, ap, ◌∙◌}
@@ -12,8 +14,7 @@ use Rattle.std.specs.Prelude.{Result, Ok, Err}
 use Rattle.refusal.specs.declared.Refusal.{Refusal}
 use Rattle.refusal.specs.declared.Reason.TheVariants as reason
 use Rattle.refusal.specs.Refusals.{refused}
-use Rattle.choice.specs.Choice.{when}
-use Rattle.choice.proofs.Runs.{map-run}
+use Rattle.conditions.specs.Conditions.{when}
 use Rattle.slices.specs.Slices.{laid}
 use Rattle.slices.proofs.Laid.{set-laid, sets-laid}
 use Rattle.rows.specs.declared.Row.{Row}
@@ -40,7 +41,7 @@ unfolding segments_of
 words-all u t h =
     let n = length u / 5 in
     words-read u (λ k. row_of (segment_at u t k)) (read u t) n (omega arith)
-    ∙ ap words_of (sym (map-run (segment_at u t) row_of 0 n))
+    ∙ ap words_of (sym (map-map row_of (segment_at u t) (range_with_len 0 n)))
 
 -- ---- one more row
 module _ (l : List Segment) (k : ℕ) (h : k < length l) where

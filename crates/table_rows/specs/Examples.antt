@@ -1,6 +1,6 @@
 -- The rows of T of document 01. They are the contract of `worked_examples_hold`.
 use Rattle.std.specs.Prelude.{ℕ, List, [], ◌∷◌, pos}
-use Rattle.choice.specs.Worked.{Worked, is, AllRight}
+use Rattle.examples.specs.Worked.{Worked, is, AllRight}
 use Rattle.rows.specs.declared.Row.{Row}
 use Rattle.table.specs.Examples.{T}
 use Rattle.table_rows.specs.Rows.{rows_of}

@@ -1,7 +1,7 @@
 -- The rows of an accepted table: one a segment, an absent shift as 0; and what `rows_of_table` answers and leaves in the lent room.
 use Rattle.std.specs.Prelude.{ℕ, ◌*◌, Bool, ◌||◌, List, map, ◌≡◌, length, eqb, ltb, ℤ, pos, Result, Ok}
 use Rattle.std.specs.Result.{result_and}
-use Rattle.choice.specs.Choice.{when}
+use Rattle.conditions.specs.Conditions.{when}
 use Rattle.refusal.specs.declared.Refusal.{Refusal}
 use Rattle.refusal.specs.declared.Reason.TheVariants as reason
 use Rattle.refusal.specs.Refusals.{refused}

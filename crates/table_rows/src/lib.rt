@@ -2,7 +2,7 @@
 #![tactic(auto)]
 
 ghost use Rattle.std.specs.Prelude.{◌≡◌, false, map, ◌+◌, ◌*◌, ◌≤◌, length, eqb, pos};
-ghost use Rattle.choice.specs.Choice.{when};
+ghost use Rattle.conditions.specs.Conditions.{when};
 ghost use Rattle.std.proofs.lemmas.List.Edits.{sets};
 ghost use Rattle.slices.specs.Slices.{laid};
 ghost use Rattle.rules.specs.Records.{Table};
@@ -19,7 +19,7 @@ use table::layout::{Rows, Segments, WORDS};
 use table::{SegmentTable, Tabled};
 
 // The shift of a row: an absent one is 0.
-#[tactic(auto, unfolding(choice::specs::Choice::when))]
+#[tactic(auto, unfolding(conditions::specs::Conditions::when))]
 fn shift_of(flag: u64, shift: i64) -> i64
     ensures { result ≡ when (eqb flag 0) (pos 0) shift }
 {
@@ -67,10 +67,8 @@ pub trait RowWords: Segments {
         ensures { out.new ≡ laid (words_of (map row_of (Self.listed self.now))) out.old }
     {
         let n = self.count();
-        let mut k = 0;
-        while k < n {
+        for k in 0..n {
             put_words(out, k, row_of(self.segment(k)));
-            k += 1;
         }
     }
 }
@@ -91,10 +89,8 @@ fn write_shifts<S: Segments>(table: &SegmentTable<'_, S>, os: &mut [i64])
     ensures { os.new ≡ laid (shifts_of (map row_of table.now.segments)) os.old }
 {
     let n = table.segment_count();
-    let mut k = 0;
-    while k < n {
+    for k in 0..n {
         os[k] = row_of(table.segment(k)).shift;
-        k += 1;
     }
 }
 
@@ -140,7 +136,7 @@ pub fn accepted_rows_are_a_map()
 {}
 
 // The definitions give the numbers of specs/Examples.antt.
-#[tactic(auto, unfolding(crate::specs::Rows::rows_of, crate::specs::Rows::row_of, table::specs::Layout::table_of, table::specs::Layout::segments_of, choice::specs::Records::run, choice::specs::Choice::when))]
+#[tactic(auto, unfolding(crate::specs::Rows::rows_of, crate::specs::Rows::row_of, table::specs::Layout::table_of, table::specs::Layout::segments_of, conditions::specs::Conditions::when))]
 pub fn worked_examples_hold()
     ensures { WorkedExamples }
 {}

@@ -1,5 +1,5 @@
 use Rattle.std.proofs.Common.{◌≡◌, ◌-◌}
-use Rattle.choice.specs.Records.{run}
+use Rattle.slices.proofs.Ranges.{run}
 use Rattle.refusal.specs.Refusals.{first_refused}
 use Rattle.rules.specs.Records.{nth}
 use Rattle.judge.specs.Video.{shown_by}
@@ -11,6 +11,3 @@ invariant-loop-k g l =
     let v = shown_by l.video l.starts in
     let segs = l.table.segments in
     first_refused (start_refusal v) l.k (run (nth segs) l.k (l.m - l.k)) ≡ first_refused (start_refusal v) 0 segs
-
-abbrev pub decreases-loop-k : goal.decreases-loop-k
-decreases-loop-k g l = l.m - l.k

@@ -8,4 +8,4 @@ pub returns-in-Constant : goal.returns-in-Constant
 unfolding shown_by
 returns-in-Constant c =
     let r = rates-fit _ c.requires c.in-Constant.is in
-    rw (c.ends_near.ensures, reads c.ranges.us, c.product-mag.ensures, back (pos c.in-Constant.den) (omega arith), c.in-Constant.is)
+    rw (c.ends_near.ensures, reads c.ranges.us, c.product.ensures, back (pos c.in-Constant.den) (omega arith), c.in-Constant.is)

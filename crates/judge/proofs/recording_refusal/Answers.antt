@@ -2,7 +2,7 @@ use Rattle.std.proofs.Common.{◌≡◌, sym, rules}
 use Rattle.std.specs.Prelude.{Ok}
 use borrow.Author.Tests.{ne_eqb}
 use lib.Seq.{length-take-le}
-use Rattle.choice.specs.Choice.{when}
+use Rattle.conditions.specs.Conditions.{when}
 use Rattle.signed.proofs.Bits.{reads, fits-of}
 use Rattle.judge.specs.Video.{shown_by}
 use Rattle.judge.specs.Judge.{times_refusal, recording_refusal}

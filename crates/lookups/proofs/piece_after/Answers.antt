@@ -1,7 +1,7 @@
 use Rattle.std.proofs.Common.{ap, ◌∙◌, arith}
-use Rattle.choice.proofs.Tests.{called}
+use Rattle.conditions.proofs.Tests.{called}
 use Rattle.lookups.specs.declared.Piece.{Piece}
-use Rattle.lookups.specs.Steps.{Covers}
+use Rattle.lookups.specs.Pieces.{Covers}
 use Rattle.lookups.proofs.Pieces.{covers, index-known, hit}
 use Rattle.lookups.proofs.piece_after.Goals as goal
 

@@ -1,9 +1,9 @@
 use Rattle.std.proofs.Common.{◌≡◌, map, set, get_or, sym, ◌∙◌, arith}
-use Rattle.std.proofs.lemmas.List.{length-map}
+use Rattle.std.proofs.lemmas.List.{length-map, get_or-map}
 use Prim.Native.Nat.{zero-le}
 use mathlib.Core.Path.{refl}
-use Rattle.slices.proofs.Lists.{copy_more, map_at}
-use Rattle.lookups.specs.Steps.{index_in}
+use Rattle.slices.proofs.Lists.{copy_more}
+use Rattle.lookups.specs.Pieces.{index_in}
 use Rattle.lookups.proofs.Pieces.{covers}
 use Rattle.lookups.proofs.write_indices.Goals as goal
 
@@ -17,7 +17,7 @@ loop-k-preserved g c =
     let index = index_in v.table.now in
     let n = length-map v.frames.now index in
     let r = c.piece_of-p in
-    let is : r.result.index ≡ get_or (map index v.frames.now) l.k 0 = r.ensures.1 ∙ sym (map_at index v.frames.now l.k 0 0 c.loop-k-test.true) in (
+    let is : r.result.index ≡ get_or (map index v.frames.now) l.k 0 = r.ensures.1 ∙ sym (get_or-map index v.frames.now l.k 0 0 c.loop-k-test.true) in (
       omega arith,
       (λ i. set (l.invariant.1 i) l.k (is i)) ∙ copy_more (map index v.frames.now) v.out.now l.k 0 (omega (arith, n)) (omega (arith, c.requires.room)),
       r.ensures.0,

@@ -1,10 +1,10 @@
 use Rattle.std.proofs.Common.{◌≡◌, ℕ, ◌+◌, ◌-◌, ◌≤◌, ◌<◌, ◌++◌, List, ℤ, length, get_or, set, take, drop, pos, ◌-ℤ◌, arith, sym, ap, ◌∙◌}
+use Rattle.std.specs.List.{AllByRecursion}
 use Rattle.std.proofs.Math.Seq.{take_all}
 use Rattle.std.proofs.Math.ListN.{drop_of_length-le}
 use mathlib.Core.List.{append-nil}
-use Rattle.signed.specs.Steps.{I64}
+use Rattle.signed.specs.Fits.{I64}
 use Rattle.signed.proofs.Bits.{back}
-use Rattle.slices.specs.Slices.{All}
 use Rattle.slices.proofs.Every.{all-at}
 use Rattle.slices.proofs.Lists.{copy_more}
 use Rattle.mcraw.specs.Mcraw.{gaps}
@@ -12,7 +12,7 @@ use Rattle.mcraw.proofs.Gaps.{length-gaps, gap_at}
 use Rattle.mcraw.proofs.write_intervals.Goals as goal
 
 -- the interval before timestamp i fits, where all do
-fits : (ts : List ℤ) (i : ℕ) → 0 < i → i < length ts → All I64 (gaps ts) → I64 (get_or ts i (pos 0) -ℤ get_or ts (i - 1) (pos 0))
+fits : (ts : List ℤ) (i : ℕ) → 0 < i → i < length ts → AllByRecursion I64 (gaps ts) → I64 (get_or ts i (pos 0) -ℤ get_or ts (i - 1) (pos 0))
 fits ts i from inside all = rw (gap_at ts i from inside) at (all-at I64 (gaps ts) (i - 1) (pos 0) all (omega (arith, length-gaps ts)))
 
 -- one more is written

@@ -1,5 +1,5 @@
 use Rattle.std.proofs.Common.{◌-◌, ◌≤◌, arith, sym}
-use Rattle.choice.proofs.Tests.{tf}
+use Rattle.conditions.proofs.Tests.{tf}
 use Rattle.rules.proofs.Fine.{fine-frames, frames-fit, in_source}
 use Rattle.rules.proofs.fine_frames.Goals as goal
 use borrow.Author.Tests.{leb-true, le-leb}

@@ -1,8 +1,8 @@
 use Rattle.std.proofs.Common.{◌≡◌, refl, Bool, false, ◌||◌, ℤ, pos, arith, sym, ◌∙◌}
-use Rattle.choice.proofs.Tests.{called, tf}
+use Rattle.conditions.proofs.Tests.{called, tf}
 use Rattle.signed.proofs.Bits.{read, back}
 use Rattle.rules.specs.Rules.{negative, stamp_times}
-use Rattle.rules.specs.Steps.{out_of_time}
+use Rattle.rules.specs.Walks.{out_of_time}
 use Rattle.rules.proofs.Signs.{Plain, plain}
 use Rattle.rules.proofs.Fine.{frames-fit, passes, stops}
 use Rattle.rules.proofs.pass.Goals as goal
@@ -20,7 +20,7 @@ returns-then-not-fine_shift c =
     let a = c.args in
     let e = a.e.stamps in
     stops a.s a.prev a.e.words e c.no_end-then-not-fine_shift.ensures
-    (λ g z. tf (sym ((rw (back e.shift (omega arith)) at c.fine_shift.ensures.1) (record { flagged = g; within = z.shift })) ∙ c.if-not-fine_shift.true))
+    (λ g z. tf (sym ((rw (back e.shift (omega arith)) at c.fine_shift.ensures.1) (record { flagged = g; allowed = z.shift })) ∙ c.if-not-fine_shift.true))
 
 pub returns-then-any_negative : goal.returns-then-any_negative
 unfolding stamp_times

@@ -1,5 +1,5 @@
 use Rattle.std.proofs.Common.{◌≡◌, ◌-◌, ◌≤◌}
-use Rattle.choice.specs.Records.{run}
+use Rattle.slices.proofs.Ranges.{run}
 use Rattle.refusal.specs.Refusals.{first_refused}
 use Rattle.rules.specs.Rules.{source_refusal}
 use Rattle.table.proofs.Checks.{nth_source}
@@ -10,6 +10,3 @@ invariant-loop-k g l =
     let t = l.self in
     (l.k ≤ l.m)
     × (first_refused (source_refusal t.log t.text) l.k (run (nth_source t.sources) l.k (l.m - l.k)) ≡ first_refused (source_refusal t.log t.text) 0 t.sources)
-
-abbrev pub decreases-loop-k : goal.decreases-loop-k
-decreases-loop-k g l = l.m - l.k

@@ -1,5 +1,5 @@
 use Rattle.std.proofs.Common.{sym}
-use Rattle.choice.proofs.Tests.{called}
+use Rattle.conditions.proofs.Tests.{called}
 use Rattle.rules.proofs.Fine.{front-none}
 use Rattle.table.proofs.SegmentTable.has_fine_front.Goals as goal
 

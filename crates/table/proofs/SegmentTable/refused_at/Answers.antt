@@ -1,4 +1,4 @@
-use Rattle.choice.proofs.Tests.{called}
+use Rattle.conditions.proofs.Tests.{called}
 use Rattle.rules.proofs.Walks.{end-fits}
 use Rattle.table.proofs.Checks.{flag-at, never-goes}
 use Rattle.table.proofs.SegmentTable.refused_at.Goals as goal

@@ -1,7 +1,7 @@
 use Rattle.std.proofs.Common.{ℕ, ◌<◌, length, ap, ◌∙◌, arith}
-use Rattle.rules.specs.Steps.{walked, end_before}
+use Rattle.rules.specs.Walks.{walked, end_before}
 use Rattle.rules.proofs.Walks.{walk_end}
-use Rattle.table.specs.Steps.{Passed, FineAt}
+use Rattle.table.specs.FirstWalk.{Passed, FineAt}
 use Rattle.table.proofs.Checks.{segments-run, fine-more, flags-fine, walk-to}
 use Rattle.table.proofs.SegmentTable.walk.Goals as goal
 use mathlib.Core.Path.{refl}

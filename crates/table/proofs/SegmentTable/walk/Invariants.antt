@@ -1,12 +1,9 @@
-use Rattle.std.proofs.Common.{ℕ, ◌≡◌, ◌-◌, ◌≤◌, ◌<◌}
-use Rattle.rules.specs.Steps.{end_before}
-use Rattle.table.specs.Steps.{FineAt}
+use Rattle.std.proofs.Common.{ℕ, ◌≡◌, ◌≤◌, ◌<◌}
+use Rattle.rules.specs.Walks.{end_before}
+use Rattle.table.specs.FirstWalk.{FineAt}
 use Rattle.table.proofs.SegmentTable.walk.Given as goal
 
 abbrev pub invariant-loop-k : goal.invariant-loop-k
 invariant-loop-k g l =
     let t = l.self in
     (l.k ≤ l.m) × (l.prev ≡ end_before t.segments l.k) × ((j : ℕ) → j < l.k → FineAt t.sources t.segments j)
-
-abbrev pub decreases-loop-k : goal.decreases-loop-k
-decreases-loop-k g l = l.m - l.k

@@ -1,6 +1,6 @@
 -- What the steps inside this crate rest on: of an accepted table, whatever its layout.
 use Rattle.std.specs.Prelude.{ℕ, ◌<◌, ◌≡◌, false, length}
-use Rattle.signed.specs.Steps.{I64}
+use Rattle.signed.specs.Fits.{I64}
 use Rattle.rules.specs.Records.{Table, segment, out_end, out_end_us}
 use Rattle.judge.specs.Judge.{last_segment}
 

@@ -1,10 +1,10 @@
 -- Words of inner contracts: a table in which a frame can be searched for, and one in which a time can. Both are what a check that accepts says of it.
 use Rattle.std.specs.Prelude.{ℕ, ◌+◌, ◌<◌, ◌≡◌, false, pos, nat_abs, length}
-use Rattle.choice.specs.Choice.{max_u64}
+use Rattle.conditions.specs.Conditions.{max_u64}
 use Rattle.rules.specs.declared.Segment.{Segment}
 use Rattle.rules.specs.Limits.{max_i64}
 use Rattle.rules.specs.Records.{Table, segment, out_end, out_end_us}
-use Rattle.rules.specs.Steps.{Ordered}
+use Rattle.rules.specs.Walks.{Ordered}
 
 -- some segments, whose ends never fall, each of which begins where the one before it ends
 pub record Chained (t : Table) : Type 0 where

@@ -1,8 +1,8 @@
 -- Words of inner contracts, here and of the crates above: parts of the chain of Rules, and a segment's turn.
-use Rattle.std.specs.Prelude.{ℕ, zero, suc, ◌+◌, ◌-◌, ◌≤◌, ◌<◌, ◌≡◌, Bool, true, false, not, ◌||◌, List, ltb, leb, eqb, ℤ, nat_abs, length, Result, Ok, Err}
+use Rattle.std.specs.Prelude.{ℕ, zero, suc, ◌+◌, ◌-◌, ◌≤◌, ◌<◌, ◌≡◌, Bool, true, false, not, ◌||◌, List, ltb, leb, eqb, ℤ, nat_abs, length, Result, Ok, Err, map}
+use Rattle.std.specs.List.{range_with_len, count_by}
 use Rattle.std.specs.Result.{result_and}
-use Rattle.choice.specs.Choice.{when, past, max_u64}
-use Rattle.choice.specs.Records.{run}
+use Rattle.conditions.specs.Conditions.{when, past, max_u64}
 use Rattle.refusal.specs.declared.Reason.{Reason}
 use Rattle.refusal.specs.declared.Reason.TheVariants as reason
 use Rattle.refusal.specs.declared.Refusal.{Refusal}
@@ -13,7 +13,6 @@ use Rattle.rules.specs.declared.Ends.{Ends}
 use Rattle.rules.specs.declared.Stamps.{Stamps}
 use Rattle.rules.specs.declared.Segment.{Segment}
 use Rattle.rules.specs.Records.{nth, frame_total}
-use Rattle.rules.specs.Lookups.{count_such}
 use Rattle.rules.specs.Rules.{bad_source, bad_segment, source_refusal, negative, stamp_times, too_late, apart, bad_shift, judged, ends_of, segment_refusal, ends, segments_from, start}
 
 -- 10 to 12, and then the rest
@@ -64,7 +63,7 @@ out_of_time prev srcstart outstart duration srccap outcap capdur =
 -- neither 1 holds of a segment's flag nor 17 of its shift
 pub record FineShift (kind modulus flag : ℕ) (shift : ℤ) : Type 0 where
   pub flagged : ltb 1 flag ≡ false
-  pub within : bad_shift kind modulus flag (negative shift) (nat_abs shift) ≡ false
+  pub allowed : bad_shift kind modulus flag (negative shift) (nat_abs shift) ≡ false
 
 -- a segment of the source s, after one that ends at prev: neither 1 nor any of 10 to 17 holds, and it ends at `to`
 pub record Passes (s : Source) (prev : Ends) (w : Words) (e : Stamps) (to : Ends) : Type 0 where
@@ -94,8 +93,8 @@ PassingOf srcs prev e to = (to.some ≡ true → PassesOf srcs prev e to) × (to
 -- after k of m segments: what is left to walk gives the whole answer, and has the frames that are missing
 pub record Walk (srcs : List Source) (f : ℕ → Segment) (m k : ℕ) (prev : Ends) : Type 0 where
   pub inside : k ≤ m
-  pub same : segments_from srcs k prev (run f k (m - k)) ≡ segments_from srcs 0 start (run f 0 m)
-  pub frames : prev.frame + frame_total (run f k (m - k)) ≡ frame_total (run f 0 m)
+  pub same : segments_from srcs k prev (map f (range_with_len k (m - k))) ≡ segments_from srcs 0 start (map f (range_with_len 0 m))
+  pub frames : prev.frame + frame_total (map f (range_with_len k (m - k))) ≡ frame_total (map f (range_with_len 0 m))
 
 -- where a segment ends, an u64 holds
 pub record EndFits (e : Segment) : Type 0 where
@@ -115,7 +114,7 @@ pub record FineSource (log : Bool) (text : List ℕ) (s : Source) : Type 0 where
 
 -- how many of the ends e 0, .., e (n - 1) are at most v
 unfoldable pub ended_by : (ℕ → ℕ) → ℕ → ℕ → ℕ
-ended_by e n v = count_such (λ k. leb (e k) v) (run (λ k. k) 0 n)
+ended_by e n v = count_by (λ k. leb (e k) v) (map (λ k. k) (range_with_len 0 n))
 
 -- ends of segments: none passes m, and they never fall
 pub record Ordered (e : ℕ → ℕ) (n m : ℕ) : Type 0 where

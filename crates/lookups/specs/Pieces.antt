@@ -1,6 +1,6 @@
 -- Words of the contracts inside this crate: the frames that lie in one segment.
 use Rattle.std.specs.Prelude.{ℕ, ◌+◌, ◌≤◌, ◌<◌, ◌≡◌, eqb, length}
-use Rattle.choice.specs.Choice.{when, max_u64}
+use Rattle.conditions.specs.Conditions.{when, max_u64}
 use Rattle.rules.specs.Lookups.{ended, over_by}
 use Rattle.rules.specs.Records.{Table, segment}
 use Rattle.lookups.specs.declared.Piece.{Piece}

@@ -1,24 +1,24 @@
 -- Words of inner contracts: what the walk finds that only asks whether nothing refuses.
 use Rattle.std.specs.Prelude.{ℕ, ◌<◌, false, List, ◌≡◌, length, Result, Ok, Err}
+use Rattle.std.specs.List.{list_any}
 use Rattle.refusal.specs.declared.Refusal.{Refusal}
 use Rattle.refusal.specs.Refusals.{first_refused}
-use Rattle.choice.specs.Records.{any}
 use Rattle.rules.specs.declared.Source.{Source}
 use Rattle.rules.specs.declared.Segment.{Segment}
 use Rattle.table.specs.declared.walk.Walked.{Walked}
 use Rattle.table.specs.declared.walk.Walked.TheVariants as found
 use Rattle.rules.specs.Records.{Table, nth}
 use Rattle.rules.specs.Rules.{bad_source, bad_segment, source_refusal, segment_refusal, malformed, front_refusal, check_of}
-use Rattle.rules.specs.Steps.{walked, end_before}
+use Rattle.rules.specs.Walks.{walked, end_before}
 
 -- neither 1 nor any of 4 to 7 holds of one of its sources
 pub record FineSources (t : Table) : Type 0 where
-  pub words : any (bad_source (length t.text)) t.sources ≡ false
+  pub words : list_any (bad_source (length t.text)) t.sources ≡ false
   pub none : first_refused (source_refusal t.log t.text) 0 t.sources ≡ Ok tt
 
 -- none of 1 to 8 holds, of lengths that fit, but for 1 of segments
 pub record FineFront (t : Table) : Type 0 where
-  pub words : any (bad_source (length t.text)) t.sources ≡ false
+  pub words : list_any (bad_source (length t.text)) t.sources ≡ false
   pub none : front_refusal t.log t.text t.sources false (length t.segments) ≡ Ok tt
 
 -- 1 to 8
@@ -27,7 +27,7 @@ front_of t = front_refusal t.log t.text t.sources (malformed t) (length t.segmen
 
 -- neither 1, of segments, nor any of 9 to 17 holds, and they have n frames
 pub record FineSegments (srcs : List Source) (segs : List Segment) (n : ℕ) : Type 0 where
-  pub flags : any bad_segment segs ≡ false
+  pub flags : list_any bad_segment segs ≡ false
   pub frames : Ok n ≡ walked srcs segs
 
 -- neither 1 nor any of 9 to 17 holds of segment k

@@ -4,7 +4,6 @@
 use boxes::Place;
 use cases::read::Cursor;
 use cases::{lines, read, say};
-use choice::MAX_U64;
 use refusal::Refusal;
 
 // Whether a part is the one that a place says: those of the bytes, none on a refusal.
@@ -142,7 +141,7 @@ fn main(rt: HostRuntime) {
     let mut input = rt.reader();
     let mut text = [0u8; lines::PIECE];
     let mut l = lines::none();
-    for _ in 0..MAX_U64 {
+    for _ in 0..u64::MAX {
         l = lines::next(&rt, &mut input, &mut text, l);
         if l.done {
             return;

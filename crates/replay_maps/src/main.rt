@@ -5,7 +5,6 @@ mod many;
 
 use cases::read::Cursor;
 use cases::{lent, lines, read, say};
-use choice::MAX_U64;
 use refusal::Refusal;
 
 // The most elements of a list or of lent room.
@@ -166,7 +165,7 @@ fn main(rt: HostRuntime) {
     let mut input = rt.reader();
     let mut text = [0u8; lines::PIECE];
     let mut l = lines::none();
-    for _ in 0..MAX_U64 {
+    for _ in 0..u64::MAX {
         l = lines::next(&rt, &mut input, &mut text, l);
         if l.done {
             return;

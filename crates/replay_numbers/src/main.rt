@@ -3,7 +3,6 @@
 
 use cases::read::Cursor;
 use cases::{lines, read, say};
-use choice::MAX_U64;
 
 // is_utc_second BYTES
 fn is_utc_second(rt: &impl Print, line: &[u8], c: Cursor) {
@@ -51,7 +50,7 @@ fn main(rt: HostRuntime) {
     let mut input = rt.reader();
     let mut text = [0u8; lines::PIECE];
     let mut l = lines::none();
-    for _ in 0..MAX_U64 {
+    for _ in 0..u64::MAX {
         l = lines::next(&rt, &mut input, &mut text, l);
         if l.done {
             return;

@@ -2,7 +2,7 @@
 ghost use Rattle.std.specs.Prelude.{◌≡◌, ◌+◌, ◌*◌, ◌≤◌, length, take};
 ghost use Rattle.table.specs.Layout.{segment_words, segment_stamps, words_at, stamps_at};
 ghost use Rattle.records.specs.Records.{locate};
-ghost use Rattle.records.specs.Steps.{stamps_of};
+ghost use Rattle.records.specs.Segments.{stamps_of};
 ghost use Rattle.replay_table.specs.Listed.{HasWords};
 
 use crate::found::say_found;

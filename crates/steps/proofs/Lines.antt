@@ -9,8 +9,8 @@ use lib.ListN.{length, get_or, drop}
 use lib.Seq.{drop-cons}
 use borrow.Author.Tests.{le-ltb, lt-leb}
 use lib.Dec.{eqb}
-use Rattle.choice.specs.Choice.{max_u64}
-use Rattle.choice.proofs.Tests.{decide}
+use Rattle.conditions.specs.Conditions.{max_u64}
+use Rattle.conditions.proofs.Tests.{decide}
 use Rattle.steps.specs.declared.Number.TheVariants.{Not}
 use Rattle.steps.specs.Words.{same_as}
 use Rattle.steps.specs.Numbers.{digit_of, number_from, overs_of, number_in}

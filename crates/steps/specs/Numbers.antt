@@ -1,10 +1,7 @@
 -- Words as numbers: decimal digits, and `-` before them where a number may be below 0.
-use Rattle.std.specs.Prelude.{ℕ, ◌+◌, ◌-◌, ◌*◌, Bool, true, false, List, [], ◌∷◌, ltb, leb, eqb, if◌then◌else◌}
-use Rattle.choice.specs.Choice.{max_u64}
-use Rattle.signed.specs.Signed.{within}
-use Rattle.signed.specs.declared.Held.{Held}
-use Rattle.signed.specs.declared.Held.TheVariants as held
-use Rattle.signed.specs.Steps.{with_sign}
+use Rattle.std.specs.Prelude.{ℕ, ◌+◌, ◌-◌, ◌*◌, Bool, true, false, List, [], ◌∷◌, ltb, leb, eqb, if◌then◌else◌, ℤ, Option, Some, None}
+use Rattle.conditions.specs.Conditions.{max_u64}
+use Rattle.signed.specs.Signed.{as_i64, with_sign}
 use Rattle.steps.specs.declared.Number.{Number}
 use Rattle.steps.specs.declared.Number.TheVariants.{Is, Large, Not}
 use Rattle.steps.specs.declared.Integer.{Integer}
@@ -29,15 +26,16 @@ unfoldable pub number_in : List ℕ → Number
 number_in [] = Not
 number_in (b ∷ l) = number_from 0 (b ∷ l)
 
--- a number with a sign, true for below 0
-abbrev pub held_as : Held → Integer
-held_as (held.Is z) = integer.Is z
-held_as held.Outside = integer.Large
+-- a number that an i64 may hold
+abbrev pub as_integer : Option ℤ → Integer
+as_integer (Some z) = integer.Is z
+as_integer None = integer.Large
 
+-- a number with a sign, true for below 0
 abbrev pub signed_as : Bool → Number → Integer
-signed_as neg (Is m) = held_as (within (with_sign neg m))
-signed_as neg Large = integer.Large
-signed_as neg Not = integer.Not
+signed_as negative (Is m) = as_integer (as_i64 (with_sign negative m))
+signed_as negative Large = integer.Large
+signed_as negative Not = integer.Not
 
 -- a word as a signed number
 unfoldable pub integer_in : List ℕ → Integer

@@ -1,6 +1,6 @@
 -- What a line asks for.
 use Rattle.std.specs.Prelude.{ℕ, Bool, not, List, [], ◌∷◌, eqb, ℤ, pos, length}
-use Rattle.choice.specs.Choice.{when}
+use Rattle.conditions.specs.Conditions.{when}
 use Rattle.steps.specs.declared.Number.{Number}
 use Rattle.steps.specs.declared.Number.TheVariants as number
 use Rattle.steps.specs.declared.Integer.{Integer}

@@ -7,9 +7,6 @@ ghost use Rattle.steps.specs.Words.{passing, leading_of, same_as, code_of, trimm
 ghost use Rattle.steps.specs.Numbers.{digit_of, overs_of, number_in, signed_as, integer_in};
 ghost use Rattle.steps.specs.Steps.{ended_by, row_shift, row_count, row_first, row_source, cut_end, cut_start, origin_frame, keyword_in, step_in, step_of};
 
-use choice::MAX_U64;
-use signed::Held;
-
 // Kinds of bytes: blanks between words, bytes of words, bytes before a comment.
 #[derive(Clone, Copy)]
 enum Kind {
@@ -184,7 +181,7 @@ pub fn number_of(l: &[u8]) -> Number
             return Number::Not;
         }
         i += 1;
-        if (MAX_U64 - d) / 10 < n {
+        if (u64::MAX - d) / 10 < n {
             return overs(l, i);
         }
         n = 10 * n + d;
@@ -193,13 +190,13 @@ pub fn number_of(l: &[u8]) -> Number
 }
 
 // A number with a sign.
-fn with_sign(neg: bool, n: Number) -> Integer
-    ensures { result ≡ signed_as neg n }
+fn with_sign(negative: bool, n: Number) -> Integer
+    ensures { result ≡ signed_as negative n }
 {
     match n {
-        Number::Is(m) => match signed::with_sign(neg, m) {
-            Held::Is(z) => Integer::Is(z),
-            Held::Outside => Integer::Large,
+        Number::Is(m) => match signed::with_sign(negative, m) {
+            Some(z) => Integer::Is(z),
+            None => Integer::Large,
         },
         Number::Large => Integer::Large,
         Number::Not => Integer::Not,
@@ -220,7 +217,7 @@ pub fn integer_of(l: &[u8]) -> Integer
 }
 
 // A step that nothing may follow.
-#[tactic(auto, unfolding(crate::specs::Steps::ended_by, choice::specs::Choice::when))]
+#[tactic(auto, unfolding(crate::specs::Steps::ended_by, conditions::specs::Conditions::when))]
 fn ended(s: Step, l: &[u8]) -> Step
     ensures { result ≡ ended_by s l.now }
 {
@@ -231,7 +228,7 @@ fn ended(s: Step, l: &[u8]) -> Step
 }
 
 // The shift of a row, if it has one.
-#[tactic(auto, unfolding(crate::specs::Steps::row_shift, choice::specs::Choice::when))]
+#[tactic(auto, unfolding(crate::specs::Steps::row_shift, conditions::specs::Conditions::when))]
 fn row_shift(source: u64, first: u64, count: u64, l: &[u8]) -> Step
     ensures { result ≡ row_shift source first count l.now }
 {
@@ -323,7 +320,7 @@ fn origin_frame(l: &[u8]) -> Step
 }
 
 // Which word begins a step.
-#[tactic(auto, unfolding(crate::specs::Steps::keyword_in, choice::specs::Choice::when))]
+#[tactic(auto, unfolding(crate::specs::Steps::keyword_in, conditions::specs::Conditions::when))]
 fn keyword_of(w: &[u8]) -> Keyword
     ensures { result ≡ keyword_in w.now }
 {

@@ -21,7 +21,7 @@ const FILE_BYTES: usize = 65_536;
 // How many rows the map has, how many the second map of a join, and whether a join waits for its rows.
 #[derive(Clone, Copy)]
 struct Held {
-    rows: usize,
+    count: usize,
     second: usize,
     joining: bool,
 }
@@ -85,7 +85,7 @@ fn add(
 
 // A join that waits for its rows is made.
 fn settle(rt: &impl Print, h: Held, u: &mut [u64], s: &mut [i64], v: &[u64], t: &[i64]) -> Held {
-    let rows = h.rows;
+    let count = h.count;
     let second = h.second;
     if !h.joining {
         return h;
@@ -94,16 +94,16 @@ fn settle(rt: &impl Print, h: Held, u: &mut [u64], s: &mut [i64], v: &[u64], t: 
     let mut ou = [0u64; 5120];
     let mut os = [0i64; 1024];
     let both = maps::join(
-        maptext::words(u, rows),
-        maptext::shifts(s, rows),
+        maptext::words(u, count),
+        maptext::shifts(s, count),
         maptext::words(v, second),
         maptext::shifts(t, second),
         &mut ou,
         &mut os,
     );
-    let k = keep(rt, both, rows, &ou, &os, u, s);
+    let k = keep(rt, both, count, &ou, &os, u, s);
     Held {
-        rows: k,
+        count: k,
         second: 0,
         joining: false,
     }
@@ -137,60 +137,60 @@ fn do_row(
     v: &mut [u64],
     t: &mut [i64],
 ) -> Held {
-    let rows = h.rows;
+    let count = h.count;
     let second = h.second;
     if h.joining {
         let k = add(rt, second, row, shift, v, t);
         return Held {
-            rows: rows,
+            count,
             second: k,
             joining: true,
         };
     }
-    let k = add(rt, rows, row, shift, u, s);
+    let k = add(rt, count, row, shift, u, s);
     Held {
-        rows: k,
+        count: k,
         second: 0,
         joining: false,
     }
 }
 
 // The map is cut.
-fn do_cut(rt: &impl Print, rows: usize, a: u64, b: u64, u: &mut [u64], s: &mut [i64]) -> Held {
+fn do_cut(rt: &impl Print, count: usize, a: u64, b: u64, u: &mut [u64], s: &mut [i64]) -> Held {
     let mut ou = [0u64; 5120];
     let mut os = [0i64; 1024];
     head(rt, b"cut ", a, b);
     printing::text(rt, b":\n");
     let part = maps::cut(
-        maptext::words(u, rows),
-        maptext::shifts(s, rows),
+        maptext::words(u, count),
+        maptext::shifts(s, count),
         a,
         b,
         &mut ou,
         &mut os,
     );
-    let k = keep(rt, part, rows, &ou, &os, u, s);
+    let k = keep(rt, part, count, &ou, &os, u, s);
     Held {
-        rows: k,
+        count: k,
         second: 0,
         joining: false,
     }
 }
 
 // The map is merged.
-fn do_merge(rt: &impl Print, rows: usize, u: &mut [u64], s: &mut [i64]) -> Held {
+fn do_merge(rt: &impl Print, count: usize, u: &mut [u64], s: &mut [i64]) -> Held {
     let mut ou = [0u64; 5120];
     let mut os = [0i64; 1024];
     printing::text(rt, b"merge:\n");
     let merged = maps::merge(
-        maptext::words(u, rows),
-        maptext::shifts(s, rows),
+        maptext::words(u, count),
+        maptext::shifts(s, count),
         &mut ou,
         &mut os,
     );
-    let k = keep(rt, merged, rows, &ou, &os, u, s);
+    let k = keep(rt, merged, count, &ou, &os, u, s);
     Held {
-        rows: k,
+        count: k,
         second: 0,
         joining: false,
     }
@@ -198,19 +198,19 @@ fn do_merge(rt: &impl Print, rows: usize, u: &mut [u64], s: &mut [i64]) -> Held 
 
 // A step other than a row, on a map that no join waits for.
 fn do_step(rt: &impl Print, h: Held, step: Step, u: &mut [u64], s: &mut [i64]) -> Held {
-    let rows = h.rows;
+    let count = h.count;
     match step {
-        Step::Cut(a, b) => do_cut(rt, rows, a, b, u, s),
-        Step::Merge => do_merge(rt, rows, u, s),
+        Step::Cut(a, b) => do_cut(rt, count, a, b, u, s),
+        Step::Merge => do_merge(rt, count, u, s),
         Step::Origin(frame) => {
-            let origin = maps::origin(maptext::words(u, rows), maptext::shifts(s, rows), frame);
+            let origin = maps::origin(maptext::words(u, count), maptext::shifts(s, count), frame);
             maptext::say_origin(rt, frame, origin);
             h
         }
         Step::Join => {
             printing::text(rt, b"join:\n");
             Held {
-                rows: rows,
+                count,
                 second: 0,
                 joining: true,
             }
@@ -295,7 +295,7 @@ fn run(
     ensures { result ≤ length text.now }
 {
     let mut h = Held {
-        rows: 0,
+        count: 0,
         second: 0,
         joining: false,
     };

@@ -1,8 +1,8 @@
 -- What "to the nearest", "most frequent" and "ascending" mean: by ticks' and order's laws of the definitions. Assumes nothing.
 use Prim.Native.Nat.{ℕ, ◌+◌, ◌*◌, ◌≤◌, ◌<◌}
+use Rattle.std.specs.Ordering.{int_eq}
 use mathlib.Core.Path.{sym, subst}
 use lib.IntN.{ℤ}
-use Rattle.signed.specs.Signed.{eq_z}
 use Rattle.ticks.proofs.Nearest.{nearest-near, nearest-only, rounded-negated}
 use Rattle.order.specs.Order.{MostFrequent}
 use Rattle.order.proofs.Sorted.{asc-sorted}
@@ -23,5 +23,5 @@ pub ordering : Ordering
 ordering = record {
   most = λ l v h. (λ e. subst (MostFrequent l) (sym e) (mode-is l h), only-mode l v);
   ascends = asc-sorted;
-  keeps = λ v l. count-sorted (λ (x : ℤ). eq_z x v) l;
+  keeps = λ v l. count-sorted (λ (x : ℤ). int_eq x v) l;
 }

@@ -1,5 +1,6 @@
 -- An accepted table's rows tile its frames, and each frame has one origin: by the theorems of table_rows, rows and maps. Assumes nothing.
 use Prim.Native.Nat.{ℕ, ◌+◌, ◌-◌, ◌*◌, ◌≤◌, ◌<◌}
+use Rattle.std.proofs.lemmas.List.FromFn.{get_or-map-range_with_len}
 use native.Mathlib.Nat.{zero-add}
 use native.Mathlib.Omega.{arith}
 use mathlib.Core.List.{List}
@@ -10,8 +11,7 @@ use lib.ListN.{length, take, drop, get_or, get_or-map}
 use lib.Seq.{take_at}
 use lib.Dec.{ltb}
 use borrow.Author.Tests.{le-ltb}
-use Rattle.choice.specs.Choice.{when}
-use Rattle.choice.proofs.Runs.{get_d-run}
+use Rattle.conditions.specs.Conditions.{when}
 use Rattle.std.specs.Prelude.{Result, Ok}
 use Rattle.std.specs.Result.{result_and}
 use Rattle.refusal.specs.declared.Refusal.{Refusal}
@@ -103,7 +103,7 @@ module _ (by : Theorems) (t : Table) (N k f i : ℕ) (ou ou' : List ℕ) (os os'
   row_is : row_at (take (5 * k) ou') (take k os') i ≡ row_of (segment t i)
   unfolding rows_of
   row_is =
-      sym (get_d-run (row_at (take (5 * k) ou') (take k os')) 0 (length (take k os')) i (row_of no_segment) inside ∙ ap (row_at (take (5 * k) ou') (take k os')) (zero-add i))
+      sym (get_or-map-range_with_len (row_at (take (5 * k) ou') (take k os')) 0 (length (take k os')) i _ (row_of no_segment) inside refl ∙ ap (row_at (take (5 * k) ou') (take k os')) (zero-add i))
       ∙ ap (λ (x : List Row). get_or x i (row_of no_segment)) (is by t N k ou ou' os os' c p)
       ∙ get_or-map row_of t.segments i no_segment
 

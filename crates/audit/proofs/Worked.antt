@@ -1,32 +1,31 @@
 -- The numbers, by computation. Assumes nothing.
 use Prim.Native.Nat.{ℕ, ◌*◌, ◌<◌}
+use Rattle.std.specs.List.{AllByRecursion}
 use native.Mathlib.Omega.{arith}
 use mathlib.Core.List.{List}
 use mathlib.Core.Path.{◌≡◌, refl, sym, ◌∙◌, ap, ap₂, subst}
 use lib.IntN.{ℤ}
 use lib.ListN.{take, length}
-use Rattle.choice.specs.Choice.{when, past}
-use Rattle.choice.specs.Records.{run, any}
+use Rattle.conditions.specs.Conditions.{when, past}
 use Rattle.std.specs.Prelude.{Result}
 use Rattle.refusal.specs.declared.Refusal.{Refusal}
 use Rattle.refusal.specs.Refusals.{first_refused}
-use Rattle.slices.specs.Slices.{All, laid}
+use Rattle.slices.specs.Slices.{laid}
 use Rattle.rows.specs.declared.Row.{Row}
 use Rattle.rows.specs.Lent.{rows}
 use Rattle.utc.specs.Utc.{two, days, utc_bytes, utc_second}
 use Rattle.ticks.specs.Ticks.{micros_of, us_of, ticks_to_us, ends_near, media_ticks}
-use Rattle.signed.specs.Signed.{of_bits}
-use Rattle.order.specs.Order.{insert, sorted, count_by, taken_first, mode}
+use Rattle.order.specs.Order.{insert, sorted, taken_first, mode}
 use Rattle.boxes.specs.Boxes.{fitting_in, size_of, header_at, boxes_from, boxes_at, first_such}
 use Rattle.boxes.specs.Tracks.{is_video, is_video_track}
-use Rattle.tracks.specs.Tables.{timescale, table_rows, optional_rows, entries_from, entry_total as entriesTotal, per_frame}
+use Rattle.tracks.specs.Tables.{timescale, table_entries, optional_entries, entries_from, entry_total as entriesTotal, per_frame}
 use Rattle.tracks.specs.Edits.{entry_at, kept_entry, two_entries, edit_of_entries, elst_of, edit_of}
 use Rattle.frame_times.specs.Frames.{frames_from, kept, last_of}
 use Rattle.frame_times.specs.Times.{placed, shown, of_kept, of_tables, of_media, of_track, times_of_moov as moov_times}
 use Rattle.rules.specs.declared.Words.{Words}
 use Rattle.rules.specs.Records.{Table, no_source, no_segment, segment, frame_total}
 use Rattle.rules.specs.Rules.{bad_source, bad_segment, malformed, source_refusal, stamp_times, judged, segment_refusal, start, ends_of, ends, segments_from, front_refusal, refusal, check_of}
-use Rattle.rules.specs.Lookups.{count_such, ended, segment_of_frame, segment_of_time}
+use Rattle.rules.specs.Lookups.{ended, segment_of_frame, segment_of_time}
 use Rattle.table.specs.Layout.{sources_of, segments_of, table_of}
 use Rattle.table_rows.specs.Rows.{row_of, rows_of, rows_refusal}
 use Rattle.lookups.specs.Indices.{indices_of, indices_refusal}
@@ -60,6 +59,6 @@ alone {t} {u} p q e = record {
     at : (k : ℕ) → k < length t.segments → (segment t k).words ≡ (segment u k).words
     at k h = subst (λ (j : ℕ). (segment t j).words ≡ (segment u j).words) (omega (arith, p)) e
 
-pub all_hold : All Holds examples
-unfolding when past run any first_refused two days utc_bytes utc_second micros_of us_of ticks_to_us ends_near starts_at start_refusal video_refusal validate_of single recording_refusal check_mcraw shown_by media_ticks of_bits insert sorted count_by taken_first mode fitting_in size_of header_at boxes_from boxes_at first_such is_video is_video_track timescale table_rows optional_rows entries_from entriesTotal per_frame entry_at kept_entry two_entries edit_of_entries elst_of edit_of frames_from kept last_of placed shown of_kept of_tables of_media of_track moov_times no_source no_segment frame_total bad_source bad_segment malformed source_refusal stamp_times judged segment_refusal start ends_of ends segments_from front_refusal refusal check_of count_such ended segment_of_frame segment_of_time sources_of segments_of table_of row_of rows_of rows_refusal first_bad map_refusal room_refusal cut_refusal join_refusal merge_refusal origin_refusal indices_of indices_refusal cuts_of concat range_refusal ranges_refusal cuts_refusal gaps starts_of span nominal end fall_of refusal_of times_of mcraw_times starts_written
+pub all_hold : AllByRecursion Holds examples
+unfolding when past first_refused two days utc_bytes utc_second micros_of us_of ticks_to_us ends_near starts_at start_refusal video_refusal validate_of single recording_refusal check_mcraw shown_by media_ticks insert sorted taken_first mode fitting_in size_of header_at boxes_from boxes_at first_such is_video is_video_track timescale table_entries optional_entries entries_from entriesTotal per_frame entry_at kept_entry two_entries edit_of_entries elst_of edit_of frames_from kept last_of placed shown of_kept of_tables of_media of_track moov_times no_source no_segment frame_total bad_source bad_segment malformed source_refusal stamp_times judged segment_refusal start ends_of ends segments_from front_refusal refusal check_of ended segment_of_frame segment_of_time sources_of segments_of table_of row_of rows_of rows_refusal first_bad map_refusal room_refusal cut_refusal join_refusal merge_refusal origin_refusal indices_of indices_refusal cuts_of concat range_refusal ranges_refusal cuts_refusal gaps starts_of span nominal end fall_of refusal_of times_of mcraw_times starts_written
 all_hold = (λ r p. p, (λ r p. p, (λ r p. p, (λ r p. p, (λ r p. p, (λ r p. p, (λ r p. p, (λ r p. p, (λ r p. p, (λ r p. p, (λ r p. p, (λ r p. p, (λ r p. p, (λ r p. p, (λ r p. p, (λ r p. p, (λ r p. p, (λ r p. p, (λ r p. p, (λ r p. p, (λ r ou os p. (p.answer, wrote 2 _ p.words p.shifts refl), (λ r ou os p. (p.answer, wrote 2 _ p.words p.shifts refl), (λ r ou os p. (p.answer, wrote 2 _ p.words p.shifts refl), (λ r ou os p. (p.answer, wrote 2 _ p.words p.shifts refl), (λ r starts' a' b' p. (p.answer, p.starts), (λ r starts' a' b' p. (p.answer, p.starts), (λ r starts' a' b' p. (p.answer, p.starts), (λ r starts' a' b' p. (p.answer, p.starts), (λ r starts' work' p. (p.answer, started p), (λ r p. p, (λ r p. p, (λ r ou os p. (p.answer, wrote 3 _ p.words p.shifts refl), (λ r ou os p. (p.answer, wrote 3 _ p.words p.shifts refl), (λ r ou os p. (p.answer, wrote 3 _ p.words p.shifts refl), (λ r ou os p. (p.answer, wrote 3 _ p.words p.shifts refl), (λ r p. p, (λ r p. p, (λ r p. p, (λ r ou os p. (p.answer, wrote 2 _ p.words p.shifts refl), (λ r ou os p. (p.answer, wrote 2 _ p.words p.shifts refl), (λ r ou os p. (p.answer, wrote 4 _ p.words p.shifts refl), (λ r ou os p. (p.answer, wrote 3 _ p.words p.shifts refl), (λ r ou os p. (p.answer, wrote 2 _ p.words p.shifts refl), (λ r ou os p. (p.answer, wrote 1 _ p.words p.shifts refl), (λ r ou os p. (p.answer, wrote 2 _ p.words p.shifts refl), (λ r ou os p. (p.answer, wrote 2 _ p.words p.shifts refl), (((λ r p. p), (λ r p. p), alone refl refl refl, refl, refl), (((λ r p. p), (λ r p. p), alone refl refl refl, refl, refl), (((λ r p. p), (λ r p. p), alone refl refl refl, refl, refl), (λ r a b p. p.answer, (λ r a b p. p.answer, (λ r out p. (p.answer, p.indices), (λ r out p. (p.answer, p.indices), (λ r out p. (p.answer, p.indices), (λ r starts' a' b' p. (p.answer, p.starts), (λ r starts' a' b' p. (p.answer, p.starts), (λ r starts' a' b' p. (p.answer, p.starts), (λ r starts' a' b' p. (p.answer, p.starts), (λ r starts' a' b' p. (p.answer, p.starts), (λ r starts' a' b' p. (p.answer, p.starts), (λ r starts' a' b' p. (p.answer, p.starts), (λ r starts' a' b' p. (p.answer, p.starts), (λ r starts' a' b' p. (p.answer, p.starts), (λ r starts' a' b' p. (p.answer, p.starts), (λ r ou os cs p. (p.placed.answer, wrote 4 _ p.placed.words p.placed.shifts refl, p.counted), (λ r ou os cs p. (p.placed.answer, wrote 3 _ p.placed.words p.placed.shifts refl, p.counted), (λ r ou os cs p. (p.placed.answer, wrote 0 _ p.placed.words p.placed.shifts refl, p.counted), (λ r ou os cs p. p.placed.answer, (λ r ou os cs p. p.placed.answer, (λ r ou os cs p. p.placed.answer, tt))))))))))))))))))))))))))))))))))))))))))))))))))))))))))))))))))))))

@@ -3,6 +3,7 @@
 -- slices so. What holds of all such answers holds of every run, since the check proves that a run keeps its promise: Promised.antt says in which form. No
 -- proof need be read; which calls have that theorem, Quoted.antt and FaceQuoted.antt in proofs/ say.
 use Rattle.std.specs.Prelude.{ℕ, ◌+◌, ◌-◌, ◌*◌, ◌≤◌, ◌<◌, Bool, true, false, List, [], ◌↔◌, ◌≡◌, ℤ, neg_ℤ, length, get_or, take, drop, Result, Ok}
+use Rattle.std.specs.List.{AllByRecursion}
 use Rattle.std.specs.Borrow.{Bor}
 use Rattle.std.specs.Result.{result_ok}
 use Rattle.refusal.specs.declared.Reason.{Reason}
@@ -10,7 +11,6 @@ use Rattle.refusal.specs.declared.Reason.TheVariants as reason
 use Rattle.refusal.specs.declared.Refusal.{Refusal}
 use Rattle.refusal.specs.Reasons.{number}
 use Rattle.refusal.specs.Refusals.{refused}
-use Rattle.slices.specs.Slices.{All}
 use Rattle.signed.specs.Rounded.{nearest, rounded}
 use Rattle.utc.specs.Utc.{utc_second}
 use Rattle.ticks.specs.declared.FrameTimes.{FrameTimes}
@@ -352,4 +352,4 @@ pub record Claims : Type 0 where
   pub ordering : Ordering
   pub ignored : Ignored
   -- 7. THE STARRED NUMBERS of document 01, the auditor's clip, those of document 02's n, a, g and d, and some of many cuts. (Demands 2 and 3.)
-  pub worked : All Holds examples
+  pub worked : AllByRecursion Holds examples

@@ -1,22 +1,22 @@
-//! A fixed list of cases with their answers, for programs that read the cases from standard input and print.
+//! A fixed list of cases with their answers: the stored run of the program `replay`, which reads files of cases and prints.
 
 use std::{ collections::BTreeMap, fs, io, path::Path, process::exit };
 use crate::{ case::{ Answer, Call, Case, Part }, comparison, document, generate::{ self, tables }, random::Random, rust::{ self, Said, Way }, text };
 
-/// The programs, and the calls that each of them is given
-const PROGRAMS: [(&str, &[Call]); 6] = [
-    ("replay_numbers", &[Call::IsUtcSecond, Call::TicksToUs]),
-    ("replay_table", &[Call::Check, Call::SegmentOfFrame, Call::SegmentOfTimeUs, Call::Continues, Call::RowsOfTable, Call::SegmentOfFrameRecords, Call::SegmentsOfFrames]),
-    ("replay_judge", &[Call::ValidateNoVideo, Call::ValidateConstant, Call::ValidateTimes, Call::CheckMcraw]),
-    ("replay_boxes", &[Call::BoxSize, Call::Child, Call::FindBox, Call::TableText, Call::Children]),
-    ("replay_times", &[Call::VideoFrameTimesOfMoov, Call::McrawTimes]),
-    ("replay_maps", &[Call::Cut, Call::Join, Call::Merge, Call::Origin, Call::Cuts]),
+/// The files, in the order in which they are answered, and the calls of each
+const FILES: [(&str, &[Call]); 6] = [
+    ("numbers", &[Call::IsUtcSecond, Call::TicksToUs]),
+    ("boxes", &[Call::BoxSize, Call::Child, Call::FindBox, Call::TableText, Call::Children]),
+    ("maps", &[Call::Cut, Call::Join, Call::Merge, Call::Origin, Call::Cuts]),
+    ("times", &[Call::VideoFrameTimesOfMoov, Call::McrawTimes]),
+    ("table", &[Call::Check, Call::SegmentOfFrame, Call::SegmentOfTimeUs, Call::Continues, Call::RowsOfTable, Call::SegmentOfFrameRecords, Call::SegmentsOfFrames]),
+    ("judge", &[Call::ValidateNoVideo, Call::ValidateConstant, Call::ValidateTimes, Call::CheckMcraw]),
 ];
 
 const SEED: u64 = 9;
 /// The longest line, by characters; those of a moov, and of a table with a source too many, may be longer
 const LINE: usize = 600;
-/// The most words, bytes and rows that a program must have room for
+/// The most words, bytes and sources' words of a stored case
 const WORDS: usize = 64;
 const BYTES: usize = 512;
 const SOURCES: usize = 650;
@@ -35,7 +35,7 @@ fn wanted(call: Call, way: Option<Way>) -> (usize, usize) {
     }
 }
 
-/// Whether a case is small enough for a program's arrays
+/// Whether a case is small enough to be stored
 fn fits(case: &Case) -> bool {
     case.clone().parts().iter().all(|part| match part {
         Part::Room(room) => **room <= WORDS,
@@ -51,22 +51,26 @@ fn fits(case: &Case) -> bool {
     })
 }
 
-/// Writes FOLDER/PROGRAM/stdin and stdout for each program, and prints how much there is of each
+/// Writes FOLDER/data/FILE of each file, their names to FOLDER/args and all answers, file after file, to FOLDER/stdout, and prints
+/// how much there is of each
 pub fn write(folder: &Path) -> io::Result<()> {
-    for (program, calls) in PROGRAMS {
+    let data = folder.join("data");
+    fs::create_dir_all(&data)?;
+    let (mut names, mut stdout) = (String::new(), String::new());
+    for (name, calls) in FILES {
         let (mut cases, mut answers, mut rust) = (String::new(), String::new(), 0);
         for (case, answer, by_rust) in calls.iter().flat_map(|call| chosen(*call)) {
             cases += &(case + "\n");
             answers += &(answer + "\n");
             rust += by_rust as usize;
         }
-        let folder = folder.join(program);
-        fs::create_dir_all(&folder)?;
-        fs::write(folder.join("stdin"), &cases)?;
-        fs::write(folder.join("stdout"), &answers)?;
-        println!("{program}: {} cases, {rust} answered so by the Rust, {} bytes in, {} bytes out", cases.lines().count(), cases.len(), answers.len());
+        fs::write(data.join(name), &cases)?;
+        println!("{name}: {} cases, {rust} answered so by the Rust, {} bytes in, {} bytes out", cases.lines().count(), cases.len(), answers.len());
+        names += &(name.to_owned() + "\n");
+        stdout += &answers;
     }
-    Ok(())
+    fs::write(folder.join("args"), names)?;
+    fs::write(folder.join("stdout"), stdout)
 }
 
 /// Whether the Rust answers a case so

@@ -42,7 +42,7 @@ const ROOM: usize = 4096;
 /// times are to be had of it, or 36 where a broken header hides a box that is needed, with its offset in the payload; 33.
 ///
 /// ```
-/// let file = std::fs::read("../../crates/frametimes_m1/stdin").unwrap();
+/// let file = std::fs::read("../../crates/frametimes_files/data/m1").unwrap();
 /// let moov = segment_table::find_box(&file, 0..file.len() as u64, *b"moov", false)?;
 /// let times = segment_table::video_frame_times_of_moov(moov, true)?;
 /// assert_eq!((times.scale, times.nominal, times.end, times.starts), (100, 10, 50, vec![10, 20, 40]));
@@ -57,7 +57,7 @@ const ROOM: usize = 4096;
 /// the same where no offset of version 0 has its top bit set. Of this time-lapse all have, as they are 2.4 seconds in nanoseconds:
 ///
 /// ```
-/// let file = std::fs::read("../../crates/frametimes_lapse/stdin").unwrap();
+/// let file = std::fs::read("../../crates/frametimes_files/data/lapse").unwrap();
 /// let moov = segment_table::find_box(&file, 0..file.len() as u64, *b"moov", false)?;
 /// let times = segment_table::video_frame_times_of_moov(moov, true)?;
 /// assert_eq!(times.starts, [2_400_000_000, 2_900_000_000, 3_400_000_000]);

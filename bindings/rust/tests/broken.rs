@@ -15,7 +15,7 @@ mod broken;
 const NO_MOOV: &str = "refused 31, no moov";
 const NO_TIMES: &str = "refused 31, no frame times in the moov";
 
-fn stored(name: &str) -> Vec<u8> { fs::read(format!("../../crates/{name}/stdin")).unwrap() }
+fn stored(name: &str) -> Vec<u8> { fs::read(format!("../../crates/frametimes_files/data/{name}")).unwrap() }
 
 /// A file that is removed again, also where its test fails
 struct Temporary(PathBuf);
@@ -43,9 +43,9 @@ fn said(name: &str, bytes: &[u8]) -> (String, bool) {
 
 #[test]
 fn stored_files() {
-    assert_eq!(said("m1", &stored("frametimes_m1")), ("3 frames, timescale 100, end 50".into(), true));
-    assert_eq!(said("31", &stored("frametimes_31")), (NO_MOOV.into(), false));
-    let (said, has_times) = said("36", &stored("frametimes_36"));
+    assert_eq!(said("m1", &stored("m1")), ("3 frames, timescale 100, end 50".into(), true));
+    assert_eq!(said("31", &stored("31")), (NO_MOOV.into(), false));
+    let (said, has_times) = said("36", &stored("36"));
     assert!(said.starts_with("refused 36, a broken header at 120 of the file: 00 00 00 ") && said.contains(" 6d 6f 6f 76 "), "{said}");
     assert!(!has_times);
 }
@@ -53,13 +53,13 @@ fn stored_files() {
 /// Offsets of 2.4 seconds in nanoseconds: only by the standard are they not below 0
 #[test]
 fn a_time_lapse() {
-    assert_eq!(said("lapse", &stored("frametimes_lapse")), ("3 frames, timescale 1000000000, end 3900000000".into(), true));
+    assert_eq!(said("lapse", &stored("lapse")), ("3 frames, timescale 1000000000, end 3900000000".into(), true));
 }
 
 /// Cut off at each byte: a clean end where fewer than 8 bytes of a header are left, else the header that doesn't fit
 #[test]
 fn cut_off() {
-    let file = stored("frametimes_m1");
+    let file = stored("m1");
     for length in 0..file.len() {
         let (said, _) = said("cut", &file[..length]);
         let expected = match length {
@@ -74,7 +74,7 @@ fn cut_off() {
 /// The offset is that in the file also where the moov is found
 #[test]
 fn broken_within_the_moov() {
-    let mut file = stored("frametimes_m1");
+    let mut file = stored("m1");
     let at = file.windows(4).position(|four| four == b"stts").unwrap() - 4;
     file[at..at + 4].fill(0xff);
     let (said, _) = said("stts", &file);
@@ -84,7 +84,7 @@ fn broken_within_the_moov() {
 /// A moov that has no video track, and one that is empty
 #[test]
 fn no_frame_times() {
-    let mut file = stored("frametimes_m1");
+    let mut file = stored("m1");
     let at = file.windows(4).position(|four| four == b"vide").unwrap();
     file[at..at + 4].copy_from_slice(b"soun");
     assert_eq!(said("sound", &file), (NO_TIMES.into(), false));
@@ -94,7 +94,7 @@ fn no_frame_times() {
 /// A type that isn't text, in front of the moov
 #[test]
 fn no_text() {
-    let mut file = stored("frametimes_m1");
+    let mut file = stored("m1");
     file[7] = 0x1f;
     assert!(said("text", &file).0.starts_with("refused 36, a broken header at 0 of the file:"));
 }
@@ -106,7 +106,7 @@ fn wide_header(kind: &[u8; 4], size: u64) -> Vec<u8> { [&1u32.to_be_bytes()[..],
 #[test]
 fn a_large_file() {
     const MDAT: u64 = 5_000_000_000;
-    let m1 = stored("frametimes_m1");
+    let m1 = stored("m1");
     let (ftyp, moov) = m1.split_at(20);
     let (temporary, mut file) = Temporary::new("large");
     file.write_all(&[ftyp, &wide_header(b"mdat", MDAT)].concat()).unwrap();

@@ -113,8 +113,8 @@ fn a_ctts_that_breaks_off() {
 /// Stored movies, and offsets of one bit.
 #[test]
 fn the_same_where_no_top_bit_is_set() {
-    for name in ["frametimes", "frametimes_m1", "frametimes_large"] {
-        let file = std::fs::read(format!("../../crates/{name}/stdin")).unwrap();
+    for name in ["frametimes/stdin", "frametimes_files/data/m1", "frametimes_files/data/large"] {
+        let file = std::fs::read(format!("../../crates/{name}")).unwrap();
         let moov = find_box(&file, 0..file.len() as u64, *b"moov", true).unwrap();
         assert_eq!(in_both_modes(moov).unwrap().starts.len(), 3);
     }

@@ -220,7 +220,7 @@ fn broken(moov: &[u8], kind: &[u8; 4]) -> Vec<u8> {
 /// A stored movie with a box missing, and with a broken header before it.
 #[test]
 fn missing_or_broken() {
-    let file = std::fs::read("../../crates/frametimes_late/stdin").unwrap();
+    let file = std::fs::read("../../crates/frametimes_files/data/late").unwrap();
     let moov = find_box(&file, 0..file.len() as u64, *b"moov", true).unwrap();
     for standard in [CRATE, STANDARD] { missing_or_broken_boxes(moov, standard); }
 }

@@ -59,7 +59,7 @@ fn the_most_bytes() {
 /// A stored movie, walked to its leaves: each box's first child of a type is the first that the walk gives of that type.
 #[test]
 fn a_movie() {
-    let file = std::fs::read("../../crates/frametimes_m1/stdin").unwrap();
+    let file = std::fs::read("../../crates/frametimes_files/data/m1").unwrap();
     let moov = find_box(&file, 0..file.len() as u64, *b"moov", true).unwrap();
     assert_eq!(walked(&file).iter().find(|(kind, _)| kind == b"moov").map(|(_, payload)| *payload), Some(moov));
     let mut inside = vec![moov];

@@ -1,4 +1,4 @@
-// The program frametimes: a file from standard input, its frame times to standard output. It is a library so that several programs can share it.
+// The programs frametimes and frametimes_files: a file from a reader, its frame times to standard output.
 #![tactic(auto)]
 
 ghost use Rattle.frame_times.specs.Times.{room};
@@ -8,8 +8,9 @@ ghost use Rattle.frame_lines.specs.Files.{file_times};
 use boxes::read::code;
 use boxes::{Place, find_box_place};
 use frame_times::video_frame_times_of_moov;
-use reading::Ending;
+use reading::{Ending, HeldInput};
 use refusal::{Reason, Refusal};
+use std::io::{self, Read};
 use ticks::FrameTimes;
 
 // How many bytes a file may have; a longer one is refused with 30.
@@ -29,20 +30,10 @@ fn times_of_file(
     video_frame_times_of_moov(&file[start..start + len], true, starts, work_a, work_b)
 }
 
-// A number on a line of its own.
-fn print_line(rt: &impl Print, x: i64) {
-    let _ = println!(rt; "{x}");
-}
-
 // One start a line, for so many frames.
 fn print_starts(rt: &impl Print, starts: &[i64], frames: usize) {
-    let mut i = 0;
-    while i < starts.len() {
-        if i == frames {
-            return;
-        }
-        print_line(rt, starts[i]);
-        i += 1;
+    for start in starts.iter().take(frames) {
+        let _ = println!(rt; "{start}");
     }
 }
 
@@ -77,15 +68,14 @@ fn print_file(rt: &impl Print, file: &[u8]) {
     }
 }
 
-// The program. Of a file that can't be read to its end it says just that: what was read of it has no frame times.
-pub fn run(rt: &(impl Input + Print)) {
+// Prints the frame times of a file. Where it can't be read to its end that is an error, and nothing is printed: what was read of it has no frame times.
+pub fn run<R: Read>(rt: &impl Print, input: &mut R) -> io::Result<()> {
     let mut file = [0u8; FILE_BYTES];
-    let input = reading::read_input(&mut rt.reader(), &mut file);
-    let n = input.held;
-    let end = input.end;
+    let HeldInput { held, end } = reading::read_input(input, &mut file);
     match end {
-        Ending::Within => print_file(rt, &file[..n]),
+        Ending::Within => print_file(rt, &file[..held]),
         Ending::Past => print_refusal(rt, Reason::TooLong),
-        Ending::Failed => reading::say_failed(rt),
+        Ending::Failed(error) => return Err(error),
     }
+    Ok(())
 }

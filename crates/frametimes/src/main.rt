@@ -3,5 +3,7 @@
 #![tactic(auto)]
 
 fn main(rt: HostRuntime) {
-    frame_lines::run(&rt);
+    if frame_lines::run(&rt, &mut rt.reader()).is_err() {
+        reading::say_failed(&rt);
+    }
 }

@@ -84,7 +84,7 @@ fn leading(l: &[u8], k: Kind) -> usize
 
 // Whether two words are the same.
 #[tactic(auto, unfolding(crate::specs::Words::same_as))]
-pub fn same(a: &[u8], b: &[u8]) -> bool
+fn same(a: &[u8], b: &[u8]) -> bool
     ensures { result ≡ same_as a.now b.now }
 {
     if a.len() != b.len() {

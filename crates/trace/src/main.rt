@@ -9,337 +9,268 @@
 // Every map goes through the proved calls, and every refusal is theirs, that of a 1,025th row too; this program only holds the rows and prints.
 #![tactic(auto)]
 
-ghost use Rattle.std.specs.Prelude.{◌≤◌, length};
+ghost use Rattle.std.specs.Prelude.{ℕ, ◌≤◌, Ok};
+ghost use Rattle.maps.specs.Answers.{most_rows};
 
-use reading::Ending;
+use maps::MOST_ROWS;
+use reading::{Ending, HeldInput};
 use refusal::Refusal;
+use rows::{Origin, ROW_WORDS, Row};
 use steps::Step;
 
 // How many bytes of the input are read.
 const FILE_BYTES: usize = 65_536;
 
-// How many rows the map has, how many the second map of a join, and whether a join waits for its rows.
-#[derive(Clone, Copy)]
-struct Held {
-    count: usize,
-    second: usize,
-    joining: bool,
+// The words of as many rows as a map may have.
+const MOST_WORDS: usize = ROW_WORDS * MOST_ROWS;
+
+// A frame map: the words of its rows, a shift a row, and how many rows it has. What lies past them is no part of it.
+#[derive(Drop)]
+struct Map {
+    words: [u64; MOST_WORDS],
+    shifts: [i64; MOST_ROWS],
+    rows: usize,
+    ghost few: { rows ≤ most_rows },
 }
 
-// Copies what a call wrote over the first of what is lent, if there is room.
-fn copy_over<T: Copy>(from: &[T], to: &mut [T]) {
-    if from.len() <= to.len() {
-        slices::copy(from, to);
-    }
-}
-
-// A call's answer: its rows are kept and printed, a refusal is printed. How many rows the map then has.
-fn keep(
-    rt: &impl Print,
-    answer: Result<usize, Refusal>,
-    had: usize,
-    ou: &[u64],
-    os: &[i64],
-    u: &mut [u64],
-    s: &mut [i64],
-) -> usize {
-    match answer {
-        Ok(k) => {
-            copy_over(maptext::words(ou, k), u);
-            copy_over(maptext::shifts(os, k), s);
-            maptext::say_map(rt, maptext::words(u, k), maptext::shifts(s, k));
-            k
-        }
-        Err(refusal) => {
-            maptext::refuse(rt, refusal);
-            had
+#[tactic(auto, using(crate::proofs::Few::few))]
+impl Map {
+    // A map of no rows.
+    fn empty() -> Map {
+        Map {
+            words: [0; MOST_WORDS],
+            shifts: [0; MOST_ROWS],
+            rows: 0,
         }
     }
+
+    // A map of one row, not yet tested.
+    fn of_row(row: Row) -> Map {
+        let mut map = Map::empty();
+        let words = [row.source, row.first, row.count, row.out, row.flag];
+        map.words[..ROW_WORDS].copy_from_slice(&words);
+        map.shifts[0] = row.shift;
+        map.rows = 1;
+        map
+    }
+
+    // The map that a call writes over lent words and shifts, of as many rows as it answers; or its refusal.
+    fn written<F>(call: F) -> Result<Map, Refusal>
+    where
+        F: FnOnce(&mut [u64], &mut [i64]) -> Result<usize, Refusal>,
+        requires callable { F.IsAlwaysCallable call }
+        requires few { (words shifts : _) (rows : ℕ) (words' shifts' : _) → F.post call words shifts (Ok rows) words' shifts' → rows ≤ most_rows }
+    {
+        let mut words = [0; MOST_WORDS];
+        let mut shifts = [0; MOST_ROWS];
+        let rows = call(&mut words, &mut shifts)?;
+        Ok(Map {
+            words,
+            shifts,
+            rows,
+        })
+    }
+
+    // The words of its rows.
+    fn words(&self) -> &[u64] {
+        &self.words[..ROW_WORDS * self.rows]
+    }
+
+    // Their shifts.
+    fn shifts(&self) -> &[i64] {
+        &self.shifts[..self.rows]
+    }
+
+    // The frames from start to end.
+    fn cut(&self, start: u64, end: u64) -> Result<Map, Refusal> {
+        Map::written(|words, shifts| {
+            maps::cut(self.words(), self.shifts(), start, end, words, shifts)
+        })
+    }
+
+    // The frames of this map, and after them those of the second.
+    fn join(&self, second: &Map) -> Result<Map, Refusal> {
+        Map::written(|words, shifts| {
+            maps::join(
+                self.words(),
+                self.shifts(),
+                second.words(),
+                second.shifts(),
+                words,
+                shifts,
+            )
+        })
+    }
+
+    // The same frames, with one row of neighbours that continue.
+    fn merge(&self) -> Result<Map, Refusal> {
+        Map::written(|words, shifts| maps::merge(self.words(), self.shifts(), words, shifts))
+    }
+
+    // Where a frame comes from.
+    fn origin(&self, frame: u64) -> Result<Origin, Refusal> {
+        maps::origin(self.words(), self.shifts(), frame)
+    }
+
+    // This map with a row more. Nothing joins a map of no rows, so that the first row is tested by a merge of it alone.
+    fn with_row(&self, row: Row) -> Result<Map, Refusal> {
+        let row = Map::of_row(row);
+        if self.rows == 0 {
+            row.merge()
+        } else {
+            self.join(&row)
+        }
+    }
+
+    // A call's answer: its map takes this one's place and is printed, or its refusal is printed.
+    fn keep(&mut self, rt: &impl Print, answer: Result<Map, Refusal>) {
+        match answer {
+            Ok(map) => {
+                maptext::say_map(rt, map.words(), map.shifts());
+                *self = map;
+            }
+            Err(refusal) => maptext::say_refusal(rt, refusal),
+        }
+    }
 }
 
-// A map of n rows with one row more: the row alone where there are none, else both joined.
-fn add(
-    rt: &impl Print,
-    n: usize,
-    row: &[u64],
-    shift: &[i64],
-    u: &mut [u64],
-    s: &mut [i64],
-) -> usize {
-    let mut ou = [0u64; 5120];
-    let mut os = [0i64; 1024];
-    if n == 0 {
-        let first = maps::merge(row, shift, &mut ou, &mut os);
-        return keep(rt, first, n, &ou, &os, u, s);
-    }
-    let more = maps::join(
-        maptext::words(u, n),
-        maptext::shifts(s, n),
-        row,
-        shift,
-        &mut ou,
-        &mut os,
-    );
-    keep(rt, more, n, &ou, &os, u, s)
+// The map, and the second map of a join that waits for its rows.
+#[derive(Drop)]
+struct Lesson {
+    map: Map,
+    second: Option<Map>,
 }
 
-// A join that waits for its rows is made.
-fn settle(rt: &impl Print, h: Held, u: &mut [u64], s: &mut [i64], v: &[u64], t: &[i64]) -> Held {
-    let count = h.count;
-    let second = h.second;
-    if !h.joining {
-        return h;
+impl Lesson {
+    // Before the first line.
+    fn new() -> Lesson {
+        Lesson {
+            map: Map::empty(),
+            second: None,
+        }
     }
-    printing::text(rt, b"joined:\n");
-    let mut ou = [0u64; 5120];
-    let mut os = [0i64; 1024];
-    let both = maps::join(
-        maptext::words(u, count),
-        maptext::shifts(s, count),
-        maptext::words(v, second),
-        maptext::shifts(t, second),
-        &mut ou,
-        &mut os,
-    );
-    let k = keep(rt, both, count, &ou, &os, u, s);
-    Held {
-        count: k,
-        second: 0,
-        joining: false,
+
+    // A row goes to the second map of a join that waits for its rows, else to the map.
+    fn add(&mut self, rt: &impl Print, row: Row) {
+        say_row_step(rt, row);
+        let map = match &mut self.second {
+            Some(second) => second,
+            None => &mut self.map,
+        };
+        let answer = map.with_row(row);
+        map.keep(rt, answer);
+    }
+
+    // The map is cut.
+    fn cut(&mut self, rt: &impl Print, start: u64, end: u64) {
+        self.finish_join(rt);
+        let _ = println!(rt; "cut {start} {end}:");
+        self.map.keep(rt, self.map.cut(start, end));
+    }
+
+    // The map is merged.
+    fn merge(&mut self, rt: &impl Print) {
+        self.finish_join(rt);
+        let _ = println!(rt; "merge:");
+        self.map.keep(rt, self.map.merge());
+    }
+
+    // A frame's origin in the map is said.
+    fn origin(&mut self, rt: &impl Print, frame: u64) {
+        self.finish_join(rt);
+        maptext::say_origin(rt, frame, self.map.origin(frame));
+    }
+
+    // A join begins, and waits for its rows.
+    fn begin_join(&mut self, rt: &impl Print) {
+        self.finish_join(rt);
+        let _ = println!(rt; "join:");
+        self.second = Some(Map::empty());
+    }
+
+    // A join that waits for its rows is made.
+    fn finish_join(&mut self, rt: &impl Print) {
+        if let Some(second) = self.second.take() {
+            let _ = println!(rt; "joined:");
+            self.map.keep(rt, self.map.join(&second));
+        }
+    }
+
+    // One line, by its number.
+    fn line(&mut self, rt: &impl Print, number: usize, text: &[u8]) {
+        match steps::parse(text) {
+            Step::Nothing => {}
+            Step::Row(source, first, count, flag, shift) => {
+                let row = Row {
+                    source,
+                    first,
+                    count,
+                    out: 0,
+                    flag,
+                    shift,
+                };
+                self.add(rt, row);
+            }
+            Step::Cut(start, end) => self.cut(rt, start, end),
+            Step::Origin(frame) => self.origin(rt, frame),
+            Step::Join => self.begin_join(rt),
+            Step::Merge => self.merge(rt),
+            Step::Unknown => maptext::say_fault(rt, number, "not a step"),
+            Step::Large => maptext::say_fault(rt, number, "a number over 64 bits"),
+        }
+    }
+
+    // Every line of a text. A join may still wait for its rows at the end.
+    fn run(mut self, rt: &impl Print, text: &[u8]) {
+        for (index, line) in text.split_inclusive(is_line_feed).enumerate() {
+            self.line(rt, index + 1, line.strip_suffix(b"\n").unwrap_or(line));
+        }
+        self.finish_join(rt);
     }
 }
 
-// A step's name and its first two numbers, above what it gives.
-fn head(rt: &impl Print, word: &[u8], a: u64, b: u64) {
-    printing::text(rt, word);
-    let _ = print!(rt; "{a} {b}");
+// Whether a byte ends a line.
+fn is_line_feed(byte: &u8) -> bool {
+    *byte == b'\n'
 }
 
 // A row step above the map that it gives.
-fn head_row(rt: &impl Print, source: u64, first: u64, count: u64, flag: u64, shift: i64) {
-    head(rt, b"row ", source, first);
-    let _ = print!(rt; " {count}");
-    if flag == 1 {
-        printing::text(rt, b" shift ");
-        printing::signed(rt, shift);
-    }
-    printing::text(rt, b":\n");
-}
-
-// A row goes to the second map of a join that waits for its rows, else to the map.
-fn do_row(
-    rt: &impl Print,
-    h: Held,
-    row: &[u64],
-    shift: &[i64],
-    u: &mut [u64],
-    s: &mut [i64],
-    v: &mut [u64],
-    t: &mut [i64],
-) -> Held {
-    let count = h.count;
-    let second = h.second;
-    if h.joining {
-        let k = add(rt, second, row, shift, v, t);
-        return Held {
-            count,
-            second: k,
-            joining: true,
-        };
-    }
-    let k = add(rt, count, row, shift, u, s);
-    Held {
-        count: k,
-        second: 0,
-        joining: false,
-    }
-}
-
-// The map is cut.
-fn do_cut(rt: &impl Print, count: usize, a: u64, b: u64, u: &mut [u64], s: &mut [i64]) -> Held {
-    let mut ou = [0u64; 5120];
-    let mut os = [0i64; 1024];
-    head(rt, b"cut ", a, b);
-    printing::text(rt, b":\n");
-    let part = maps::cut(
-        maptext::words(u, count),
-        maptext::shifts(s, count),
-        a,
-        b,
-        &mut ou,
-        &mut os,
-    );
-    let k = keep(rt, part, count, &ou, &os, u, s);
-    Held {
-        count: k,
-        second: 0,
-        joining: false,
-    }
-}
-
-// The map is merged.
-fn do_merge(rt: &impl Print, count: usize, u: &mut [u64], s: &mut [i64]) -> Held {
-    let mut ou = [0u64; 5120];
-    let mut os = [0i64; 1024];
-    printing::text(rt, b"merge:\n");
-    let merged = maps::merge(
-        maptext::words(u, count),
-        maptext::shifts(s, count),
-        &mut ou,
-        &mut os,
-    );
-    let k = keep(rt, merged, count, &ou, &os, u, s);
-    Held {
-        count: k,
-        second: 0,
-        joining: false,
-    }
-}
-
-// A step other than a row, on a map that no join waits for.
-fn do_step(rt: &impl Print, h: Held, step: Step, u: &mut [u64], s: &mut [i64]) -> Held {
-    let count = h.count;
-    match step {
-        Step::Cut(a, b) => do_cut(rt, count, a, b, u, s),
-        Step::Merge => do_merge(rt, count, u, s),
-        Step::Origin(frame) => {
-            let origin = maps::origin(maptext::words(u, count), maptext::shifts(s, count), frame);
-            maptext::say_origin(rt, frame, origin);
-            h
-        }
-        Step::Join => {
-            printing::text(rt, b"join:\n");
-            Held {
-                count,
-                second: 0,
-                joining: true,
-            }
-        }
-        _ => h,
-    }
-}
-
-// One line.
-fn act(
-    rt: &impl Print,
-    h: Held,
-    text: &[u8],
-    line: usize,
-    u: &mut [u64],
-    s: &mut [i64],
-    v: &mut [u64],
-    t: &mut [i64],
-) -> Held {
-    let step = steps::parse(text);
-    match step {
-        Step::Nothing => h,
-        Step::Unknown => {
-            maptext::fault(rt, line, b"not a step");
-            h
-        }
-        Step::Large => {
-            maptext::fault(rt, line, b"a number over 64 bits");
-            h
-        }
-        Step::Row(source, first, count, flag, shift) => {
-            head_row(rt, source, first, count, flag, shift);
-            let row = [source, first, count, 0, flag];
-            let z = [shift];
-            do_row(rt, h, &row, &z, u, s, v, t)
-        }
-        _ => {
-            let settled = settle(rt, h, u, s, v, t);
-            do_step(rt, settled, step, u, s)
-        }
-    }
-}
-
-// Where a line ends.
-fn line_end(text: &[u8], from: usize) -> usize
-    requires { from ≤ length text.now }
-    ensures { (from ≤ result) × (result ≤ length text.now) }
-{
-    let mut i = from;
-    while i < text.len() {
-        if text[i] == 10 {
-            return i;
-        }
-        i += 1;
-    }
-    i
-}
-
-// Where the last whole line ends.
-fn whole_lines(text: &[u8]) -> usize
-    ensures { result ≤ length text.now }
-{
-    let mut n = text.len();
-    while 0 < n {
-        if text[n - 1] == 10 {
-            return n;
-        }
-        n -= 1;
-    }
-    n
-}
-
-// Every line of the text; how many there were.
-fn run(
-    rt: &impl Print,
-    text: &[u8],
-    u: &mut [u64],
-    s: &mut [i64],
-    v: &mut [u64],
-    t: &mut [i64],
-) -> usize
-    ensures { result ≤ length text.now }
-{
-    let mut h = Held {
-        count: 0,
-        second: 0,
-        joining: false,
+fn say_row_step(rt: &impl Print, row: Row) {
+    let Row {
+        source,
+        first,
+        count,
+        flag,
+        shift,
+        ..
+    } = row;
+    let _ = if flag == 1 {
+        println!(rt; "row {source} {first} {count} shift {shift}:")
+    } else {
+        println!(rt; "row {source} {first} {count}:")
     };
-    let mut line: usize = 0;
-    let mut at: usize = 0;
-    while at < text.len() {
-        let end = line_end(text, at);
-        line += 1;
-        h = act(rt, h, &text[at..end], line, u, s, v, t);
-        at = end + 1;
-    }
-    settle(rt, h, u, s, v, t);
-    line
-}
-
-// Room for two maps, and the lines.
-fn lesson(rt: &impl Print, text: &[u8]) -> usize
-    ensures { result ≤ length text.now }
-{
-    let mut u = [0u64; 5120];
-    let mut s = [0i64; 1024];
-    let mut v = [0u64; 5120];
-    let mut t = [0i64; 1024];
-    run(rt, text, &mut u, &mut s, &mut v, &mut t)
 }
 
 // The whole lines of an input that is too long, and that it is. What comes after them is left unread: an input may never end.
 fn too_long(rt: &impl Print, text: &[u8]) {
-    let k = whole_lines(text);
-    let lines = lesson(rt, &text[..k]);
-    maptext::fault(rt, lines + 1, b"the input is too long");
+    let end = text
+        .iter()
+        .rposition(is_line_feed)
+        .map_or(0, |last| last + 1);
+    let whole = &text[..end];
+    Lesson::new().run(rt, whole);
+    let lines = whole.split_inclusive(is_line_feed).count();
+    maptext::say_fault(rt, lines + 1, "the input is too long");
 }
 
 // The lines of standard input; of one that can't be read to its end, none.
 fn main(rt: HostRuntime) {
     let mut file = [0u8; FILE_BYTES];
-    let input = reading::read_input(&mut rt.reader(), &mut file);
-    let n = input.held;
-    let end = input.end;
+    let HeldInput { held, end } = reading::read_input(&mut rt.reader(), &mut file);
+    let text = &file[..held];
     match end {
-        Ending::Within => {
-            lesson(&rt, &file[..n]);
-        }
-        Ending::Past => too_long(&rt, &file[..n]),
-        Ending::Failed => reading::say_failed(&rt),
+        Ending::Within => Lesson::new().run(&rt, text),
+        Ending::Past => too_long(&rt, text),
+        Ending::Failed(_) => reading::say_failed(&rt),
     }
 }

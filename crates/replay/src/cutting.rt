@@ -1,0 +1,95 @@
+// Cuts, joins, merges and origins of maps.
+use crate::case::{Argument, Case, Fault};
+use crate::lent::{Room, Rows};
+use crate::line::{Line, Values};
+use rows::Origin;
+
+// A map, as the calls take it.
+#[derive(Drop)]
+struct Map {
+    words: Vec<u64>,
+    shifts: Vec<i64>,
+}
+
+impl Argument for Map {
+    fn read(case: &mut Case<'_>) -> Result<Map, Fault> {
+        let words = case.take()?;
+        let shifts = case.take()?;
+        Ok(Map { words, shifts })
+    }
+}
+
+impl Map {
+    fn lend(&self) -> (&[u64], &[i64]) {
+        (self.words.as_slice(), self.shifts.as_slice())
+    }
+}
+
+impl Values for Origin {
+    fn say(self, line: &mut Line) -> Result<(), Fault> {
+        line.value(self.source)?;
+        line.value(self.frame)?;
+        line.value(self.flag)?;
+        line.value(self.shift)
+    }
+}
+
+// cut MAP A B ROOM ROOM
+pub fn cut(case: &mut Case<'_>, line: &mut Line) -> Result<(), Fault> {
+    let map: Map = case.take()?;
+    let a = case.take()?;
+    let b = case.take()?;
+    let mut rows: Rows = case.take()?;
+    case.end()?;
+    let (u, s) = map.lend();
+    let (ou, os) = rows.lend();
+    let answer = maps::cut(u, s, a, b, ou, os);
+    line.rows(answer, &rows)
+}
+
+// join MAP MAP ROOM ROOM
+pub fn join(case: &mut Case<'_>, line: &mut Line) -> Result<(), Fault> {
+    let first: Map = case.take()?;
+    let second: Map = case.take()?;
+    let mut rows: Rows = case.take()?;
+    case.end()?;
+    let (u, s) = first.lend();
+    let (v, t) = second.lend();
+    let (ou, os) = rows.lend();
+    let answer = maps::join(u, s, v, t, ou, os);
+    line.rows(answer, &rows)
+}
+
+// merge MAP ROOM ROOM
+pub fn merge(case: &mut Case<'_>, line: &mut Line) -> Result<(), Fault> {
+    let map: Map = case.take()?;
+    let mut rows: Rows = case.take()?;
+    case.end()?;
+    let (u, s) = map.lend();
+    let (ou, os) = rows.lend();
+    let answer = maps::merge(u, s, ou, os);
+    line.rows(answer, &rows)
+}
+
+// origin MAP FRAME
+pub fn origin(case: &mut Case<'_>, line: &mut Line) -> Result<(), Fault> {
+    let map: Map = case.take()?;
+    let frame = case.take()?;
+    case.end()?;
+    let (u, s) = map.lend();
+    line.answer(maps::origin(u, s, frame))
+}
+
+// cuts MAP RANGES ROOM ROOM ROOM
+pub fn cuts(case: &mut Case<'_>, line: &mut Line) -> Result<(), Fault> {
+    let map: Map = case.take()?;
+    let ranges: Vec<u64> = case.take()?;
+    let mut rows: Rows = case.take()?;
+    let mut counts: Room<u64> = case.take()?;
+    case.end()?;
+    let (u, s) = map.lend();
+    let (ou, os) = rows.lend();
+    let answer = cuts::cuts(u, s, ranges.as_slice(), ou, os, counts.lend());
+    line.rows(answer, &rows)?;
+    line.written(&counts, answer.map_or(0, |_| ranges.len() / 2))
+}

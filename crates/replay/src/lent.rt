@@ -1,6 +1,7 @@
 // The slices that are lent to a call to be written.
 ghost use Rattle.std.specs.Prelude.{◌<◌, ◌≤◌, ◌^◌, pos, IfOk, vec_len};
 ghost use Rattle.std.specs.Int.Signed.{◌<ℤ◌};
+ghost use Rattle.replay.specs.Lent.{most_lent};
 
 use crate::case::{Argument, Case, Fault};
 use std::fmt::Display;
@@ -8,10 +9,10 @@ use std::fmt::Display;
 // The most elements of a slice that is lent.
 const MOST: u64 = 65_536;
 
-// How far the first element of what is lent lies from 0.
+// How far from 0 the first element of what is lent lies.
 const FIRST: u64 = 0x3000_0000_0000_0001;
 
-// How far element k does, unlike its neighbours.
+// How far element k lies: no two neighbours equally far.
 fn distance(k: usize) -> u64
     ensures { (0 < result) × (result < 2 ^ 62) }
 {
@@ -46,7 +47,7 @@ pub struct Room<T>(Vec<T>);
 
 // How long a lent slice is.
 fn room_size(case: &mut Case<'_>) -> Result<usize, Fault>
-    ensures { IfOk result (λ n. n ≤ 65536) }
+    ensures { IfOk result (λ n. n ≤ most_lent) }
 {
     let n: u64 = case.take()?;
     if MOST < n {
@@ -57,7 +58,7 @@ fn room_size(case: &mut Case<'_>) -> Result<usize, Fault>
 
 impl<T: Element> Argument for Room<T> {
     fn read(case: &mut Case<'_>) -> Result<Room<T>, Fault>
-        ensures { IfOk result (λ room. vec_len room.0 ≤ 65536) }
+        ensures { IfOk result (λ room. vec_len room.0 ≤ most_lent) }
     {
         let n = room_size(case)?;
         Ok(Room((0..n).map(|k| T::lent(k)).collect(case.alloc())?))

@@ -1,47 +1,56 @@
-/* segment_table: for every frame of a trimmed and joined recording, which camera original and which frame of it lies
- * behind it. Each call is proved to answer what docs/ and its contract say, for everything that may be lent.
+/* segment_table: for every frame of a trimmed and joined recording, which camera original and which
+ * frame of it lies behind it. Each call is proved to answer what docs/RULES.md and its contract
+ * say, for everything that may be lent.
  *
- * Answers. A call that can refuse returns the refusal's number, and 0 where it accepts. It writes `index` always: the
- * refusal's index, or 0. It writes the other words only where it accepts. Slices that it fills stay as lent on a refusal,
- * and past an accepted answer's length; working slices hold 0 after every answer. Memory that is lent to be written may be
- * unset before the call.
+ * Answers. A call that can refuse returns the refusal's number, and 0 where it accepts. It writes
+ * `index` always: the refusal's index, or 0. It writes the other words only where it accepts.
+ * Slices that it fills stay as lent on a refusal, and past an accepted answer's length; working
+ * slices hold 0 after every answer. Memory that is lent to be written may be unset before the call.
  *
- * Lending. A slice is a pointer and a length in elements; its pointer may be null only with length 0. A word is a pointer
- * to one number, and is never null. Pointers to numbers are aligned as C aligns them; bytes may lie anywhere. A bool is 0 or 1.
- * size_t has 64 bits. No call keeps a pointer or a state, or allocates memory: calls may run in several threads at once,
- * while none writes what another is lent.
+ * Lending. A slice is a pointer and a length in elements; its pointer may be null only with length
+ * 0. A word is a pointer to one number, and is never null. Pointers to numbers are aligned as C
+ * aligns them; bytes may lie anywhere. A bool is 0 or 1. size_t has 64 bits. No call keeps a
+ * pointer or a state, or allocates memory: calls may run in several threads at once, while none
+ * writes what another is lent.
  *
- * Overlap. What a call may write overlaps nothing else that it is lent. No proof reaches a call that breaks this: memory
- * may be corrupted. With one array as both working slices st_video_frame_times_of_moov ends in a segmentation fault;
- * with its timestamps as the starts st_mcraw_times answers wrong starts.
+ * Overlap. What a call may write overlaps nothing else that it is lent. No proof reaches a call
+ * that breaks this: memory may be corrupted. With one array as both working slices
+ * st_video_frame_times_of_moov ends in a segmentation fault; with its timestamps as the starts
+ * st_mcraw_times answers wrong starts.
  *
- * Stack, as bindings/c/stack measures it on the machine at hand: each call takes less than 4 KiB. Copies and cleared slices
- * are made by the C library's memmove and memset. A program whose loader binds such a name at its first call, which is what
- * many linkers make, takes some 3 KiB more for that, at its first st_join, say; how much, the loader and the processor
- * decide. Where a task has less, link with `-z now`, which binds names at the start, or statically.
+ * Stack, as bindings/c/stack measures it on the machine at hand: each call takes less than 4 KiB.
+ * Copies and cleared slices are made by the C library's memmove and memset. A program whose loader
+ * binds such a name at its first call, which is what many linkers make, takes some 3 KiB more for
+ * that, at its first st_join, say; how much, the loader and the processor decide. Where a task has
+ * less, link with `-z now`, which binds names at the start, or statically.
  *
- * A table: `sources`, ten words each: frames; fps numerator, denominator; creation time present (0, 1), its offset and
- * length in `text`; clock (0 none, 1 no modulus, 2 modulus), its rate's numerator, denominator, its modulus. `segments`,
- * five words each: source, source first frame, frame count, out first frame, shift present (0, 1). `times`, seven words a
- * segment: source start, out start, duration, source capture start, out capture start, capture duration (microseconds),
- * shift. `log`: the table names a telemetry log. `text`: the creation times' bytes. Words of an absent thing are ignored.
+ * A table: `sources`, ten words each: frames; fps numerator, denominator; creation time present (0,
+ * 1), its offset and length in `text`; clock (0 none, 1 no modulus, 2 modulus), its rate's
+ * numerator, denominator, its modulus. `segments`, five words each: source, source first frame,
+ * frame count, out first frame, shift present (0, 1). `times`, seven words a segment: source start,
+ * out start, duration, source capture start, out capture start, capture duration (microseconds),
+ * shift. `log`: the table names a telemetry log. `text`: the creation times' bytes. Words of an
+ * absent thing are ignored.
  *
- * A list of records: the same of a segment as one struct, where its flag is a bool and its times follow the words. Records are
- * aligned as C aligns them; what lies between their fields is not read.
+ * A list of records: the same of a segment as one struct, where its flag is a bool and its times
+ * follow the words. Records are aligned as C aligns them; what lies between their fields is not
+ * read.
  *
- * A map: `words`, five a row: source, source first frame, frame count, out first frame, shift present (0, 1); `shifts`,
- * one a row, 0 where it is absent.
+ * A map: `words`, five a row: source, source first frame, frame count, out first frame, shift
+ * present (0, 1); `shifts`, one a row, 0 where it is absent.
  *
- * Frame times: `starts`, where each frame starts, in ticks of `scale` a second; `end`, where the last frame ends;
- * `nominal`, how long a frame is as a rule. Of a moov that is the most frequent duration of all frames, of several the
- * smallest; of a recording the middle interval, the lower of two.
+ * Frame times: `starts`, where each frame starts, in ticks of `scale` a second; `end`, where the
+ * last frame ends; `nominal`, how long a frame is as a rule. Of a moov that is the most frequent
+ * duration of all frames, of several the smallest; of a recording the middle interval, the lower of
+ * two.
  *
- * Refusals. The index is the source in 4 to 7, the segment in 9 to 17, 23 and 24, the later timestamp of the first falling
- * pair in 34, the broken header's offset in the lent bytes in 36, the range in 50 of st_cuts (a last one without its end is
- * tested first), the row in 51 (0 for slice lengths or no rows, which are tested first), else 0. Each call names its
- * refusals in the order of its tests: 4 to 7 source by source, 9 to 17 and 23 with 24 segment by segment, 50 of st_cuts
- * range by range, a join's 51 of its first map and then of its second. `31 or 36` is by how a walk over boxes ended. What
- * each number says stands in enum st_reason, with its name. */
+ * Refusals. The index is the source in 4 to 7, the segment in 9 to 17, 23 and 24, the later
+ * timestamp of the first falling pair in 34, the broken header's offset in the lent bytes in 36,
+ * the range in 50 of st_cuts (a last one without its end is tested first), the row in 51 (0 for
+ * slice lengths or no rows, which are tested first), else 0. Each call names its refusals in the
+ * order of its tests: 4 to 7 source by source, 9 to 17 and 23 with 24 segment by segment, 50 of
+ * st_cuts range by range, a join's 51 of its first map and then of its second. `31 or 36` is by how
+ * a walk over boxes ended. What each number says stands in enum st_reason, with its name. */
 #ifndef SEGMENT_TABLE_H
 #define SEGMENT_TABLE_H
 
@@ -55,8 +64,8 @@ extern "C" {
 
 /* Why a call refuses: what each number that is answered says. */
 enum st_reason {
-    /* a slice length isn't a multiple of its record, the two segment slices disagree, a flag or kind is outside its set,
-     * or a present creation time's range leaves the text */
+    /* a slice length isn't a multiple of its record, the two segment slices disagree, a flag or
+     * kind is outside its set, or a present creation time's range leaves the text */
     ST_MALFORMED = 1,
     /* over 64 sources or 512 segments */
     ST_OVER_LIMIT = 2,
@@ -82,8 +91,8 @@ enum st_reason {
     ST_PAST_SOURCE = 12,
     /* segment: any of the six times negative */
     ST_NEGATIVE_TIME = 13,
-    /* segment: source start plus duration, or the capture pair, passes 2^63 - 1; tested after 16, out start plus duration
-     * or its capture pair does */
+    /* segment: source start plus duration, or the capture pair, passes 2^63 - 1; tested after 16,
+     * out start plus duration or its capture pair does */
     ST_TOO_LATE = 14,
     /* segment: out first frame isn't the end before (0 for the first) */
     ST_FRAME_GAP = 15,
@@ -101,13 +110,14 @@ enum st_reason {
     ST_NO_FRAME_TIME = 23,
     /* a segment's frame time differs from out start */
     ST_OTHER_FRAME_TIME = 24,
-    /* the end isn't near: |2 end_us scale - 2 end 1,000,000| is over 2 nominal 1,000,000 + scale, where end_us is the last
-     * segment's out start plus duration; the nominal of a constant video is its denominator, and its scale the numerator */
+    /* the end isn't near: |2 end_us scale - 2 end 1,000,000| is over 2 nominal 1,000,000 + scale,
+     * where end_us is the last segment's out start plus duration; the nominal of a constant video
+     * is its denominator, and its scale the numerator */
     ST_END_NOT_NEAR = 25,
     /* over 16,777,216 bytes or timestamps */
     ST_TOO_LONG = 30,
-    /* missing: the boxes end (fewer than 8 bytes are left) without the one that is looked for, or no frame times can be had;
-     * of st_box_size, no size is whole and fits */
+    /* missing: the boxes end (fewer than 8 bytes are left) without the one that is looked for, or
+     * no frame times can be had; of st_box_size, no size is whole and fits */
     ST_MISSING = 31,
     /* lent room too small (of st_cut, st_cuts, st_join and st_merge that is 52) */
     ST_NO_ROOM = 32,
@@ -117,8 +127,9 @@ enum st_reason {
     ST_FALLING = 34,
     /* recording whose frame times can't be had: no frames, or a nominal interval of 0 */
     ST_NO_RECORDING_TIMES = 35,
-    /* broken: before what is looked for stands a broken box header, at the index: its size isn't whole or doesn't fit, or, of
-     * st_find_box with text_types, its type has a byte outside 20..7E hex */
+    /* broken: before what is looked for stands a broken box header, at the index: its size isn't
+     * whole or doesn't fit, or, of st_find_box with text_types, its type has a byte outside
+     * 20..7E hex */
     ST_BROKEN = 36,
     /* no MTRM box: no moov, no udta in it, or none in that */
     ST_NO_TABLE = 40,
@@ -130,7 +141,8 @@ enum st_reason {
     ST_BAD_RANGE = 50,
     /* map rows malformed, slice lengths that disagree, or no rows */
     ST_BAD_ROWS = 51,
-    /* over 1,024 rows in or out (all cuts of one call together may have more), or lent room too small */
+    /* over 1,024 rows in or out (all cuts of one call together may have more), or lent room
+     * too small */
     ST_ROWS_DONT_FIT = 52,
     /* joined frames pass 2^64 - 1 */
     ST_JOIN_WRAPS = 53,
@@ -151,16 +163,17 @@ uint64_t st_ticks_to_us(int64_t ticks, uint64_t scale, int64_t *us, uint64_t *in
 
 /* ---- Maps: cut, many cuts, join, merge, and the origin of a frame. */
 
-/* The frames a..b of a map as a map: each row's overlap, counted from a.
- * Lent: a map, and room for the rows. Writes the rows, rows (how many), index. Refuses: 51, 52, 50, 52.
+/* The frames start..end of a map as a map: each row's overlap, counted from start. Lent: a map, and
+ * room for the rows. Writes the rows, rows (how many), index. Refuses: 51, 52, 50, 52.
  * A null pointer only with length 0; what is written overlaps nothing else, or memory may be corrupted. */
-uint64_t st_cut(const uint64_t *words, size_t words_len, const int64_t *shifts, size_t shifts_len, uint64_t a,
-                uint64_t b, uint64_t *out_words, size_t out_words_len, int64_t *out_shifts,
+uint64_t st_cut(const uint64_t *words, size_t words_len, const int64_t *shifts, size_t shifts_len,
+                uint64_t start, uint64_t end, uint64_t *out_words, size_t out_words_len, int64_t *out_shifts,
                 size_t out_shifts_len, uint64_t *rows, uint64_t *index);
 
-/* Cuts of several ranges of a map, which is tested once: of each range the rows that st_cut writes, one cut after the other.
- * Lent: a map; ranges, two words each, a and b, or none; room for the rows of all cuts, and for a count of each. Writes the
- * rows, counts (how many each cut has), rows (how many in all, which may be over 1,024), index. Refuses: 51, 52, 50, 52.
+/* Cuts of several ranges of a map, which is tested once: of each range the rows that st_cut writes,
+ * one cut after the other. Lent: a map; ranges, two words each, start and end, or none; room for
+ * the rows of all cuts, and for a count of each. Writes the rows, counts (how many each cut has),
+ * rows (how many in all, which may be over 1,024), index. Refuses: 51, 52, 50, 52.
  * A null pointer only with length 0; what is written overlaps nothing else, or memory may be corrupted. */
 uint64_t st_cuts(const uint64_t *words, size_t words_len, const int64_t *shifts, size_t shifts_len,
                  const uint64_t *ranges, size_t ranges_len, uint64_t *out_words, size_t out_words_len,
@@ -168,23 +181,24 @@ uint64_t st_cuts(const uint64_t *words, size_t words_len, const int64_t *shifts,
                  uint64_t *rows, uint64_t *index);
 
 /* Two maps as one, the second after the first.
- * Lent: two maps, and room for the rows. Writes the rows, rows (how many), index. Refuses: 51 (of the first map, then of the
- * second), 52, 53, 52.
+ * Lent: two maps, and room for the rows. Writes the rows, rows (how many), index. Refuses: 51 (of
+ * the first map, then of the second), 52, 53, 52.
  * A null pointer only with length 0; what is written overlaps nothing else, or memory may be corrupted. */
 uint64_t st_join(const uint64_t *words, size_t words_len, const int64_t *shifts, size_t shifts_len,
                  const uint64_t *second_words, size_t second_words_len, const int64_t *second_shifts,
                  size_t second_shifts_len, uint64_t *out_words, size_t out_words_len, int64_t *out_shifts,
                  size_t out_shifts_len, uint64_t *rows, uint64_t *index);
 
-/* A map with one row of neighbours that continue: the same source, frames that run on, flag and shift equal.
- * Lent: a map, and room for the rows. Writes the rows, rows (how many), index. Refuses: 51, 52, 52.
+/* A map with one row of neighbours that continue: the same source, frames that run on, flag and
+ * shift equal. Lent: a map, and room for the rows. Writes the rows, rows (how many), index.
+ * Refuses: 51, 52, 52.
  * A null pointer only with length 0; what is written overlaps nothing else, or memory may be corrupted. */
 uint64_t st_merge(const uint64_t *words, size_t words_len, const int64_t *shifts, size_t shifts_len,
                   uint64_t *out_words, size_t out_words_len, int64_t *out_shifts, size_t out_shifts_len,
                   uint64_t *rows, uint64_t *index);
 
-/* Where a frame comes from: its source, its frame there, the shift's flag (1 present, 0 absent) and the shift.
- * Lent: a map. Writes source, source_frame, flag, shift, index. Refuses: 51, 52, 54.
+/* Where a frame comes from: its source, its frame there, the shift's flag (1 present, 0 absent) and
+ * the shift. Lent: a map. Writes source, source_frame, flag, shift, index. Refuses: 51, 52, 54.
  * A null pointer only with length 0. */
 uint64_t st_origin(const uint64_t *words, size_t words_len, const int64_t *shifts, size_t shifts_len,
                    uint64_t frame, uint64_t *source, uint64_t *source_frame, uint64_t *flag, int64_t *shift,
@@ -199,16 +213,17 @@ uint64_t st_validate_no_video(const uint64_t *sources, size_t sources_len, const
                               size_t segments_len, const int64_t *times, size_t times_len, bool log,
                               const uint8_t *text, size_t text_len, uint64_t *index);
 
-/* Judges a table by a video of video_frames frames at num / den a second: its frame total.
- * Lent: a table. Writes frames, index. Refuses: 1 to 17, 20, 22, 23 with 24, 25.
+/* Judges a table by a video of video_frames frames at numerator / denominator a second: its frame
+ * total. Lent: a table. Writes frames, index. Refuses: 1 to 17, 20, 22, 23 with 24, 25.
  * A null pointer only with length 0. */
 uint64_t st_validate_constant(const uint64_t *sources, size_t sources_len, const uint64_t *segments,
                               size_t segments_len, const int64_t *times, size_t times_len, bool log,
-                              const uint8_t *text, size_t text_len, uint64_t video_frames, uint64_t num,
-                              uint64_t den, uint64_t *frames, uint64_t *index);
+                              const uint8_t *text, size_t text_len, uint64_t video_frames, uint64_t numerator,
+                              uint64_t denominator, uint64_t *frames, uint64_t *index);
 
-/* Judges a table by a video's frame times, in ticks of scale a second: its frame total. The last frame ends at end.
- * Lent: a table, the starts. Writes frames, index. Refuses: 1 to 17, 20, 22, 23 with 24, 25.
+/* Judges a table by a video's frame times, in ticks of scale a second: its frame total. The last
+ * frame ends at end. Lent: a table, the starts. Writes frames, index. Refuses: 1 to 17, 20, 22, 23
+ * with 24, 25.
  * A null pointer only with length 0. */
 uint64_t st_validate_times(const uint64_t *sources, size_t sources_len, const uint64_t *segments,
                            size_t segments_len, const int64_t *times, size_t times_len, bool log,
@@ -216,16 +231,17 @@ uint64_t st_validate_times(const uint64_t *sources, size_t sources_len, const ui
                            size_t starts_len, int64_t end, int64_t nominal, uint64_t *frames,
                            uint64_t *index);
 
-/* Judges a table by the timestamps of a MotionCam recording's frames, in nanoseconds: its frame total. One timestamp is
- * judged as one frame at the rate of segment 0's source.
- * Lent: a table, the timestamps, two working slices as long as the timestamps or longer (of one timestamp, of any length).
- * Writes both working slices (all 0), frames, index. Refuses: 1 to 17, 30, 35, 34, 33, 32, 35, 33, 20, 22, 23 with 24, 25.
+/* Judges a table by the timestamps of a MotionCam recording's frames, in nanoseconds: its frame
+ * total. One timestamp is judged as one frame at the rate of segment 0's source.
+ * Lent: a table, the timestamps, two working slices as long as the timestamps or longer (of one
+ * timestamp, of any length). Writes both working slices (all 0), frames, index. Refuses: 1 to 17,
+ * 30, 35, 34, 33, 32, 35, 33, 20, 22, 23 with 24, 25.
  * A null pointer only with length 0; what is written overlaps nothing else, or memory may be corrupted. */
 uint64_t st_check_mcraw(const uint64_t *sources, size_t sources_len, const uint64_t *segments,
                         size_t segments_len, const int64_t *times, size_t times_len, bool log,
                         const uint8_t *text, size_t text_len, const int64_t *timestamps,
-                        size_t timestamps_len, int64_t *work_a, size_t work_a_len, int64_t *work_b,
-                        size_t work_b_len, uint64_t *frames, uint64_t *index);
+                        size_t timestamps_len, int64_t *first_work, size_t first_work_len,
+                        int64_t *second_work, size_t second_work_len, uint64_t *frames, uint64_t *index);
 
 /* ---- Lists of records: the lookup over a table whose segments are lent as a list of structs. */
 
@@ -257,8 +273,9 @@ typedef struct st_trim_segment {
     int64_t clock_shift;
 } st_trim_segment;
 
-/* The segment of a frame, over a list of records instead of words; the answer is st_segment_of_frame's.
- * Lent: the sources' words, the text, the records. Writes segment, index. Refuses: 1 to 17.
+/* The segment of a frame, over a list of records instead of words; the answer is
+ * st_segment_of_frame's. Lent: the sources' words, the text, the records. Writes segment, index.
+ * Refuses: 1 to 17.
  * A null pointer only with length 0. */
 uint64_t st_segment_of_frame_records(const uint64_t *sources, size_t sources_len, const uint8_t *text,
                                      size_t text_len, const st_trim_segment *records, size_t records_len,
@@ -266,35 +283,40 @@ uint64_t st_segment_of_frame_records(const uint64_t *sources, size_t sources_len
 
 /* ---- Frame times: of a movie's video track, and of a MotionCam recording's timestamps. */
 
-/* The frame times of a MotionCam recording, of its frames' timestamps in nanoseconds: how many, their scale
- * (1,000,000,000), the nominal interval and the end; the starts count from the first timestamp.
- * Lent: the timestamps, room for the starts, a working slice; both as long as the timestamps or longer.
- * Writes starts, work (all 0), frames, scale, nominal, end, index. Refuses: 30, 31, 34, 33, 32, 31, 33.
+/* The frame times of a MotionCam recording, of its frames' timestamps in nanoseconds: how many,
+ * their scale (1,000,000,000), the nominal interval and the end; the starts count from the first
+ * timestamp. Lent: the timestamps, room for the starts, a working slice; both as long as the
+ * timestamps or longer. Writes starts, work (all 0), frames, scale, nominal, end, index. Refuses:
+ * 30, 31, 34, 33, 32, 31, 33.
  * A null pointer only with length 0; what is written overlaps nothing else, or memory may be corrupted. */
 uint64_t st_mcraw_times(const int64_t *timestamps, size_t timestamps_len, int64_t *starts, size_t starts_len,
                         int64_t *work, size_t work_len, uint64_t *frames, uint64_t *scale, int64_t *nominal,
                         int64_t *end, uint64_t *index);
 
-/* The frame times of a moov's first video track: how many, their timescale, the nominal interval and the end; the starts
- * in presentation order. The mvhd and that track have to be found in moov, and in the track mdia, mdhd, minf, stbl and stts:
- * where one isn't, it is 31, or 36 with the offset in moov of the broken header that hides it. A track that is broken before
- * its hdlr, or at it, isn't seen to be of video, and is passed over; where there is no other video track, the answer goes by
- * how the boxes of moov itself end. Where a broken header hides ctts, edts or elst, that counts as absent. With standard the
- * composition offsets of a ctts of version 0 are unsigned, as ISO/IEC 14496-12 has them, and of any other version signed;
- * without it they are signed in every version, as in the Rust. Without it is also how to read a QuickTime file that has
- * negative offsets in version 0, as Apple describes them as signed. Where no offset of version 0 has its top bit set, both
- * answer the same.
- * Lent: the payload of a moov box (where a file has none, st_find_box says why, with an offset in the file), room for the
- * starts, two working slices as long. As many elements as the track has frames are enough for each; it has no more than
- * moov has bytes, else it is 31. Writes starts, both working slices (all 0), frames, scale, nominal, end, index. Refuses:
- * 30, 31 or 36, 32, 31, 33.
+/* The frame times of a moov's first video track: how many, their timescale, the nominal interval
+ * and the end; the starts in presentation order. The mvhd and that track have to be found in moov,
+ * and in the track mdia, mdhd, minf, stbl and stts: where one isn't, it is 31, or 36 with the
+ * offset in moov of the broken header that hides it. A track that is broken before its hdlr, or at
+ * it, isn't seen to be of video, and is passed over; where there is no other video track, the
+ * answer goes by how the boxes of moov itself end. Where a broken header hides ctts, edts or elst,
+ * that counts as absent. With standard the composition offsets of a ctts of version 0 are unsigned,
+ * as ISO/IEC 14496-12 has them, and of any other version signed; without it they are signed in
+ * every version, as in the Rust. Without it is also how to read a QuickTime file that has negative
+ * offsets in version 0, as Apple describes them as signed. Where no offset of version 0 has its top
+ * bit set, both answer the same.
+ * Lent: the payload of a moov box (where a file has none, st_find_box says why, with an offset in
+ * the file), room for the starts, two working slices as long. As many elements as the track has
+ * frames are enough for each; it has no more than moov has bytes, else it is 31. Writes starts,
+ * both working slices (all 0), frames, scale, nominal, end, index. Refuses: 30, 31 or 36, 32, 31,
+ * 33.
  * A null pointer only with length 0; what is written overlaps nothing else, or memory may be corrupted. */
 uint64_t st_video_frame_times_of_moov(const uint8_t *moov, size_t moov_len, bool standard, int64_t *starts,
-                                      size_t starts_len, int64_t *work_a, size_t work_a_len, int64_t *work_b,
-                                      size_t work_b_len, uint64_t *frames, uint64_t *scale, int64_t *nominal,
-                                      int64_t *end, uint64_t *index);
+                                      size_t starts_len, int64_t *first_work, size_t first_work_len,
+                                      int64_t *second_work, size_t second_work_len, uint64_t *frames,
+                                      uint64_t *scale, int64_t *nominal, int64_t *end, uint64_t *index);
 
-/* ---- Tables: the check, both lookups and those of a list of frames, whether a segment continues the one before, the rows of its map. */
+/* ---- Tables: the check, both lookups and those of a list of frames, whether a segment continues the one before, the
+ * rows of its map. */
 
 /* Checks a table: its frame total.
  * Lent: a table. Writes frames, index. Refuses: 1 to 17.
@@ -311,10 +333,10 @@ uint64_t st_segment_of_frame(const uint64_t *sources, size_t sources_len, const 
                              const uint8_t *text, size_t text_len, uint64_t frame, uint64_t *segment,
                              uint64_t *index);
 
-/* The segment of each frame of a list, in any order: what st_segment_of_frame answers of it. The table is checked once, also
- * for an empty list. The frames and out_segments may not be one array.
- * Lent: a table, the frames, and room for one index a frame. Writes out_segments, written (how many), index. Refuses: 1 to
- * 17, 32.
+/* The segment of each frame of a list, in any order: what st_segment_of_frame answers of it. The
+ * table is checked once, also for an empty list. The frames and out_segments may not be one array.
+ * Lent: a table, the frames, and room for one index a frame. Writes out_segments, written (how
+ * many), index. Refuses: 1 to 17, 32.
  * A null pointer only with length 0; what is written overlaps nothing else, or memory may be corrupted. */
 uint64_t st_segments_of_frames(const uint64_t *sources, size_t sources_len, const uint64_t *segments,
                                size_t segments_len, const int64_t *times, size_t times_len, bool log,
@@ -322,25 +344,25 @@ uint64_t st_segments_of_frames(const uint64_t *sources, size_t sources_len, cons
                                size_t frames_len, uint64_t *out_segments, size_t out_segments_len,
                                uint64_t *written, uint64_t *index);
 
-/* The segment of a time in microseconds: the number of segments that end at or before it, at most the last index.
- * Lent: a table. Writes segment, index. Refuses: 1 to 17.
+/* The segment of a time in microseconds: the number of segments that end at or before it, at most
+ * the last index. Lent: a table. Writes segment, index. Refuses: 1 to 17.
  * A null pointer only with length 0. */
 uint64_t st_segment_of_time_us(const uint64_t *sources, size_t sources_len, const uint64_t *segments,
                                size_t segments_len, const int64_t *times, size_t times_len, bool log,
                                const uint8_t *text, size_t text_len, int64_t time, uint64_t *segment,
                                uint64_t *index);
 
-/* Whether a segment continues the one before it: the same source, source frames that run on, equal shift. Answers 1 or
- * 0, and 0 for the first segment and for one that isn't there.
- * Lent: a table. Writes answer, index. Refuses: 1 to 17.
+/* Whether a segment continues the one before it: the same source, source frames that run on, equal
+ * shift. Answers 1 or 0, and 0 for the first segment and for one that isn't there. Lent: a table.
+ * Writes answer, index. Refuses: 1 to 17.
  * A null pointer only with length 0. */
 uint64_t st_continues(const uint64_t *sources, size_t sources_len, const uint64_t *segments,
                       size_t segments_len, const int64_t *times, size_t times_len, bool log,
                       const uint8_t *text, size_t text_len, uint64_t segment, uint64_t *answer,
                       uint64_t *index);
 
-/* The map of an accepted table: one row a segment, an absent shift as 0.
- * Lent: a table, and room for the rows. Writes the rows, rows (how many), index. Refuses: 1 to 17, 32.
+/* The map of an accepted table: one row a segment, an absent shift as 0. Lent: a table, and room
+ * for the rows. Writes the rows, rows (how many), index. Refuses: 1 to 17, 32.
  * A null pointer only with length 0; what is written overlaps nothing else, or memory may be corrupted. */
 uint64_t st_rows_of_table(const uint64_t *sources, size_t sources_len, const uint64_t *segments,
                           size_t segments_len, const int64_t *times, size_t times_len, bool log,
@@ -349,37 +371,39 @@ uint64_t st_rows_of_table(const uint64_t *sources, size_t sources_len, const uin
 
 /* ---- Boxes: sizes, the walk, the child of a type, the search in a range, the table's text. */
 
-/* The size of the box at the start of data, and of its header, where `remaining` bytes are left of what it is in.
- * Lent: the bytes at hand. Writes size, header, index. Refuses: 30, 31.
+/* The size of the box at the start of data, and of its header, where `remaining` bytes are left of
+ * what it is in. Lent: the bytes at hand. Writes size, header, index. Refuses: 30, 31.
  * A null pointer only with length 0. */
 uint64_t st_box_size(const uint8_t *data, size_t data_len, uint64_t remaining, uint64_t *size,
                      uint64_t *header, uint64_t *index);
 
-/* The box at offset `at` of payload: its type (`kind`, its four bytes, big-endian), where its payload lies, and where the
- * next box is. From 0 on, and then from each answer's `next`, all boxes are met, in order, until 31: fewer than 8 bytes are
- * left there, or 36: a broken header stands there, and the index is `at`.
- * Lent: a box's payload. Writes kind, start, length, next, index. Refuses: 30, 42, 31 or 36.
+/* The box at offset `at` of payload: its type (`kind`, its four bytes, big-endian), where its
+ * payload lies, and where the next box is. From 0 on, and then from each answer's `next`, all boxes
+ * are met, in order, until 31: fewer than 8 bytes are left there, or 36: a broken header stands
+ * there, and the index is `at`. Lent: a box's payload. Writes kind, start, length, next, index.
+ * Refuses: 30, 42, 31 or 36.
  * A null pointer only with length 0. */
 uint64_t st_children(const uint8_t *payload, size_t payload_len, uint64_t at, uint32_t *kind, uint64_t *start,
                      uint64_t *length, uint64_t *next, uint64_t *index);
 
-/* Where the payload of the first child of a type lies in payload; `kind` is the type's four bytes, big-endian. It is 31
- * where the boxes end without it, and 36 where a broken header ends them before, with its offset in payload.
- * Lent: a box's payload. Writes start, length, index. Refuses: 30, 31 or 36.
+/* Where the payload of the first child of a type lies in payload; `kind` is the type's four bytes,
+ * big-endian. It is 31 where the boxes end without it, and 36 where a broken header ends them
+ * before, with its offset in payload. Lent: a box's payload. Writes start, length, index. Refuses:
+ * 30, 31 or 36.
  * A null pointer only with length 0. */
 uint64_t st_child(const uint8_t *payload, size_t payload_len, uint32_t kind, uint64_t *start,
                   uint64_t *length, uint64_t *index);
 
-/* Where the payload of the first box of a type among those of from..to lies in bytes. It is 31 where the boxes end without
- * it, and 36 where a broken header ends them before, with its offset in the whole of bytes. With text_types a type with a
- * byte outside 20..7E hex makes a header broken.
+/* Where the payload of the first box of a type among those of from..to lies in bytes. It is 31
+ * where the boxes end without it, and 36 where a broken header ends them before, with its offset in
+ * the whole of bytes. With text_types a type with a byte outside 20..7E hex makes a header broken.
  * Lent: the bytes. Writes start, length, index. Refuses: 30, 42, 31 or 36.
  * A null pointer only with length 0. */
 uint64_t st_find_box(const uint8_t *bytes, size_t bytes_len, uint64_t from, uint64_t to, uint32_t kind,
                      bool text_types, uint64_t *start, uint64_t *length, uint64_t *index);
 
-/* Where a file's segment table has its text: the payload of the only moov/udta/MTRM box. Where a broken header hides
- * it, it is 40 too.
+/* Where a file's segment table has its text: the payload of the only moov/udta/MTRM box. Where a
+ * broken header hides it, it is 40 too.
  * Lent: the file's bytes. Writes start, length, index. Refuses: 30, 40, 41.
  * A null pointer only with length 0. */
 uint64_t st_table_text(const uint8_t *file, size_t file_len, uint64_t *start, uint64_t *length,

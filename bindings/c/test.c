@@ -68,7 +68,7 @@ static void clock_calls(void) {
     REFUSED_AT(ST_TOO_LARGE, 0, st_ticks_to_us(INT64_MIN, MOST, &p, &at));
 }
 
-/* Table T of document 01: two sources of 100 and 50 frames at 25 fps, rows (A,10,30,0) and (B,5,20,30). */
+/* Table T of RULES 3.6: two sources of 100 and 50 frames at 25 fps, rows (A,10,30,0) and (B,5,20,30). */
 static uint64_t sources[20] = {100, 25, 1, 0, 0, 0, 0, 0, 0, 0, 50, 25, 1, 0, 0, 0, 0, 0, 0, 0};
 static uint64_t segments[10] = {0, 10, 30, 0, 0, 1, 5, 20, 30, 0};
 static int64_t times[14] = {0, 0, 1200000, 0, 0, 0, 0, 0, 1200000, 800000, 0, 0, 0, 0};

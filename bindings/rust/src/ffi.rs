@@ -42,30 +42,32 @@ extern "C" {
     /// Lent: nothing. Writes us, index. Refuses: 20, 23.
     pub fn st_ticks_to_us(ticks: i64, scale: u64, us: *mut i64, index: *mut u64) -> u64;
 
-    /// The frames a..b of a map as a map: each row's overlap, counted from a.
-    /// Lent: a map, and room for the rows. Writes the rows, rows (how many), index. Refuses: 51, 52, 50, 52.
+    /// The frames start..end of a map as a map: each row's overlap, counted from start. Lent: a map, and
+    /// room for the rows. Writes the rows, rows (how many), index. Refuses: 51, 52, 50, 52.
     /// A null pointer only with length 0; what is written overlaps nothing else, or memory may be corrupted.
-    pub fn st_cut(words: *const u64, words_len: usize, shifts: *const i64, shifts_len: usize, a: u64, b: u64, out_words: *mut u64, out_words_len: usize, out_shifts: *mut i64, out_shifts_len: usize, rows: *mut u64, index: *mut u64) -> u64;
+    pub fn st_cut(words: *const u64, words_len: usize, shifts: *const i64, shifts_len: usize, start: u64, end: u64, out_words: *mut u64, out_words_len: usize, out_shifts: *mut i64, out_shifts_len: usize, rows: *mut u64, index: *mut u64) -> u64;
 
-    /// Cuts of several ranges of a map, which is tested once: of each range the rows that st_cut writes, one cut after the other.
-    /// Lent: a map; ranges, two words each, a and b, or none; room for the rows of all cuts, and for a count of each. Writes the
-    /// rows, counts (how many each cut has), rows (how many in all, which may be over 1,024), index. Refuses: 51, 52, 50, 52.
+    /// Cuts of several ranges of a map, which is tested once: of each range the rows that st_cut writes,
+    /// one cut after the other. Lent: a map; ranges, two words each, start and end, or none; room for
+    /// the rows of all cuts, and for a count of each. Writes the rows, counts (how many each cut has),
+    /// rows (how many in all, which may be over 1,024), index. Refuses: 51, 52, 50, 52.
     /// A null pointer only with length 0; what is written overlaps nothing else, or memory may be corrupted.
     pub fn st_cuts(words: *const u64, words_len: usize, shifts: *const i64, shifts_len: usize, ranges: *const u64, ranges_len: usize, out_words: *mut u64, out_words_len: usize, out_shifts: *mut i64, out_shifts_len: usize, counts: *mut u64, counts_len: usize, rows: *mut u64, index: *mut u64) -> u64;
 
     /// Two maps as one, the second after the first.
-    /// Lent: two maps, and room for the rows. Writes the rows, rows (how many), index. Refuses: 51 (of the first map, then of the
-    /// second), 52, 53, 52.
+    /// Lent: two maps, and room for the rows. Writes the rows, rows (how many), index. Refuses: 51 (of
+    /// the first map, then of the second), 52, 53, 52.
     /// A null pointer only with length 0; what is written overlaps nothing else, or memory may be corrupted.
     pub fn st_join(words: *const u64, words_len: usize, shifts: *const i64, shifts_len: usize, second_words: *const u64, second_words_len: usize, second_shifts: *const i64, second_shifts_len: usize, out_words: *mut u64, out_words_len: usize, out_shifts: *mut i64, out_shifts_len: usize, rows: *mut u64, index: *mut u64) -> u64;
 
-    /// A map with one row of neighbours that continue: the same source, frames that run on, flag and shift equal.
-    /// Lent: a map, and room for the rows. Writes the rows, rows (how many), index. Refuses: 51, 52, 52.
+    /// A map with one row of neighbours that continue: the same source, frames that run on, flag and
+    /// shift equal. Lent: a map, and room for the rows. Writes the rows, rows (how many), index.
+    /// Refuses: 51, 52, 52.
     /// A null pointer only with length 0; what is written overlaps nothing else, or memory may be corrupted.
     pub fn st_merge(words: *const u64, words_len: usize, shifts: *const i64, shifts_len: usize, out_words: *mut u64, out_words_len: usize, out_shifts: *mut i64, out_shifts_len: usize, rows: *mut u64, index: *mut u64) -> u64;
 
-    /// Where a frame comes from: its source, its frame there, the shift's flag (1 present, 0 absent) and the shift.
-    /// Lent: a map. Writes source, source_frame, flag, shift, index. Refuses: 51, 52, 54.
+    /// Where a frame comes from: its source, its frame there, the shift's flag (1 present, 0 absent) and
+    /// the shift. Lent: a map. Writes source, source_frame, flag, shift, index. Refuses: 51, 52, 54.
     /// A null pointer only with length 0.
     pub fn st_origin(words: *const u64, words_len: usize, shifts: *const i64, shifts_len: usize, frame: u64, source: *mut u64, source_frame: *mut u64, flag: *mut u64, shift: *mut i64, index: *mut u64) -> u64;
 
@@ -74,50 +76,57 @@ extern "C" {
     /// A null pointer only with length 0.
     pub fn st_validate_no_video(sources: *const u64, sources_len: usize, segments: *const u64, segments_len: usize, times: *const i64, times_len: usize, log: bool, text: *const u8, text_len: usize, index: *mut u64) -> u64;
 
-    /// Judges a table by a video of video_frames frames at num / den a second: its frame total.
-    /// Lent: a table. Writes frames, index. Refuses: 1 to 17, 20, 22, 23 with 24, 25.
+    /// Judges a table by a video of video_frames frames at numerator / denominator a second: its frame
+    /// total. Lent: a table. Writes frames, index. Refuses: 1 to 17, 20, 22, 23 with 24, 25.
     /// A null pointer only with length 0.
-    pub fn st_validate_constant(sources: *const u64, sources_len: usize, segments: *const u64, segments_len: usize, times: *const i64, times_len: usize, log: bool, text: *const u8, text_len: usize, video_frames: u64, num: u64, den: u64, frames: *mut u64, index: *mut u64) -> u64;
+    pub fn st_validate_constant(sources: *const u64, sources_len: usize, segments: *const u64, segments_len: usize, times: *const i64, times_len: usize, log: bool, text: *const u8, text_len: usize, video_frames: u64, numerator: u64, denominator: u64, frames: *mut u64, index: *mut u64) -> u64;
 
-    /// Judges a table by a video's frame times, in ticks of scale a second: its frame total. The last frame ends at end.
-    /// Lent: a table, the starts. Writes frames, index. Refuses: 1 to 17, 20, 22, 23 with 24, 25.
+    /// Judges a table by a video's frame times, in ticks of scale a second: its frame total. The last
+    /// frame ends at end. Lent: a table, the starts. Writes frames, index. Refuses: 1 to 17, 20, 22, 23
+    /// with 24, 25.
     /// A null pointer only with length 0.
     pub fn st_validate_times(sources: *const u64, sources_len: usize, segments: *const u64, segments_len: usize, times: *const i64, times_len: usize, log: bool, text: *const u8, text_len: usize, scale: u64, starts: *const i64, starts_len: usize, end: i64, nominal: i64, frames: *mut u64, index: *mut u64) -> u64;
 
-    /// Judges a table by the timestamps of a MotionCam recording's frames, in nanoseconds: its frame total. One timestamp is
-    /// judged as one frame at the rate of segment 0's source.
-    /// Lent: a table, the timestamps, two working slices as long as the timestamps or longer (of one timestamp, of any length).
-    /// Writes both working slices (all 0), frames, index. Refuses: 1 to 17, 30, 35, 34, 33, 32, 35, 33, 20, 22, 23 with 24, 25.
+    /// Judges a table by the timestamps of a MotionCam recording's frames, in nanoseconds: its frame
+    /// total. One timestamp is judged as one frame at the rate of segment 0's source.
+    /// Lent: a table, the timestamps, two working slices as long as the timestamps or longer (of one
+    /// timestamp, of any length). Writes both working slices (all 0), frames, index. Refuses: 1 to 17,
+    /// 30, 35, 34, 33, 32, 35, 33, 20, 22, 23 with 24, 25.
     /// A null pointer only with length 0; what is written overlaps nothing else, or memory may be corrupted.
-    pub fn st_check_mcraw(sources: *const u64, sources_len: usize, segments: *const u64, segments_len: usize, times: *const i64, times_len: usize, log: bool, text: *const u8, text_len: usize, timestamps: *const i64, timestamps_len: usize, work_a: *mut i64, work_a_len: usize, work_b: *mut i64, work_b_len: usize, frames: *mut u64, index: *mut u64) -> u64;
+    pub fn st_check_mcraw(sources: *const u64, sources_len: usize, segments: *const u64, segments_len: usize, times: *const i64, times_len: usize, log: bool, text: *const u8, text_len: usize, timestamps: *const i64, timestamps_len: usize, first_work: *mut i64, first_work_len: usize, second_work: *mut i64, second_work_len: usize, frames: *mut u64, index: *mut u64) -> u64;
 
-    /// The segment of a frame, over a list of records instead of words; the answer is st_segment_of_frame's.
-    /// Lent: the sources' words, the text, the records. Writes segment, index. Refuses: 1 to 17.
+    /// The segment of a frame, over a list of records instead of words; the answer is
+    /// st_segment_of_frame's. Lent: the sources' words, the text, the records. Writes segment, index.
+    /// Refuses: 1 to 17.
     /// A null pointer only with length 0.
     pub fn st_segment_of_frame_records(sources: *const u64, sources_len: usize, text: *const u8, text_len: usize, records: *const TrimSegment, records_len: usize, log: bool, frame: u64, segment: *mut u64, index: *mut u64) -> u64;
 
-    /// The frame times of a MotionCam recording, of its frames' timestamps in nanoseconds: how many, their scale
-    /// (1,000,000,000), the nominal interval and the end; the starts count from the first timestamp.
-    /// Lent: the timestamps, room for the starts, a working slice; both as long as the timestamps or longer.
-    /// Writes starts, work (all 0), frames, scale, nominal, end, index. Refuses: 30, 31, 34, 33, 32, 31, 33.
+    /// The frame times of a MotionCam recording, of its frames' timestamps in nanoseconds: how many,
+    /// their scale (1,000,000,000), the nominal interval and the end; the starts count from the first
+    /// timestamp. Lent: the timestamps, room for the starts, a working slice; both as long as the
+    /// timestamps or longer. Writes starts, work (all 0), frames, scale, nominal, end, index. Refuses:
+    /// 30, 31, 34, 33, 32, 31, 33.
     /// A null pointer only with length 0; what is written overlaps nothing else, or memory may be corrupted.
     pub fn st_mcraw_times(timestamps: *const i64, timestamps_len: usize, starts: *mut i64, starts_len: usize, work: *mut i64, work_len: usize, frames: *mut u64, scale: *mut u64, nominal: *mut i64, end: *mut i64, index: *mut u64) -> u64;
 
-    /// The frame times of a moov's first video track: how many, their timescale, the nominal interval and the end; the starts
-    /// in presentation order. The mvhd and that track have to be found in moov, and in the track mdia, mdhd, minf, stbl and stts:
-    /// where one isn't, it is 31, or 36 with the offset in moov of the broken header that hides it. A track that is broken before
-    /// its hdlr, or at it, isn't seen to be of video, and is passed over; where there is no other video track, the answer goes by
-    /// how the boxes of moov itself end. Where a broken header hides ctts, edts or elst, that counts as absent. With standard the
-    /// composition offsets of a ctts of version 0 are unsigned, as ISO/IEC 14496-12 has them, and of any other version signed;
-    /// without it they are signed in every version, as in the Rust. Without it is also how to read a QuickTime file that has
-    /// negative offsets in version 0, as Apple describes them as signed. Where no offset of version 0 has its top bit set, both
-    /// answer the same.
-    /// Lent: the payload of a moov box (where a file has none, st_find_box says why, with an offset in the file), room for the
-    /// starts, two working slices as long. As many elements as the track has frames are enough for each; it has no more than
-    /// moov has bytes, else it is 31. Writes starts, both working slices (all 0), frames, scale, nominal, end, index. Refuses:
-    /// 30, 31 or 36, 32, 31, 33.
+    /// The frame times of a moov's first video track: how many, their timescale, the nominal interval
+    /// and the end; the starts in presentation order. The mvhd and that track have to be found in moov,
+    /// and in the track mdia, mdhd, minf, stbl and stts: where one isn't, it is 31, or 36 with the
+    /// offset in moov of the broken header that hides it. A track that is broken before its hdlr, or at
+    /// it, isn't seen to be of video, and is passed over; where there is no other video track, the
+    /// answer goes by how the boxes of moov itself end. Where a broken header hides ctts, edts or elst,
+    /// that counts as absent. With standard the composition offsets of a ctts of version 0 are unsigned,
+    /// as ISO/IEC 14496-12 has them, and of any other version signed; without it they are signed in
+    /// every version, as in the Rust. Without it is also how to read a QuickTime file that has negative
+    /// offsets in version 0, as Apple describes them as signed. Where no offset of version 0 has its top
+    /// bit set, both answer the same.
+    /// Lent: the payload of a moov box (where a file has none, st_find_box says why, with an offset in
+    /// the file), room for the starts, two working slices as long. As many elements as the track has
+    /// frames are enough for each; it has no more than moov has bytes, else it is 31. Writes starts,
+    /// both working slices (all 0), frames, scale, nominal, end, index. Refuses: 30, 31 or 36, 32, 31,
+    /// 33.
     /// A null pointer only with length 0; what is written overlaps nothing else, or memory may be corrupted.
-    pub fn st_video_frame_times_of_moov(moov: *const u8, moov_len: usize, standard: bool, starts: *mut i64, starts_len: usize, work_a: *mut i64, work_a_len: usize, work_b: *mut i64, work_b_len: usize, frames: *mut u64, scale: *mut u64, nominal: *mut i64, end: *mut i64, index: *mut u64) -> u64;
+    pub fn st_video_frame_times_of_moov(moov: *const u8, moov_len: usize, standard: bool, starts: *mut i64, starts_len: usize, first_work: *mut i64, first_work_len: usize, second_work: *mut i64, second_work_len: usize, frames: *mut u64, scale: *mut u64, nominal: *mut i64, end: *mut i64, index: *mut u64) -> u64;
 
     /// Checks a table: its frame total.
     /// Lent: a table. Writes frames, index. Refuses: 1 to 17.
@@ -129,56 +138,58 @@ extern "C" {
     /// A null pointer only with length 0.
     pub fn st_segment_of_frame(sources: *const u64, sources_len: usize, segments: *const u64, segments_len: usize, times: *const i64, times_len: usize, log: bool, text: *const u8, text_len: usize, frame: u64, segment: *mut u64, index: *mut u64) -> u64;
 
-    /// The segment of each frame of a list, in any order: what st_segment_of_frame answers of it. The table is checked once, also
-    /// for an empty list. The frames and out_segments may not be one array.
-    /// Lent: a table, the frames, and room for one index a frame. Writes out_segments, written (how many), index. Refuses: 1 to
-    /// 17, 32.
+    /// The segment of each frame of a list, in any order: what st_segment_of_frame answers of it. The
+    /// table is checked once, also for an empty list. The frames and out_segments may not be one array.
+    /// Lent: a table, the frames, and room for one index a frame. Writes out_segments, written (how
+    /// many), index. Refuses: 1 to 17, 32.
     /// A null pointer only with length 0; what is written overlaps nothing else, or memory may be corrupted.
     pub fn st_segments_of_frames(sources: *const u64, sources_len: usize, segments: *const u64, segments_len: usize, times: *const i64, times_len: usize, log: bool, text: *const u8, text_len: usize, frames: *const u64, frames_len: usize, out_segments: *mut u64, out_segments_len: usize, written: *mut u64, index: *mut u64) -> u64;
 
-    /// The segment of a time in microseconds: the number of segments that end at or before it, at most the last index.
-    /// Lent: a table. Writes segment, index. Refuses: 1 to 17.
+    /// The segment of a time in microseconds: the number of segments that end at or before it, at most
+    /// the last index. Lent: a table. Writes segment, index. Refuses: 1 to 17.
     /// A null pointer only with length 0.
     pub fn st_segment_of_time_us(sources: *const u64, sources_len: usize, segments: *const u64, segments_len: usize, times: *const i64, times_len: usize, log: bool, text: *const u8, text_len: usize, time: i64, segment: *mut u64, index: *mut u64) -> u64;
 
-    /// Whether a segment continues the one before it: the same source, source frames that run on, equal shift. Answers 1 or
-    /// 0, and 0 for the first segment and for one that isn't there.
-    /// Lent: a table. Writes answer, index. Refuses: 1 to 17.
+    /// Whether a segment continues the one before it: the same source, source frames that run on, equal
+    /// shift. Answers 1 or 0, and 0 for the first segment and for one that isn't there. Lent: a table.
+    /// Writes answer, index. Refuses: 1 to 17.
     /// A null pointer only with length 0.
     pub fn st_continues(sources: *const u64, sources_len: usize, segments: *const u64, segments_len: usize, times: *const i64, times_len: usize, log: bool, text: *const u8, text_len: usize, segment: u64, answer: *mut u64, index: *mut u64) -> u64;
 
-    /// The map of an accepted table: one row a segment, an absent shift as 0.
-    /// Lent: a table, and room for the rows. Writes the rows, rows (how many), index. Refuses: 1 to 17, 32.
+    /// The map of an accepted table: one row a segment, an absent shift as 0. Lent: a table, and room
+    /// for the rows. Writes the rows, rows (how many), index. Refuses: 1 to 17, 32.
     /// A null pointer only with length 0; what is written overlaps nothing else, or memory may be corrupted.
     pub fn st_rows_of_table(sources: *const u64, sources_len: usize, segments: *const u64, segments_len: usize, times: *const i64, times_len: usize, log: bool, text: *const u8, text_len: usize, out_words: *mut u64, out_words_len: usize, out_shifts: *mut i64, out_shifts_len: usize, rows: *mut u64, index: *mut u64) -> u64;
 
-    /// The size of the box at the start of data, and of its header, where `remaining` bytes are left of what it is in.
-    /// Lent: the bytes at hand. Writes size, header, index. Refuses: 30, 31.
+    /// The size of the box at the start of data, and of its header, where `remaining` bytes are left of
+    /// what it is in. Lent: the bytes at hand. Writes size, header, index. Refuses: 30, 31.
     /// A null pointer only with length 0.
     pub fn st_box_size(data: *const u8, data_len: usize, remaining: u64, size: *mut u64, header: *mut u64, index: *mut u64) -> u64;
 
-    /// The box at offset `at` of payload: its type (`kind`, its four bytes, big-endian), where its payload lies, and where the
-    /// next box is. From 0 on, and then from each answer's `next`, all boxes are met, in order, until 31: fewer than 8 bytes are
-    /// left there, or 36: a broken header stands there, and the index is `at`.
-    /// Lent: a box's payload. Writes kind, start, length, next, index. Refuses: 30, 42, 31 or 36.
+    /// The box at offset `at` of payload: its type (`kind`, its four bytes, big-endian), where its
+    /// payload lies, and where the next box is. From 0 on, and then from each answer's `next`, all boxes
+    /// are met, in order, until 31: fewer than 8 bytes are left there, or 36: a broken header stands
+    /// there, and the index is `at`. Lent: a box's payload. Writes kind, start, length, next, index.
+    /// Refuses: 30, 42, 31 or 36.
     /// A null pointer only with length 0.
     pub fn st_children(payload: *const u8, payload_len: usize, at: u64, kind: *mut u32, start: *mut u64, length: *mut u64, next: *mut u64, index: *mut u64) -> u64;
 
-    /// Where the payload of the first child of a type lies in payload; `kind` is the type's four bytes, big-endian. It is 31
-    /// where the boxes end without it, and 36 where a broken header ends them before, with its offset in payload.
-    /// Lent: a box's payload. Writes start, length, index. Refuses: 30, 31 or 36.
+    /// Where the payload of the first child of a type lies in payload; `kind` is the type's four bytes,
+    /// big-endian. It is 31 where the boxes end without it, and 36 where a broken header ends them
+    /// before, with its offset in payload. Lent: a box's payload. Writes start, length, index. Refuses:
+    /// 30, 31 or 36.
     /// A null pointer only with length 0.
     pub fn st_child(payload: *const u8, payload_len: usize, kind: u32, start: *mut u64, length: *mut u64, index: *mut u64) -> u64;
 
-    /// Where the payload of the first box of a type among those of from..to lies in bytes. It is 31 where the boxes end without
-    /// it, and 36 where a broken header ends them before, with its offset in the whole of bytes. With text_types a type with a
-    /// byte outside 20..7E hex makes a header broken.
+    /// Where the payload of the first box of a type among those of from..to lies in bytes. It is 31
+    /// where the boxes end without it, and 36 where a broken header ends them before, with its offset in
+    /// the whole of bytes. With text_types a type with a byte outside 20..7E hex makes a header broken.
     /// Lent: the bytes. Writes start, length, index. Refuses: 30, 42, 31 or 36.
     /// A null pointer only with length 0.
     pub fn st_find_box(bytes: *const u8, bytes_len: usize, from: u64, to: u64, kind: u32, text_types: bool, start: *mut u64, length: *mut u64, index: *mut u64) -> u64;
 
-    /// Where a file's segment table has its text: the payload of the only moov/udta/MTRM box. Where a broken header hides
-    /// it, it is 40 too.
+    /// Where a file's segment table has its text: the payload of the only moov/udta/MTRM box. Where a
+    /// broken header hides it, it is 40 too.
     /// Lent: the file's bytes. Writes start, length, index. Refuses: 30, 40, 41.
     /// A null pointer only with length 0.
     pub fn st_table_text(file: *const u8, file_len: usize, start: *mut u64, length: *mut u64, index: *mut u64) -> u64;
@@ -189,8 +200,8 @@ extern "C" {
 #[non_exhaustive]
 #[derive(Clone, Copy, Debug, PartialEq, Eq, Hash)]
 pub enum Reason {
-    /// A slice length isn't a multiple of its record, the two segment slices disagree, a flag or kind is outside its set,
-    /// or a present creation time's range leaves the text.
+    /// A slice length isn't a multiple of its record, the two segment slices disagree, a flag or
+    /// kind is outside its set, or a present creation time's range leaves the text.
     Malformed = 1,
     /// Over 64 sources or 512 segments.
     OverLimit = 2,
@@ -216,8 +227,8 @@ pub enum Reason {
     PastSource = 12,
     /// Segment: any of the six times negative.
     NegativeTime = 13,
-    /// Segment: source start plus duration, or the capture pair, passes 2^63 - 1; tested after 16, out start plus duration
-    /// or its capture pair does.
+    /// Segment: source start plus duration, or the capture pair, passes 2^63 - 1; tested after 16,
+    /// out start plus duration or its capture pair does.
     TooLate = 14,
     /// Segment: out first frame isn't the end before (0 for the first).
     FrameGap = 15,
@@ -235,13 +246,14 @@ pub enum Reason {
     NoFrameTime = 23,
     /// A segment's frame time differs from out start.
     OtherFrameTime = 24,
-    /// The end isn't near: |2 end_us scale - 2 end 1,000,000| is over 2 nominal 1,000,000 + scale, where end_us is the last
-    /// segment's out start plus duration; the nominal of a constant video is its denominator, and its scale the numerator.
+    /// The end isn't near: |2 end_us scale - 2 end 1,000,000| is over 2 nominal 1,000,000 + scale,
+    /// where end_us is the last segment's out start plus duration; the nominal of a constant video
+    /// is its denominator, and its scale the numerator.
     EndNotNear = 25,
     /// Over 16,777,216 bytes or timestamps.
     TooLong = 30,
-    /// Missing: the boxes end (fewer than 8 bytes are left) without the one that is looked for, or no frame times can be had;
-    /// of `box_size`, no size is whole and fits.
+    /// Missing: the boxes end (fewer than 8 bytes are left) without the one that is looked for, or
+    /// no frame times can be had; of `box_size`, no size is whole and fits.
     Missing = 31,
     /// Lent room too small (of `cut`, `cuts`, `join` and `merge` that is 52).
     NoRoom = 32,
@@ -251,8 +263,9 @@ pub enum Reason {
     Falling = 34,
     /// Recording whose frame times can't be had: no frames, or a nominal interval of 0.
     NoRecordingTimes = 35,
-    /// Broken: before what is looked for stands a broken box header, at the index: its size isn't whole or doesn't fit, or, of
-    /// `find_box` with text_types, its type has a byte outside 20..7E hex.
+    /// Broken: before what is looked for stands a broken box header, at the index: its size isn't
+    /// whole or doesn't fit, or, of `find_box` with text_types, its type has a byte outside
+    /// 20..7E hex.
     Broken = 36,
     /// No MTRM box: no moov, no udta in it, or none in that.
     NoTable = 40,
@@ -264,7 +277,8 @@ pub enum Reason {
     BadRange = 50,
     /// Map rows malformed, slice lengths that disagree, or no rows.
     BadRows = 51,
-    /// Over 1,024 rows in or out (all cuts of one call together may have more), or lent room too small.
+    /// Over 1,024 rows in or out (all cuts of one call together may have more), or lent room
+    /// too small.
     RowsDontFit = 52,
     /// Joined frames pass 2^64 - 1.
     JoinWraps = 53,

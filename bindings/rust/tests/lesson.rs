@@ -1,4 +1,4 @@
-//! The first lesson, on table T of document 01.
+//! The first lesson, on table T of RULES 3.6.
 use segment_table::{FrameMap, Row, Segment, Source, Table};
 
 fn row(source: u64, source_first: u64, count: u64, out_first: u64) -> Row {

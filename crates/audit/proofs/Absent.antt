@@ -1,4 +1,5 @@
--- Words of absent things are ignored: of every call, by the laws of rules, table_rows, lookups and judge on stripped tables. Assumes nothing.
+-- Words of absent things are ignored: of every call, by the laws of rules, table_rows, lookups and judge on stripped
+-- tables. Assumes nothing.
 use mathlib.Core.Path.{◌≡◌, ◌∙◌}
 use lib.ListN.{length}
 use Rattle.rules.specs.Rules.{check_of}
@@ -23,10 +24,10 @@ same l m e = record {
   rows-of-table = λ ou ou' os os' r p. rows_alike (table l) (table m) e ou ou' os os' r p;
   segments-of-frames = λ fs out out' r p. indices-alike (table l) (table m) e fs out out' r p;
   validate = λ video starts r p. p ∙ alike (λ t. validate_of t (shown_by video starts)) (validate-stripped (shown_by video starts)) (table l) (table m) e;
-  check-mcraw = λ ts a b a' b' r p. record {
-    answer = p.answer ∙ alike (λ t. check_mcraw t ts (length a) (length b)) (mcraw-stripped ts (length a) (length b)) (table l) (table m) e;
-    first-cleared = p.first-cleared;
-    second-cleared = p.second-cleared;
+  check-mcraw = λ timestamps a b a' b' r p. record {
+    answer = p.answer ∙ alike (λ t. check_mcraw t timestamps (length a) (length b)) (mcraw-stripped timestamps (length a) (length b)) (table l) (table m) e;
+    first_cleared = p.first_cleared;
+    second_cleared = p.second_cleared;
   };
 }
 

@@ -9,7 +9,7 @@ use Rattle.audit.proofs.Telling.{telling}
 use Rattle.audit.proofs.Tiled.{tiled}
 use Rattle.audit.proofs.Refused.{right}
 use Rattle.audit.proofs.Meant.{meant}
-use Rattle.audit.proofs.EachFrame.{each-frame}
+use Rattle.audit.proofs.EachFrame.{each_frame}
 use Rattle.audit.proofs.Walked.{walked}
 use Rattle.audit.proofs.Agreed.{agreeing}
 use Rattle.audit.proofs.Rounded.{rounding, ordering}
@@ -19,10 +19,10 @@ use Rattle.audit.proofs.Worked.{all_hold}
 -- of tables as they are lent: of one the calls answer what the judge's definitions answer of the table that it is
 differing : Theorems → Differing table Validate CheckMcraw
 differing by = record {
-  constant = λ l m frames num den M N s s' x y. by.one-video.constant (table l) (table m) frames num den M N s s' x y;
+  constant = λ l m frames numerator denominator M N s s' x y. by.one-video.constant (table l) (table m) frames numerator denominator M N s s' x y;
   times = λ l m scale end nominal starts M N x y. by.one-video.times (table l) (table m) scale end nominal starts M N x y;
-  recording = λ l m ts a b a' b' c d c' d' M N h x y. by.one-video.recording (table l) (table m) ts a b a' b' c d c' d' M N h x y;
-  one-timestamp = λ l m z a b a' b' c d c' d' M N x y. by.one-video.one-timestamp (table l) (table m) z a b a' b' c d c' d' M N x y;
+  recording = λ l m timestamps a b a' b' c d c' d' M N h x y. by.one-video.recording (table l) (table m) timestamps a b a' b' c d c' d' M N h x y;
+  one_timestamp = λ l m z a b a' b' c d c' d' M N x y. by.one-video.one_timestamp (table l) (table m) z a b a' b' c d c' d' M N x y;
 }
 
 pub audited : Theorems → Claims
@@ -34,10 +34,10 @@ audited by = record {
   origins = tiled by;
   laws = by.laws;
   demands = by.demands;
-  many-cuts = by.cuts;
+  many_cuts = by.cuts;
   refusals = right by;
   differing = differing by;
-  each-frame = each-frame;
+  each_frame = each_frame;
   meanings = meant;
   walking = walked;
   stopping = by.stopping;

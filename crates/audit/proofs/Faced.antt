@@ -13,7 +13,7 @@ faced = record {
   st-validate-no-video = λ κs a. record { the = record { result = _; last = _ }; said = refl; only = λ e p i. record { result = (p i).0; last = (tt, (tt, (tt, (tt, (tt, ((p i).2, tt)))))) } };
   st-validate-constant = λ κs a. record { the = record { result = _; last = _ }; said = refl; only = λ e p i. record { result = (p i).0; last = (tt, (tt, (tt, (tt, (tt, (tt, (tt, (tt, ((p i).1, ((p i).2, tt)))))))))) } };
   st-validate-times = λ κs a. record { the = record { result = _; last = _ }; said = refl; only = λ e p i. record { result = (p i).0; last = (tt, (tt, (tt, (tt, (tt, (tt, (tt, (tt, (tt, ((p i).1, ((p i).2, tt))))))))))) } };
-  st-check-mcraw = λ κs a. record { the = record { result = _; last = _ }; said = record { told = refl; first-cleared = refl; second-cleared = refl }; only = λ e p i. record { result = (p.told i).0; last = (tt, (tt, (tt, (tt, (tt, (tt, (p.first-cleared i, (p.second-cleared i, ((p.told i).1, ((p.told i).2, tt)))))))))) } };
+  st-check-mcraw = λ κs a. record { the = record { result = _; last = _ }; said = record { told = refl; first_cleared = refl; second_cleared = refl }; only = λ e p i. record { result = (p.told i).0; last = (tt, (tt, (tt, (tt, (tt, (tt, (p.first_cleared i, (p.second_cleared i, ((p.told i).1, ((p.told i).2, tt)))))))))) } };
   st-segment-of-frame-records = λ κs a. record { the = record { result = _; last = _ }; said = refl; only = λ e p i. record { result = (p i).0; last = (tt, (tt, (tt, (tt, (tt, ((p i).1, ((p i).2, tt))))))) } };
   st-cut = λ κs a. record { the = record { result = _; last = _ }; said = record { told = refl; words = refl; shifts = refl }; only = λ e p i. record { result = (p.told i).0; last = (tt, (tt, (tt, (tt, (p.words i, (p.shifts i, ((p.told i).1, ((p.told i).2, tt)))))))) } };
   st-cuts = λ κs a. record {
@@ -29,7 +29,7 @@ faced = record {
   st-child = λ κs a. record { the = record { result = _; last = _ }; said = refl; only = λ e p i. record { result = (p i).0; last = (tt, (tt, ((p i).1.0, ((p i).1.1, ((p i).2, tt))))) } };
   st-find-box = λ κs a. record { the = record { result = _; last = _ }; said = refl; only = λ e p i. record { result = (p i).0; last = (tt, (tt, (tt, (tt, (tt, ((p i).1.0, ((p i).1.1, ((p i).2, tt)))))))) } };
   st-table-text = λ κs a. record { the = record { result = _; last = _ }; said = refl; only = λ e p i. record { result = (p i).0; last = (tt, ((p i).1.0, ((p i).1.1, ((p i).2, tt)))) } };
-  st-video-frame-times-of-moov = λ κs a. record { the = record { result = _; last = _ }; said = record { told = refl; laid_out = refl; first-cleared = refl; second-cleared = refl }; only = λ e p i. record { result = (p.told i).0; last = (tt, (tt, (p.laid_out i, (p.first-cleared i, (p.second-cleared i, ((p.told i).1.0, ((p.told i).1.1, ((p.told i).1.2, ((p.told i).1.3, ((p.told i).2, tt)))))))))) } };
+  st-video-frame-times-of-moov = λ κs a. record { the = record { result = _; last = _ }; said = record { told = refl; laid_out = refl; first_cleared = refl; second_cleared = refl }; only = λ e p i. record { result = (p.told i).0; last = (tt, (tt, (p.laid_out i, (p.first_cleared i, (p.second_cleared i, ((p.told i).1.0, ((p.told i).1.1, ((p.told i).1.2, ((p.told i).1.3, ((p.told i).2, tt)))))))))) } };
   st-mcraw-times = λ κs a. record { the = record { result = _; last = _ }; said = record { told = refl; laid_out = refl; cleared = refl }; only = λ e p i. record { result = (p.told i).0; last = (tt, (p.laid_out i, (p.cleared i, ((p.told i).1.0, ((p.told i).1.1, ((p.told i).1.2, ((p.told i).1.3, ((p.told i).2, tt)))))))) } };
   st-is-utc-second = λ κs a. record { the = record { result = _; last = _ }; said = refl; only = λ e p i. record { result = p i; last = e.last } };
   st-ticks-to-us = λ κs a. record { the = record { result = _; last = _ }; said = refl; only = λ e p i. record { result = (p i).0; last = (tt, (tt, ((p i).1, ((p i).2, tt)))) } };

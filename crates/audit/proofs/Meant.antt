@@ -14,7 +14,8 @@ use Rattle.audit.specs.Claims.{Meanings}
 is : {P : Type 0} → (P → P) × (P → P)
 is = (λ x. x, λ x. x)
 
-listed : (sources text : List ℕ) (rs : List TrimSegment) (log : Bool) (f : ℕ) (r : Result ℕ Refusal) → calls.SegmentOfFrameRecords sources text rs log f r ↔ SegmentOfFrame (in_words sources text rs log) f r
+listed : (sources text : List ℕ) (rs : List TrimSegment) (log : Bool) (f : ℕ) (r : Result ℕ Refusal)
+    → calls.SegmentOfFrameRecords sources text rs log f r ↔ SegmentOfFrame (in_words sources text rs log) f r
 unfolding locate
 listed sources text rs log f r = is
 
@@ -29,7 +30,7 @@ meant = record {
   rows-of-table = λ l ou ou' os os' r. is;
   segments-of-frames = λ l fs out out' r. is;
   validate = λ l video starts r. is;
-  check-mcraw = λ l ts a b a' b' r. is;
+  check-mcraw = λ l timestamps a b a' b' r. is;
   box-size = λ b remaining r. is;
   children = λ b at r. is;
   child-place = λ b kind r. is;
@@ -39,7 +40,7 @@ meant = record {
   table-text-place = λ b r. is;
   table-text = λ b r. is;
   video-frame-times-of-moov = λ moov standard starts a b starts' a' b' r. is;
-  mcraw-times = λ ts starts work starts' work' r. is;
+  mcraw-times = λ timestamps starts work starts' work' r. is;
   cut = λ u s a b ou ou' os os' r. is;
   cuts = λ u ranges s ou ou' os os' counts counts' r. is;
   join = λ u v s t ou ou' os os' r. is;

@@ -18,13 +18,13 @@ once = record {
   rows-of-table = λ κs a. record { the = record { result = _; last = _ }; said = record { answer = refl; words = refl; shifts = refl }; only = λ e p i. record { result = p.answer i; last = (tt, (tt, (tt, (tt, (tt, (p.words i, (p.shifts i, tt))))))) } };
   segments-of-frames = λ κs a. record { the = record { result = _; last = _ }; said = record { answer = refl; indices = refl }; only = λ e p i. record { result = p.answer i; last = (tt, (tt, (tt, (tt, (tt, (tt, (p.indices i, tt))))))) } };
   validate = λ κs a. record { the = record { result = _; last = _ }; said = refl; only = λ e p i. record { result = p i; last = e.last } };
-  check-mcraw = λ κs a. record { the = record { result = _; last = _ }; said = record { answer = refl; first-cleared = refl; second-cleared = refl }; only = λ e p i. record { result = p.answer i; last = (tt, (tt, (tt, (tt, (tt, (tt, (p.first-cleared i, (p.second-cleared i, tt)))))))) } };
+  check-mcraw = λ κs a. record { the = record { result = _; last = _ }; said = record { answer = refl; first_cleared = refl; second_cleared = refl }; only = λ e p i. record { result = p.answer i; last = (tt, (tt, (tt, (tt, (tt, (tt, (p.first_cleared i, (p.second_cleared i, tt)))))))) } };
   box-size = λ κs a. record { the = record { result = _; last = _ }; said = refl; only = λ e p i. record { result = p i; last = e.last } };
   children = λ κs a. record { the = record { result = _; last = _ }; said = refl; only = λ e p i. record { result = p i; last = e.last } };
   child-place = λ κs a. record { the = record { result = _; last = _ }; said = refl; only = λ e p i. record { result = p i; last = e.last } };
   find-box-place = λ κs a. record { the = record { result = _; last = _ }; said = refl; only = λ e p i. record { result = p i; last = e.last } };
   table-text-place = λ κs a. record { the = record { result = _; last = _ }; said = refl; only = λ e p i. record { result = p i; last = e.last } };
-  video-frame-times-of-moov = λ κs a. record { the = record { result = _; last = _ }; said = record { answer = refl; starts = refl; first-clear = refl; second-clear = refl }; only = λ e p i. record { result = p.answer i; last = (tt, (tt, (p.starts i, (p.first-clear i, (p.second-clear i, tt))))) } };
+  video-frame-times-of-moov = λ κs a. record { the = record { result = _; last = _ }; said = record { answer = refl; starts = refl; first_clear = refl; second_clear = refl }; only = λ e p i. record { result = p.answer i; last = (tt, (tt, (p.starts i, (p.first_clear i, (p.second_clear i, tt))))) } };
   mcraw-times = λ κs a. record {
     the = record { result = _; last = _ };
     said = record { answer = refl; laid_out = refl; cleared = refl };

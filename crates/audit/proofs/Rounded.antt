@@ -1,4 +1,5 @@
--- What "to the nearest", "most frequent" and "ascending" mean: by ticks' and order's laws of the definitions. Assumes nothing.
+-- What "to the nearest", "most frequent" and "ascending" mean: by ticks' and order's laws of the definitions. Assumes
+-- nothing.
 use Prim.Native.Nat.{ℕ, ◌+◌, ◌*◌, ◌≤◌, ◌<◌}
 use Rattle.std.specs.Ordering.{int_eq}
 use mathlib.Core.Path.{sym, subst}

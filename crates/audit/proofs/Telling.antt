@@ -49,11 +49,11 @@ telling = record {
     λ q. record { told = q.told ∙ ap (λ (c : Result ℕ Refusal). told itself c written) q.given.answer; indices = q.given.indices },
   );
   st-validate-no-video = λ l index r index'. one (λ (c : Result ℕ Refusal). told unsaid c tt);
-  st-validate-constant = λ l count num den frames index r frames' index'. one (λ (c : Result ℕ Refusal). told itself c frames);
+  st-validate-constant = λ l count numerator denominator frames index r frames' index'. one (λ (c : Result ℕ Refusal). told itself c frames);
   st-validate-times = λ l scale starts end nominal frames index r frames' index'. one (λ (c : Result ℕ Refusal). told itself c frames);
-  st-check-mcraw = λ l ts a b a' b' frames index r frames' index'. (
-    λ p. record { answer = _; given = record { answer = refl; first-cleared = p.first-cleared; second-cleared = p.second-cleared }; told = p.told },
-    λ q. record { told = q.told ∙ ap (λ (c : Result ℕ Refusal). told itself c frames) q.given.answer; first-cleared = q.given.first-cleared; second-cleared = q.given.second-cleared },
+  st-check-mcraw = λ l timestamps a b a' b' frames index r frames' index'. (
+    λ p. record { answer = _; given = record { answer = refl; first_cleared = p.first_cleared; second_cleared = p.second_cleared }; told = p.told },
+    λ q. record { told = q.told ∙ ap (λ (c : Result ℕ Refusal). told itself c frames) q.given.answer; first_cleared = q.given.first_cleared; second_cleared = q.given.second_cleared },
   );
   st-segment-of-frame-records = λ sources text rs log f segment index r segment' index'. one (λ (c : Result ℕ Refusal). told itself c segment);
   st-cut = λ u s a b ou ou' os os' rows index r rows' index'. placed rows;
@@ -70,10 +70,10 @@ telling = record {
   st-find-box = λ b from to kind text start length index r start' length' index'. one (λ (c : Result Place Refusal). told place_words c (start, length));
   st-table-text = λ b start length index r start' length' index'. one (λ (c : Result Place Refusal). told place_words c (start, length));
   st-video-frame-times-of-moov = λ moov standard starts a b starts' a' b' frames scale nominal end index r frames' scale' nominal' end' index'. (
-    λ p. record { answer = _; given = record { answer = refl; starts = p.laid_out; first-clear = p.first-cleared; second-clear = p.second-cleared }; told = p.told },
-    λ q. record { told = q.told ∙ ap (λ (c : Result FrameTimes Refusal). told times_words c (frames, scale, nominal, end)) q.given.answer; laid_out = q.given.starts; first-cleared = q.given.first-clear; second-cleared = q.given.second-clear },
+    λ p. record { answer = _; given = record { answer = refl; starts = p.laid_out; first_clear = p.first_cleared; second_clear = p.second_cleared }; told = p.told },
+    λ q. record { told = q.told ∙ ap (λ (c : Result FrameTimes Refusal). told times_words c (frames, scale, nominal, end)) q.given.answer; laid_out = q.given.starts; first_cleared = q.given.first_clear; second_cleared = q.given.second_clear },
   );
-  st-mcraw-times = λ ts starts work starts' work' frames scale nominal end index r frames' scale' nominal' end' index'. (
+  st-mcraw-times = λ timestamps starts work starts' work' frames scale nominal end index r frames' scale' nominal' end' index'. (
     λ p. record { answer = _; given = record { answer = refl; laid_out = p.laid_out; cleared = p.cleared }; told = p.told },
     λ q. record { told = q.told ∙ ap (λ (c : Result FrameTimes Refusal). told times_words c (frames, scale, nominal, end)) q.given.answer; laid_out = started q.given; cleared = q.given.cleared },
   );

@@ -1,4 +1,5 @@
--- The theorems that the claims are made of: the contracts of the functions that `all_claims_hold` calls. Assumes nothing.
+-- The theorems that the claims are made of: the contracts of the functions that `all_claims_hold` calls. Assumes
+-- nothing.
 use mathlib.Core.Path.{◌≡◌}
 use mathlib.Core.Bool.{true, false}
 use mathlib.Core.List.{List}
@@ -13,12 +14,12 @@ use Rattle.cuts.specs.Answers.{Cuts}
 use Rattle.cuts.specs.Laws.{CutsLaws}
 use Rattle.rules.specs.Records.{Table, frame_total}
 use Rattle.rules.specs.Rules.{check_of}
-use Rattle.rules.specs.Paper.{tests, Rightly}
+use Rattle.rules.specs.Grounds.{tests, Rightly}
 use Rattle.table_rows.specs.Mapped.{RowsAreMap}
 use Rattle.judge.specs.declared.Video.{Video}
 use Rattle.judge.specs.Video.{shown_by}
 use Rattle.judge.specs.Judge.{validate_of, check_mcraw, Settled}
-use Rattle.judge.specs.Paper.{validate_tests, mcraw_tests}
+use Rattle.judge.specs.Grounds.{validate_tests, mcraw_tests}
 use Rattle.differ.specs.Differ.{Differing}
 use Rattle.stops.specs.Promises.{ChildPlace, FindBoxPlace, Children, FrameTimesOf}
 use Rattle.stops.specs.Stops.{Stopping, Dividing}
@@ -32,10 +33,13 @@ pub record Theorems : Type 0 where
   pub laws : Laws Cut Join Merge Trace
   pub cuts : CutsLaws Cuts Cut
   pub refusals : (t : Table) → Rightly (check_of t) (tests t) (frame_total t.segments)
-  pub by-video : (t : Table) (video : Video) (starts : List ℤ) → Rightly (validate_of t (shown_by video starts)) (validate_tests t video starts) (frame_total t.segments)
-  pub by-recording : (t : Table) (ts : List ℤ) (a b : ℕ) → Rightly (check_mcraw t ts a b) (mcraw_tests t ts a b) (frame_total t.segments)
+  pub by-video : (t : Table) (video : Video) (starts : List ℤ)
+      → Rightly (validate_of t (shown_by video starts)) (validate_tests t video starts) (frame_total t.segments)
+  pub by-recording : (t : Table) (timestamps : List ℤ) (a b : ℕ)
+      → Rightly (check_mcraw t timestamps a b) (mcraw_tests t timestamps a b) (frame_total t.segments)
   pub mapped : (t : Table) → RowsAreMap t
   pub one-video : Differing (λ (t : Table). t) (λ t video starts r. r ≡ validate_of t (shown_by video starts)) Settled
   pub stopping : Stopping ChildPlace FindBoxPlace Children FrameTimesOf
   pub dividing : Dividing ChildPlace FindBoxPlace Children FrameTimesOf
-  pub modes : (moov : List ℕ) (room : ℕ) → NoTopBit (ctts_of moov) → times_of_moov true moov room ≡ times_of_moov false moov room
+  pub modes : (moov : List ℕ) (room : ℕ) → NoTopBit (ctts_of moov)
+      → times_of_moov true moov room ≡ times_of_moov false moov room

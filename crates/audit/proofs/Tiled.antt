@@ -1,4 +1,5 @@
--- An accepted table's rows tile its frames, and each frame has one origin: by the theorems of table_rows, rows and maps. Assumes nothing.
+-- An accepted table's rows tile its frames, and each frame has one origin: by the theorems of table_rows, rows and
+-- maps. Assumes nothing.
 use Prim.Native.Nat.{ℕ, ◌+◌, ◌-◌, ◌*◌, ◌≤◌, ◌<◌}
 use Rattle.std.proofs.lemmas.List.FromFn.{get_or-map-range_with_len}
 use native.Mathlib.Nat.{zero-add}
@@ -11,7 +12,6 @@ use lib.ListN.{length, take, drop, get_or, get_or-map}
 use lib.Seq.{take_at}
 use lib.Dec.{ltb}
 use borrow.Author.Tests.{le-ltb}
-use Rattle.conditions.specs.Conditions.{when}
 use Rattle.std.specs.Prelude.{Result, Ok}
 use Rattle.std.specs.Result.{result_and}
 use Rattle.refusal.specs.declared.Refusal.{Refusal}
@@ -36,15 +36,17 @@ use Rattle.audit.specs.Claims.{Origins}
 use Rattle.audit.proofs.Theorems.{Theorems}
 
 -- the rows of a table of N frames, with room for them
-room : (t : Table) (N : ℕ) (nu ns : ℕ) → Ok N ≡ check_of t → 5 * length t.segments ≤ nu → length t.segments ≤ ns → rows_refusal t nu ns ≡ Ok tt
-unfolding rows_refusal when
+room : (t : Table) (N : ℕ) (nu ns : ℕ) → Ok N ≡ check_of t → 5 * length t.segments ≤ nu → length t.segments ≤ ns
+    → rows_refusal t nu ns ≡ Ok tt
+unfolding rows_refusal
 room t N nu ns e g h =
-    let a : ltb nu (length t.segments * 5) ≡ false = le-ltb nu (length t.segments * 5) (omega arith) in
+    let a : ltb nu (5 * length t.segments) ≡ false = le-ltb _ _ g in
     let b : ltb ns (length t.segments) ≡ false = le-ltb _ _ h in
     then-rest t _ (sym e) ∙ rw (a, b)
 
 -- so many rows are answered
-rows-of : (t : Table) (N : ℕ) (ou ou' : List ℕ) (os os' : List ℤ) (r : Result ℕ Refusal) → Ok N ≡ check_of t → 5 * length t.segments ≤ length ou → length t.segments ≤ length os
+rows-of : (t : Table) (N : ℕ) (ou ou' : List ℕ) (os os' : List ℤ) (r : Result ℕ Refusal) → Ok N ≡ check_of t
+    → 5 * length t.segments ≤ length ou → length t.segments ≤ length os
     → Rowed t ou os r ou' os' → r ≡ Ok (length t.segments)
 rows-of t N ou ou' os os' r c g h p = p.answer ∙ ap (λ (x : Result (Unit {0}) Refusal). result_and x (Ok (length t.segments))) (room t N (length ou) (length os) c g h)
 
@@ -89,7 +91,8 @@ unfolding segment_of_frame
 index_is t N f i c e = let q : ◌≡◌ {A = Result ℕ Refusal} (Ok i) (Ok (ended (over_by f) t.segments)) = e ∙ ap (λ (x : Result ℕ Refusal). result_and x (Ok (ended (over_by f) t.segments))) (sym c) in grind arith
 
 -- an answer made of row j, where that is row i, and row i is x
-made : (u : List ℕ) (s : List ℤ) (f i j : ℕ) (r : Result Origin Refusal) (x : Row) → i ≡ j → row_at u s i ≡ x → r ≡ Ok (origin_in (row_at u s j) f) → r ≡ Ok (origin_in x f)
+made : (u : List ℕ) (s : List ℤ) (f i j : ℕ) (r : Result Origin Refusal) (x : Row) → i ≡ j → row_at u s i ≡ x
+    → r ≡ Ok (origin_in (row_at u s j) f) → r ≡ Ok (origin_in x f)
 made u s f i j r x e q g = g ∙ ap (λ (n : ℕ). Ok (origin_in (row_at u s n) f)) (sym e) ∙ ap (λ (y : Row). Ok (origin_in y f)) q
 
 module _ (by : Theorems) (t : Table) (N k f i : ℕ) (ou ou' : List ℕ) (os os' : List ℤ) (r : Result Origin Refusal) (c : Ok N ≡ check_of t) (p : Rowed t ou os (Ok k) ou' os') (h : f < N)
@@ -111,7 +114,7 @@ module _ (by : Theorems) (t : Table) (N k f i : ℕ) (ou ou' : List ℕ) (os os'
   unfolding row_of
   agreed =
       let m = lent by t N k ou ou' os os' c p in
-      let w = by.laws.origin-found _ _ f r m (omega (arith, frames by t N k ou ou' os os' c p)) o in
+      let w = by.laws.origin_found _ _ f r m (omega (arith, frames by t N k ou ou' os os' c p)) o in
       let j = w.only i inside (subst (λ (x : Row). x.out ≤ f) (sym row_is) here.from) (subst (λ (x : Row). f < row_end x) (sym row_is) here.to) in
       (here.exists, made (take (5 * k) ou') (take k os') f i w.index r (row_of (segment t i)) j row_is w.gives)
 
@@ -122,15 +125,15 @@ module _ (by : Theorems) (t : Table) (N k m n a b c d f i : ℕ) (ou ou' pu pu' 
     (o : Trace (take (5 * n) qu') (take n qs') f r) where
   pub agreed-twice : (i < length t.segments) × (r ≡ Ok (origin_in (row_of (segment t i)) (a + (c + f))))
   agreed-twice =
-      let gx = by.laws.cut-gives (take (5 * k) ou') (take k os') a b m pu pu' ps ps' x in
-      let gy = by.laws.cut-gives (take (5 * m) pu') (take m ps') c d n qu qu' qs qs' y in
+      let gx = by.laws.cut_gives (take (5 * k) ou') (take k os') a b m pu pu' ps ps' x in
+      let gy = by.laws.cut_gives (take (5 * m) pu') (take m ps') c d n qu qu' qs qs' y in
       let between : total (rows (take (5 * m) pu') (take m ps')) ≡ b - a = ap total gx.3.is ∙ gx.4 in
       let z = result_and (origin_refusal (take (5 * m) pu') (take m ps') (c + f)) (traced_as (origin (rows (take (5 * m) pu') (take m ps')) (c + f))) in
       let w = result_and (origin_refusal (take (5 * k) ou') (take k os') (a + (c + f))) (traced_as (origin (rows (take (5 * k) ou') (take k os')) (a + (c + f)))) in
       let in-first : c + f < b - a = omega (arith, gy.2) in
       let in_table : a + (c + f) < N = omega (arith, gx.2, frames by t N k ou ou' os os' ch p) in
-      let first : r ≡ z = by.laws.cut-origins (take (5 * m) pu') (take m ps') c d n f qu qu' qs qs' r z y h o refl in
-      let second : z ≡ w = by.laws.cut-origins (take (5 * k) ou') (take k os') a b m (c + f) pu pu' ps ps' z w x in-first refl refl in
+      let first : r ≡ z = by.laws.cut_origins (take (5 * m) pu') (take m ps') c d n f qu qu' qs qs' r z y h o refl in
+      let second : z ≡ w = by.laws.cut_origins (take (5 * k) ou') (take k os') a b m (c + f) pu pu' ps ps' z w x in-first refl refl in
       agreed by t N k (a + (c + f)) i ou ou' os os' r ch p in_table e (first ∙ second)
 
 pub tiled : Theorems → Origins
@@ -142,7 +145,7 @@ tiled by = record {
   one = λ l N k f ou ou' os os' r c p o.
       let t = frames by (table l) N k ou ou' os os' c p in
       let m = lent by (table l) N k ou ou' os os' c p in
-      (λ h. by.laws.origin-found _ _ f r m (omega arith) o, λ h. by.laws.origin-past _ _ f r m (omega arith) o);
+      (λ h. by.laws.origin_found _ _ f r m (omega arith) o, λ h. by.laws.origin_past _ _ f r m (omega arith) o);
   twice = λ l N k m n a b c d f i ou ou' pu pu' qu qu' os os' ps ps' qs qs' r ch p x y h e o.
       agreed-twice by (table l) N k m n a b c d f i ou ou' pu pu' qu qu' os os' ps ps' qs qs' r ch p x y h e o;
   agree = λ l N k f i ou ou' os os' r c p h e o. agreed by (table l) N k f i ou ou' os os' r c p h e o;

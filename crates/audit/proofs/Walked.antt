@@ -22,7 +22,8 @@ abbrev Meets : List ℕ → ℕ → Result BoxAt Refusal → Type 0
 Meets b at (Ok found) = (boxes_at b at ≡ box at found.kind found.start found.len (boxes_at b found.next)) × (at < found.next) × (found.next ≤ length b)
 Meets b at (Err refusal) = (refusal.reason ≡ reason.Missing → boxes_at b at ≡ clean) × (refusal.reason ≡ reason.Broken → boxes_at b at ≡ bad refusal.index)
 
-by-header : (b : List ℕ) (at : ℕ) (h : Header) → Lies at (length b) h → boxes_at b at ≡ after_header h at (boxes_at b) → Meets b at (reached_by h at)
+by-header : (b : List ℕ) (at : ℕ) (h : Header) → Lies at (length b) h → boxes_at b at ≡ after_header h at (boxes_at b)
+    → Meets b at (reached_by h at)
 by-header b at Short z e = (λ n. e, λ n. absurd (grind arith))
 by-header b at Bad z e = (λ n. absurd (grind arith), λ n. e)
 by-header b at (Whole found) z e = (e, omega arith, omega arith)

@@ -6,7 +6,7 @@ use mathlib.Core.List.{List}
 use mathlib.Core.Path.{◌≡◌, refl, sym, ◌∙◌, ap, ap₂, subst}
 use lib.IntN.{ℤ}
 use lib.ListN.{take, length}
-use Rattle.conditions.specs.Conditions.{when, past}
+use Rattle.conditions.specs.Conditions.{past}
 use Rattle.std.specs.Prelude.{Result}
 use Rattle.refusal.specs.declared.Refusal.{Refusal}
 use Rattle.refusal.specs.Refusals.{first_refused}
@@ -18,7 +18,7 @@ use Rattle.ticks.specs.Ticks.{micros_of, us_of, ticks_to_us, ends_near, media_ti
 use Rattle.order.specs.Order.{insert, sorted, taken_first, mode}
 use Rattle.boxes.specs.Boxes.{fitting_in, size_of, header_at, boxes_from, boxes_at, first_such}
 use Rattle.boxes.specs.Tracks.{is_video, is_video_track}
-use Rattle.tracks.specs.Tables.{timescale, table_entries, optional_entries, entries_from, entry_total as entriesTotal, per_frame}
+use Rattle.tracks.specs.Tables.{timescale, table_entries, optional_entries, entries_from, entry_total, per_frame}
 use Rattle.tracks.specs.Edits.{entry_at, kept_entry, two_entries, edit_of_entries, elst_of, edit_of}
 use Rattle.frame_times.specs.Frames.{frames_from, kept, last_of}
 use Rattle.frame_times.specs.Times.{placed, shown, of_kept, of_tables, of_media, of_track, times_of_moov as moov_times}
@@ -39,16 +39,19 @@ use Rattle.differ.specs.Differ.{SameFrames}
 use Rattle.audit.specs.Examples.{Holds, examples}
 
 -- what was written over room for k rows
-wrote : (k : ℕ) {w ou : List ℕ} {z os : List ℤ} (are : List Row) → ou ≡ w → os ≡ z → rows (take (5 * k) w) (take k z) ≡ are → rows (take (5 * k) ou) (take k os) ≡ are
+wrote : (k : ℕ) {w ou : List ℕ} {z os : List ℤ} (are : List Row) → ou ≡ w → os ≡ z
+    → rows (take (5 * k) w) (take k z) ≡ are → rows (take (5 * k) ou) (take k os) ≡ are
 wrote k are p q e = ap₂ (λ (x : List ℕ) (y : List ℤ). rows (take (5 * k) x) (take k y)) p q ∙ e
 
 -- where a recording's frames start
-pub started : {ts starts work starts' work' : List ℤ} {r : Result FrameTimes Refusal} → McrawAnswers ts starts work r starts' work'
-    → starts' ≡ laid (starts_written (mcraw_times ts (length starts) (length work)) ts) starts
-started {ts} {starts} p = p.laid_out ∙ ap (λ (x : Result FrameTimes Refusal). laid (starts_written x ts) starts) p.answer
+pub started : {timestamps starts work starts' work' : List ℤ} {r : Result FrameTimes Refusal}
+    → McrawAnswers timestamps starts work r starts' work'
+    → starts' ≡ laid (starts_written (mcraw_times timestamps (length starts) (length work)) timestamps) starts
+started {timestamps} {starts} p = p.laid_out ∙ ap (λ (x : Result FrameTimes Refusal). laid (starts_written x timestamps) starts) p.answer
 
 -- tables of one segment, whose words agree
-alone : {t u : Table} → length t.segments ≡ 1 → length u.segments ≡ 1 → (segment t 0).words ≡ (segment u 0).words → SameFrames t u
+alone : {t u : Table} → length t.segments ≡ 1 → length u.segments ≡ 1 → (segment t 0).words ≡ (segment u 0).words
+    → SameFrames t u
 alone {t} {u} p q e = record {
   many = p ∙ sym q;
   first = λ k h. ap (λ (w : Words). w.first) (at k h);
@@ -60,5 +63,5 @@ alone {t} {u} p q e = record {
     at k h = subst (λ (j : ℕ). (segment t j).words ≡ (segment u j).words) (omega (arith, p)) e
 
 pub all_hold : AllByRecursion Holds examples
-unfolding when past first_refused two days utc_bytes utc_second micros_of us_of ticks_to_us ends_near starts_at start_refusal video_refusal validate_of single recording_refusal check_mcraw shown_by media_ticks insert sorted taken_first mode fitting_in size_of header_at boxes_from boxes_at first_such is_video is_video_track timescale table_entries optional_entries entries_from entriesTotal per_frame entry_at kept_entry two_entries edit_of_entries elst_of edit_of frames_from kept last_of placed shown of_kept of_tables of_media of_track moov_times no_source no_segment frame_total bad_source bad_segment malformed source_refusal stamp_times judged segment_refusal start ends_of ends segments_from front_refusal refusal check_of ended segment_of_frame segment_of_time sources_of segments_of table_of row_of rows_of rows_refusal first_bad map_refusal room_refusal cut_refusal join_refusal merge_refusal origin_refusal indices_of indices_refusal cuts_of concat range_refusal ranges_refusal cuts_refusal gaps starts_of span nominal end fall_of refusal_of times_of mcraw_times starts_written
+unfolding past first_refused two days utc_bytes utc_second micros_of us_of ticks_to_us ends_near starts_at start_refusal video_refusal validate_of single recording_refusal check_mcraw shown_by media_ticks insert sorted taken_first mode fitting_in size_of header_at boxes_from boxes_at first_such is_video is_video_track timescale table_entries optional_entries entries_from entry_total per_frame entry_at kept_entry two_entries edit_of_entries elst_of edit_of frames_from kept last_of placed shown of_kept of_tables of_media of_track moov_times no_source no_segment frame_total bad_source bad_segment malformed source_refusal stamp_times judged segment_refusal start ends_of ends segments_from front_refusal refusal check_of ended segment_of_frame segment_of_time sources_of segments_of table_of row_of rows_of rows_refusal first_bad map_refusal room_refusal cut_refusal join_refusal merge_refusal origin_refusal indices_of indices_refusal cuts_of concat range_refusal ranges_refusal cuts_refusal gaps starts_of span nominal end fall_of refusal_of times_of mcraw_times starts_written
 all_hold = (λ r p. p, (λ r p. p, (λ r p. p, (λ r p. p, (λ r p. p, (λ r p. p, (λ r p. p, (λ r p. p, (λ r p. p, (λ r p. p, (λ r p. p, (λ r p. p, (λ r p. p, (λ r p. p, (λ r p. p, (λ r p. p, (λ r p. p, (λ r p. p, (λ r p. p, (λ r p. p, (λ r ou os p. (p.answer, wrote 2 _ p.words p.shifts refl), (λ r ou os p. (p.answer, wrote 2 _ p.words p.shifts refl), (λ r ou os p. (p.answer, wrote 2 _ p.words p.shifts refl), (λ r ou os p. (p.answer, wrote 2 _ p.words p.shifts refl), (λ r starts' a' b' p. (p.answer, p.starts), (λ r starts' a' b' p. (p.answer, p.starts), (λ r starts' a' b' p. (p.answer, p.starts), (λ r starts' a' b' p. (p.answer, p.starts), (λ r starts' work' p. (p.answer, started p), (λ r p. p, (λ r p. p, (λ r ou os p. (p.answer, wrote 3 _ p.words p.shifts refl), (λ r ou os p. (p.answer, wrote 3 _ p.words p.shifts refl), (λ r ou os p. (p.answer, wrote 3 _ p.words p.shifts refl), (λ r ou os p. (p.answer, wrote 3 _ p.words p.shifts refl), (λ r p. p, (λ r p. p, (λ r p. p, (λ r ou os p. (p.answer, wrote 2 _ p.words p.shifts refl), (λ r ou os p. (p.answer, wrote 2 _ p.words p.shifts refl), (λ r ou os p. (p.answer, wrote 4 _ p.words p.shifts refl), (λ r ou os p. (p.answer, wrote 3 _ p.words p.shifts refl), (λ r ou os p. (p.answer, wrote 2 _ p.words p.shifts refl), (λ r ou os p. (p.answer, wrote 1 _ p.words p.shifts refl), (λ r ou os p. (p.answer, wrote 2 _ p.words p.shifts refl), (λ r ou os p. (p.answer, wrote 2 _ p.words p.shifts refl), (((λ r p. p), (λ r p. p), alone refl refl refl, refl, refl), (((λ r p. p), (λ r p. p), alone refl refl refl, refl, refl), (((λ r p. p), (λ r p. p), alone refl refl refl, refl, refl), (λ r a b p. p.answer, (λ r a b p. p.answer, (λ r out p. (p.answer, p.indices), (λ r out p. (p.answer, p.indices), (λ r out p. (p.answer, p.indices), (λ r starts' a' b' p. (p.answer, p.starts), (λ r starts' a' b' p. (p.answer, p.starts), (λ r starts' a' b' p. (p.answer, p.starts), (λ r starts' a' b' p. (p.answer, p.starts), (λ r starts' a' b' p. (p.answer, p.starts), (λ r starts' a' b' p. (p.answer, p.starts), (λ r starts' a' b' p. (p.answer, p.starts), (λ r starts' a' b' p. (p.answer, p.starts), (λ r starts' a' b' p. (p.answer, p.starts), (λ r starts' a' b' p. (p.answer, p.starts), (λ r ou os cs p. (p.placed.answer, wrote 4 _ p.placed.words p.placed.shifts refl, p.counted), (λ r ou os cs p. (p.placed.answer, wrote 3 _ p.placed.words p.placed.shifts refl, p.counted), (λ r ou os cs p. (p.placed.answer, wrote 0 _ p.placed.words p.placed.shifts refl, p.counted), (λ r ou os cs p. p.placed.answer, (λ r ou os cs p. p.placed.answer, (λ r ou os cs p. p.placed.answer, tt))))))))))))))))))))))))))))))))))))))))))))))))))))))))))))))))))))))

@@ -1,6 +1,8 @@
--- Made by tools/calls: of each public call its promise. First, with a capital, its clause in the source's own words, of plain lists and numbers; a part of the caller's
--- bytes stays a reference, and `X·of` is the clause's X where the quotation has that name. Then the same as a promise: of the arguments (a.0 is the first,
--- a.1.0 the second), the result z and the exit e. The first is for readers; that the second is what was proved of the call's code stands in proofs/Quoted.antt.
+-- Made by tools/calls: of each public call its promise. First, with a capital, its clause in the source's own words,
+-- of plain lists and numbers; a part of the caller's bytes stays a reference, and `X·of` is the clause's X where the
+-- quotation has that name. Then the same as a promise: of the arguments (a.0 is the first, a.1.0 the second), the
+-- result z and the exit e. The first is for readers; that the second is what was proved of the call's code stands in
+-- proofs/Quoted.antt.
 use Rattle.std.specs.Prelude.{ℕ, Bool, List, ◌≡◌, ℤ, Result}
 use Rattle.std.specs.Borrow.{Bor}
 use Rattle.audit.specs.Promise.{Promise}
@@ -61,179 +63,288 @@ abbrev pub TicksToUs : ℤ → ℕ → Result ℤ Refusal → Type 0
 TicksToUs ticks scale ans = ans ≡ ticks_to_us ticks scale
 
 abbrev pub ticks-to-us : Promise
-ticks-to-us = record { types = ticks-to-us·.ended; Learnt = λ κs a z e. TicksToUs a.0 a.1.0 z }
+ticks-to-us = record {
+  types = ticks-to-us·.ended;
+  Learnt = λ κs a z e. TicksToUs a.0 a.1.0 z;
+}
 
--- utc::is_utc_second: is_utc_second(b) answers ans
+-- utc::is_utc_second: is_utc_second(bytes) answers ans
 abbrev pub IsUtcSecond : List ℕ → Bool → Type 0
-IsUtcSecond b ans = ans ≡ utc_second b
+IsUtcSecond bytes ans = ans ≡ utc_second bytes
 
 abbrev pub is-utc-second : Promise
-is-utc-second = record { types = is-utc-second·.ended; Learnt = λ κs a z e. IsUtcSecond a.0.now z }
+is-utc-second = record {
+  types = is-utc-second·.ended;
+  Learnt = λ κs a z e. IsUtcSecond a.0.now z;
+}
 
--- table::check: check(sources, u, t, log, text) answers ans
+-- table::check: check(sources, words, stamps, log, text) answers ans
 abbrev pub Check : List ℕ → List ℕ → List ℤ → Bool → List ℕ → Result ℕ Refusal → Type 0
-Check sources u t log text ans = ans ≡ check_of (table_of sources u t log text)
+Check sources words stamps log text ans = ans ≡ check_of (table_of sources words stamps log text)
 
 abbrev pub check : Promise
-check = record { types = check·.ended; Learnt = λ κs a z e. Check a.0.now a.1.0.now a.1.1.0.now a.1.1.1.0 a.1.1.1.1.0.now z }
+check = record {
+  types = check·.ended;
+  Learnt = λ κs a z e. Check a.0.now a.1.0.now a.1.1.0.now a.1.1.1.0 a.1.1.1.1.0.now z;
+}
 
--- lookup::segment_of_frame: segment_of_frame(sources, u, t, log, text, frame) answers ans
+-- lookup::segment_of_frame: segment_of_frame(sources, words, stamps, log, text, frame) answers ans
 abbrev pub SegmentOfFrame : List ℕ → List ℕ → List ℤ → Bool → List ℕ → ℕ → Result ℕ Refusal → Type 0
-SegmentOfFrame sources u t log text frame ans = ans ≡ segment_of_frame (table_of sources u t log text) frame
+SegmentOfFrame sources words stamps log text frame ans =
+    ans ≡ segment_of_frame (table_of sources words stamps log text) frame
 
 abbrev pub segment-of-frame : Promise
-segment-of-frame = record { types = segment-of-frame·.ended; Learnt = λ κs a z e. SegmentOfFrame a.0.now a.1.0.now a.1.1.0.now a.1.1.1.0 a.1.1.1.1.0.now a.1.1.1.1.1.0 z }
+segment-of-frame = record {
+  types = segment-of-frame·.ended;
+  Learnt = λ κs a z e. SegmentOfFrame a.0.now a.1.0.now a.1.1.0.now a.1.1.1.0 a.1.1.1.1.0.now a.1.1.1.1.1.0 z;
+}
 
--- lookup::segment_of_time_us: segment_of_time_us(sources, u, t, log, text, time) answers ans
+-- lookup::segment_of_time_us: segment_of_time_us(sources, words, stamps, log, text, time) answers ans
 abbrev pub SegmentOfTimeUs : List ℕ → List ℕ → List ℤ → Bool → List ℕ → ℤ → Result ℕ Refusal → Type 0
-SegmentOfTimeUs sources u t log text time ans = ans ≡ segment_of_time (table_of sources u t log text) time
+SegmentOfTimeUs sources words stamps log text time ans =
+    ans ≡ segment_of_time (table_of sources words stamps log text) time
 
 abbrev pub segment-of-time-us : Promise
-segment-of-time-us = record { types = segment-of-time-us·.ended; Learnt = λ κs a z e. SegmentOfTimeUs a.0.now a.1.0.now a.1.1.0.now a.1.1.1.0 a.1.1.1.1.0.now a.1.1.1.1.1.0 z }
+segment-of-time-us = record {
+  types = segment-of-time-us·.ended;
+  Learnt = λ κs a z e. SegmentOfTimeUs a.0.now a.1.0.now a.1.1.0.now a.1.1.1.0 a.1.1.1.1.0.now a.1.1.1.1.1.0 z;
+}
 
--- lookup::continues: continues(sources, u, t, log, text, r) answers ans
+-- lookup::continues: continues(sources, words, stamps, log, text, number) answers ans
 abbrev pub Continues : List ℕ → List ℕ → List ℤ → Bool → List ℕ → ℕ → Result Bool Refusal → Type 0
-Continues sources u t log text r ans = ans ≡ continues_at (table_of sources u t log text) r
+Continues sources words stamps log text number ans = ans ≡ continues_at (table_of sources words stamps log text) number
 
 abbrev pub continues : Promise
-continues = record { types = continues·.ended; Learnt = λ κs a z e. Continues a.0.now a.1.0.now a.1.1.0.now a.1.1.1.0 a.1.1.1.1.0.now a.1.1.1.1.1.0 z }
+continues = record {
+  types = continues·.ended;
+  Learnt = λ κs a z e. Continues a.0.now a.1.0.now a.1.1.0.now a.1.1.1.0 a.1.1.1.1.0.now a.1.1.1.1.1.0 z;
+}
 
--- table_rows::rows_of_table: rows_of_table(sources, u, t, log, text, ou, os) answers ans, and leaves ou', os'
-abbrev pub RowsOfTable : List ℕ → List ℕ → List ℤ → Bool → List ℕ → List ℕ → List ℤ → Result ℕ Refusal → List ℕ → List ℤ → Type 0
-RowsOfTable sources u t log text ou os ans ou' os' = Rowed (table_of sources u t log text) ou os ans ou' os'
+-- table_rows::rows_of_table: rows_of_table(sources, words, stamps, log, text, out_words, out_shifts) answers ans,
+-- and leaves out_words', out_shifts'
+abbrev pub RowsOfTable : List ℕ → List ℕ → List ℤ → Bool → List ℕ → List ℕ → List ℤ → Result ℕ Refusal → List ℕ → List ℤ
+    → Type 0
+RowsOfTable sources words stamps log text out_words out_shifts ans out_words' out_shifts' =
+    Rowed (table_of sources words stamps log text) out_words out_shifts ans out_words' out_shifts'
 
 abbrev pub rows-of-table : Promise
-rows-of-table = record { types = rows-of-table·.ended; Learnt = λ κs a z e. RowsOfTable a.0.now a.1.0.now a.1.1.0.now a.1.1.1.0 a.1.1.1.1.0.now a.1.1.1.1.1.0.now a.1.1.1.1.1.1.0.now z e.1.1.1.1.1.0.now e.1.1.1.1.1.1.0.now }
+rows-of-table = record {
+  types = rows-of-table·.ended;
+  Learnt = λ κs a z e. RowsOfTable a.0.now a.1.0.now a.1.1.0.now a.1.1.1.0 a.1.1.1.1.0.now a.1.1.1.1.1.0.now
+      a.1.1.1.1.1.1.0.now z e.1.1.1.1.1.0.now e.1.1.1.1.1.1.0.now;
+}
 
--- lookups::segments_of_frames: segments_of_frames(sources, u, t, log, text, frames, out) answers ans, and leaves out'
-abbrev pub SegmentsOfFrames : List ℕ → List ℕ → List ℤ → Bool → List ℕ → List ℕ → List ℕ → Result ℕ Refusal → List ℕ → Type 0
-SegmentsOfFrames sources u t log text frames out ans out' = Indexing (table_of sources u t log text) frames out ans out'
+-- lookups::segments_of_frames: segments_of_frames(sources, words, stamps, log, text, frames, out) answers ans, and
+-- leaves out'
+abbrev pub SegmentsOfFrames : List ℕ → List ℕ → List ℤ → Bool → List ℕ → List ℕ → List ℕ → Result ℕ Refusal → List ℕ
+    → Type 0
+SegmentsOfFrames sources words stamps log text frames out ans out' =
+    Indexing (table_of sources words stamps log text) frames out ans out'
 
 abbrev pub segments-of-frames : Promise
-segments-of-frames = record { types = segments-of-frames·.ended; Learnt = λ κs a z e. SegmentsOfFrames a.0.now a.1.0.now a.1.1.0.now a.1.1.1.0 a.1.1.1.1.0.now a.1.1.1.1.1.0.now a.1.1.1.1.1.1.0.now z e.1.1.1.1.1.1.0.now }
+segments-of-frames = record {
+  types = segments-of-frames·.ended;
+  Learnt = λ κs a z e. SegmentsOfFrames a.0.now a.1.0.now a.1.1.0.now a.1.1.1.0 a.1.1.1.1.0.now a.1.1.1.1.1.0.now
+      a.1.1.1.1.1.1.0.now z e.1.1.1.1.1.1.0.now;
+}
 
--- judge::validate: validate(sources, u, t, log, text, video, starts) answers ans
+-- judge::validate: validate(sources, words, stamps, log, text, video, starts) answers ans
 abbrev pub Validate : List ℕ → List ℕ → List ℤ → Bool → List ℕ → Video → List ℤ → Result ℕ Refusal → Type 0
-Validate sources u t log text video starts ans = ans ≡ validate_of (table_of sources u t log text) (shown_by video starts)
+Validate sources words stamps log text video starts ans =
+    ans ≡ validate_of (table_of sources words stamps log text) (shown_by video starts)
 
 abbrev pub validate : Promise
-validate = record { types = validate·.ended; Learnt = λ κs a z e. Validate a.0.now a.1.0.now a.1.1.0.now a.1.1.1.0 a.1.1.1.1.0.now a.1.1.1.1.1.0 a.1.1.1.1.1.1.0.now z }
+validate = record {
+  types = validate·.ended;
+  Learnt = λ κs a z e. Validate a.0.now a.1.0.now a.1.1.0.now a.1.1.1.0 a.1.1.1.1.0.now a.1.1.1.1.1.0
+      a.1.1.1.1.1.1.0.now z;
+}
 
--- judge::check_mcraw: check_mcraw(sources, u, t, log, text, timestamps, work-a, work-b) answers ans, and leaves work-a', work-b'
-abbrev pub CheckMcraw : List ℕ → List ℕ → List ℤ → Bool → List ℕ → List ℤ → List ℤ → List ℤ → Result ℕ Refusal → List ℤ → List ℤ → Type 0
-CheckMcraw sources u t log text timestamps work-a work-b ans work-a' work-b' = Settled (table_of sources u t log text) timestamps work-a work-b ans work-a' work-b'
+-- judge::check_mcraw: check_mcraw(sources, words, stamps, log, text, timestamps, first_work, second_work) answers
+-- ans, and leaves first_work', second_work'
+abbrev pub CheckMcraw : List ℕ → List ℕ → List ℤ → Bool → List ℕ → List ℤ → List ℤ → List ℤ → Result ℕ Refusal → List ℤ
+    → List ℤ → Type 0
+CheckMcraw sources words stamps log text timestamps first_work second_work ans first_work' second_work' =
+    Settled (table_of sources words stamps log text) timestamps first_work second_work ans first_work' second_work'
 
 abbrev pub check-mcraw : Promise
-check-mcraw = record { types = check-mcraw·.ended; Learnt = λ κs a z e. CheckMcraw a.0.now a.1.0.now a.1.1.0.now a.1.1.1.0 a.1.1.1.1.0.now a.1.1.1.1.1.0.now a.1.1.1.1.1.1.0.now a.1.1.1.1.1.1.1.0.now z e.1.1.1.1.1.1.0.now e.1.1.1.1.1.1.1.0.now }
+check-mcraw = record {
+  types = check-mcraw·.ended;
+  Learnt = λ κs a z e. CheckMcraw a.0.now a.1.0.now a.1.1.0.now a.1.1.1.0 a.1.1.1.1.0.now a.1.1.1.1.1.0.now
+      a.1.1.1.1.1.1.0.now a.1.1.1.1.1.1.1.0.now z e.1.1.1.1.1.1.0.now e.1.1.1.1.1.1.1.0.now;
+}
 
 -- boxes::box_size: box_size(«data», remaining) answers ans
 abbrev pub BoxSize : List ℕ → ℕ → Result BoxSize·of Refusal → Type 0
 BoxSize «data» remaining ans = ans ≡ box_size «data» remaining
 
 abbrev pub box-size : Promise
-box-size = record { types = box-size·.ended; Learnt = λ κs a z e. BoxSize a.0.now a.1.0 z }
+box-size = record {
+  types = box-size·.ended;
+  Learnt = λ κs a z e. BoxSize a.0.now a.1.0 z;
+}
 
 -- boxes::children: children(payload, at) answers ans
 abbrev pub Children : List ℕ → ℕ → Result BoxAt Refusal → Type 0
 Children payload at ans = ans ≡ children_at payload at
 
 abbrev pub children : Promise
-children = record { types = children·.ended; Learnt = λ κs a z e. Children a.0.now a.1.0 z }
+children = record {
+  types = children·.ended;
+  Learnt = λ κs a z e. Children a.0.now a.1.0 z;
+}
 
 -- boxes::child_place: child_place(payload, kind) answers ans
 abbrev pub ChildPlace : List ℕ → ℕ → Result Place Refusal → Type 0
 ChildPlace payload kind ans = ans ≡ child_place payload kind
 
 abbrev pub child-place : Promise
-child-place = record { types = child-place·.ended; Learnt = λ κs a z e. ChildPlace a.0.now a.1.0 z }
+child-place = record {
+  types = child-place·.ended;
+  Learnt = λ κs a z e. ChildPlace a.0.now a.1.0 z;
+}
 
 -- boxes::child: child(payload, kind) answers ans
 abbrev pub Child : Bor (List ℕ) → ℕ → Bor (List ℕ) → Type 0
 Child payload kind ans = PartAt payload (result_ok (child_place payload.now kind)) ans
 
 abbrev pub child : Promise
-child = record { types = child·.ended; Learnt = λ κs a z e. Child a.0 a.1.0 z }
+child = record {
+  types = child·.ended;
+  Learnt = λ κs a z e. Child a.0 a.1.0 z;
+}
 
--- boxes::find_box_place: find_box_place(bytes, start, end, kind, text-types) answers ans
+-- boxes::find_box_place: find_box_place(bytes, start, end, kind, text_types) answers ans
 abbrev pub FindBoxPlace : List ℕ → ℕ → ℕ → ℕ → Bool → Result Place Refusal → Type 0
-FindBoxPlace bytes start end kind text-types ans = ans ≡ find_box_place bytes start end kind text-types
+FindBoxPlace bytes start end kind text_types ans = ans ≡ find_box_place bytes start end kind text_types
 
 abbrev pub find-box-place : Promise
-find-box-place = record { types = find-box-place·.ended; Learnt = λ κs a z e. FindBoxPlace a.0.now a.1.0 a.1.1.0 a.1.1.1.0 a.1.1.1.1.0 z }
+find-box-place = record {
+  types = find-box-place·.ended;
+  Learnt = λ κs a z e. FindBoxPlace a.0.now a.1.0 a.1.1.0 a.1.1.1.0 a.1.1.1.1.0 z;
+}
 
--- boxes::find_box: find_box(bytes, start, end, kind, text-types) answers ans
+-- boxes::find_box: find_box(bytes, start, end, kind, text_types) answers ans
 abbrev pub FindBox : Bor (List ℕ) → ℕ → ℕ → ℕ → Bool → Bor (List ℕ) → Type 0
-FindBox bytes start end kind text-types ans = PartAt bytes (result_ok (find_box_place bytes.now start end kind text-types)) ans
+FindBox bytes start end kind text_types ans =
+    PartAt bytes (result_ok (find_box_place bytes.now start end kind text_types)) ans
 
 abbrev pub find-box : Promise
-find-box = record { types = find-box·.ended; Learnt = λ κs a z e. FindBox a.0 a.1.0 a.1.1.0 a.1.1.1.0 a.1.1.1.1.0 z }
+find-box = record {
+  types = find-box·.ended;
+  Learnt = λ κs a z e. FindBox a.0 a.1.0 a.1.1.0 a.1.1.1.0 a.1.1.1.1.0 z;
+}
 
 -- boxes::table_text_place: table_text_place(file) answers ans
 abbrev pub TableTextPlace : List ℕ → Result Place Refusal → Type 0
 TableTextPlace file ans = ans ≡ table_text_place file
 
 abbrev pub table-text-place : Promise
-table-text-place = record { types = table-text-place·.ended; Learnt = λ κs a z e. TableTextPlace a.0.now z }
+table-text-place = record {
+  types = table-text-place·.ended;
+  Learnt = λ κs a z e. TableTextPlace a.0.now z;
+}
 
 -- boxes::table_text: table_text(file) answers ans
 abbrev pub TableText : Bor (List ℕ) → Bor (List ℕ) → Type 0
 TableText file ans = PartAt file (result_ok (table_text_place file.now)) ans
 
 abbrev pub table-text : Promise
-table-text = record { types = table-text·.ended; Learnt = λ κs a z e. TableText a.0 z }
+table-text = record {
+  types = table-text·.ended;
+  Learnt = λ κs a z e. TableText a.0 z;
+}
 
--- frame_times::video_frame_times_of_moov: video_frame_times_of_moov(moov, standard, starts, work-a, work-b) answers ans, and leaves starts', work-a', work-b'
-abbrev pub VideoFrameTimesOfMoov : List ℕ → Bool → List ℤ → List ℤ → List ℤ → Result FrameTimes Refusal → List ℤ → List ℤ → List ℤ → Type 0
-VideoFrameTimesOfMoov moov standard starts work-a work-b ans starts' work-a' work-b' = MoovAnswers standard moov starts work-a work-b ans starts' work-a' work-b'
+-- frame_times::video_frame_times_of_moov: video_frame_times_of_moov(moov, standard, starts, first_work, second_work)
+-- answers ans, and leaves starts', first_work', second_work'
+abbrev pub VideoFrameTimesOfMoov : List ℕ → Bool → List ℤ → List ℤ → List ℤ → Result FrameTimes Refusal → List ℤ
+    → List ℤ → List ℤ → Type 0
+VideoFrameTimesOfMoov moov standard starts first_work second_work ans starts' first_work' second_work' =
+    MoovAnswers standard moov starts first_work second_work ans starts' first_work' second_work'
 
 abbrev pub video-frame-times-of-moov : Promise
-video-frame-times-of-moov = record { types = video-frame-times-of-moov·.ended; Learnt = λ κs a z e. VideoFrameTimesOfMoov a.0.now a.1.0 a.1.1.0.now a.1.1.1.0.now a.1.1.1.1.0.now z e.1.1.0.now e.1.1.1.0.now e.1.1.1.1.0.now }
+video-frame-times-of-moov = record {
+  types = video-frame-times-of-moov·.ended;
+  Learnt = λ κs a z e. VideoFrameTimesOfMoov a.0.now a.1.0 a.1.1.0.now a.1.1.1.0.now a.1.1.1.1.0.now z e.1.1.0.now
+      e.1.1.1.0.now e.1.1.1.1.0.now;
+}
 
 -- mcraw::mcraw_times: mcraw_times(timestamps, starts, work) answers ans, and leaves starts', work'
 abbrev pub McrawTimes : List ℤ → List ℤ → List ℤ → Result FrameTimes Refusal → List ℤ → List ℤ → Type 0
 McrawTimes timestamps starts work ans starts' work' = McrawAnswers timestamps starts work ans starts' work'
 
 abbrev pub mcraw-times : Promise
-mcraw-times = record { types = mcraw-times·.ended; Learnt = λ κs a z e. McrawTimes a.0.now a.1.0.now a.1.1.0.now z e.1.0.now e.1.1.0.now }
+mcraw-times = record {
+  types = mcraw-times·.ended;
+  Learnt = λ κs a z e. McrawTimes a.0.now a.1.0.now a.1.1.0.now z e.1.0.now e.1.1.0.now;
+}
 
--- maps::cut: cut(u, s, a, b, ou, os) answers ans, and leaves ou', os'
+-- maps::cut: cut(words, shifts, start, end, out_words, out_shifts) answers ans, and leaves out_words', out_shifts'
 abbrev pub Cut : List ℕ → List ℤ → ℕ → ℕ → List ℕ → List ℤ → Result ℕ Refusal → List ℕ → List ℤ → Type 0
-Cut u s a b ou os ans ou' os' = Cut·of u s a b ou os ans ou' os'
+Cut words shifts start end out_words out_shifts ans out_words' out_shifts' =
+    Cut·of words shifts start end out_words out_shifts ans out_words' out_shifts'
 
 abbrev pub cut : Promise
-cut = record { types = cut·.ended; Learnt = λ κs a z e. Cut a.0.now a.1.0.now a.1.1.0 a.1.1.1.0 a.1.1.1.1.0.now a.1.1.1.1.1.0.now z e.1.1.1.1.0.now e.1.1.1.1.1.0.now }
+cut = record {
+  types = cut·.ended;
+  Learnt = λ κs a z e. Cut a.0.now a.1.0.now a.1.1.0 a.1.1.1.0 a.1.1.1.1.0.now a.1.1.1.1.1.0.now z e.1.1.1.1.0.now
+      e.1.1.1.1.1.0.now;
+}
 
--- maps::merge: merge(u, s, ou, os) answers ans, and leaves ou', os'
+-- maps::merge: merge(words, shifts, out_words, out_shifts) answers ans, and leaves out_words', out_shifts'
 abbrev pub Merge : List ℕ → List ℤ → List ℕ → List ℤ → Result ℕ Refusal → List ℕ → List ℤ → Type 0
-Merge u s ou os ans ou' os' = Merge·of u s ou os ans ou' os'
+Merge words shifts out_words out_shifts ans out_words' out_shifts' =
+    Merge·of words shifts out_words out_shifts ans out_words' out_shifts'
 
 abbrev pub merge : Promise
-merge = record { types = merge·.ended; Learnt = λ κs a z e. Merge a.0.now a.1.0.now a.1.1.0.now a.1.1.1.0.now z e.1.1.0.now e.1.1.1.0.now }
+merge = record {
+  types = merge·.ended;
+  Learnt = λ κs a z e. Merge a.0.now a.1.0.now a.1.1.0.now a.1.1.1.0.now z e.1.1.0.now e.1.1.1.0.now;
+}
 
--- maps::join: join(u, s, v, t, ou, os) answers ans, and leaves ou', os'
+-- maps::join: join(words, shifts, second_words, second_shifts, out_words, out_shifts) answers ans, and leaves
+-- out_words', out_shifts'
 abbrev pub Join : List ℕ → List ℤ → List ℕ → List ℤ → List ℕ → List ℤ → Result ℕ Refusal → List ℕ → List ℤ → Type 0
-Join u s v t ou os ans ou' os' = Join·of u s v t ou os ans ou' os'
+Join words shifts second_words second_shifts out_words out_shifts ans out_words' out_shifts' =
+    Join·of words shifts second_words second_shifts out_words out_shifts ans out_words' out_shifts'
 
 abbrev pub join : Promise
-join = record { types = join·.ended; Learnt = λ κs a z e. Join a.0.now a.1.0.now a.1.1.0.now a.1.1.1.0.now a.1.1.1.1.0.now a.1.1.1.1.1.0.now z e.1.1.1.1.0.now e.1.1.1.1.1.0.now }
+join = record {
+  types = join·.ended;
+  Learnt = λ κs a z e. Join a.0.now a.1.0.now a.1.1.0.now a.1.1.1.0.now a.1.1.1.1.0.now a.1.1.1.1.1.0.now z
+      e.1.1.1.1.0.now e.1.1.1.1.1.0.now;
+}
 
--- maps::origin: origin(u, s, frame) answers ans
+-- maps::origin: origin(words, shifts, frame) answers ans
 abbrev pub Origin : List ℕ → List ℤ → ℕ → Result Origin·of Refusal → Type 0
-Origin u s frame ans = Trace u s frame ans
+Origin words shifts frame ans = Trace words shifts frame ans
 
 abbrev pub origin : Promise
-origin = record { types = origin·.ended; Learnt = λ κs a z e. Origin a.0.now a.1.0.now a.1.1.0 z }
+origin = record {
+  types = origin·.ended;
+  Learnt = λ κs a z e. Origin a.0.now a.1.0.now a.1.1.0 z;
+}
 
--- cuts::cuts: cuts(u, s, ranges, ou, os, counts) answers ans, and leaves ou', os', counts'
-abbrev pub Cuts : List ℕ → List ℤ → List ℕ → List ℕ → List ℤ → List ℕ → Result ℕ Refusal → List ℕ → List ℤ → List ℕ → Type 0
-Cuts u s ranges ou os counts ans ou' os' counts' = Cuts·of u s ranges ou os counts ans ou' os' counts'
+-- cuts::cuts: cuts(words, shifts, ranges, out_words, out_shifts, counts) answers ans, and leaves out_words',
+-- out_shifts', counts'
+abbrev pub Cuts : List ℕ → List ℤ → List ℕ → List ℕ → List ℤ → List ℕ → Result ℕ Refusal → List ℕ → List ℤ → List ℕ
+    → Type 0
+Cuts words shifts ranges out_words out_shifts counts ans out_words' out_shifts' counts' =
+    Cuts·of words shifts ranges out_words out_shifts counts ans out_words' out_shifts' counts'
 
 abbrev pub cuts : Promise
-cuts = record { types = cuts·.ended; Learnt = λ κs a z e. Cuts a.0.now a.1.0.now a.1.1.0.now a.1.1.1.0.now a.1.1.1.1.0.now a.1.1.1.1.1.0.now z e.1.1.1.0.now e.1.1.1.1.0.now e.1.1.1.1.1.0.now }
+cuts = record {
+  types = cuts·.ended;
+  Learnt = λ κs a z e. Cuts a.0.now a.1.0.now a.1.1.0.now a.1.1.1.0.now a.1.1.1.1.0.now a.1.1.1.1.1.0.now z
+      e.1.1.1.0.now e.1.1.1.1.0.now e.1.1.1.1.1.0.now;
+}
 
 -- records::segment_of_frame_records: segment_of_frame_records(sources, text, records, log, frame) answers ans
 abbrev pub SegmentOfFrameRecords : List ℕ → List ℕ → List TrimSegment → Bool → ℕ → Result ℕ Refusal → Type 0
 SegmentOfFrameRecords sources text records log frame ans = ans ≡ locate sources text records log frame
 
 abbrev pub segment-of-frame-records : Promise
-segment-of-frame-records = record { types = segment-of-frame-records·.ended; Learnt = λ κs a z e. SegmentOfFrameRecords a.0.now a.1.0.now a.1.1.0.now a.1.1.1.0 a.1.1.1.1.0 z }
+segment-of-frame-records = record {
+  types = segment-of-frame-records·.ended;
+  Learnt = λ κs a z e. SegmentOfFrameRecords a.0.now a.1.0.now a.1.1.0.now a.1.1.1.0 a.1.1.1.1.0 z;
+}

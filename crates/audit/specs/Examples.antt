@@ -1,5 +1,6 @@
--- DOCUMENT 01'S NUMBERS, and the auditor's clip and exports of docs/AUDIT.md, in one statement over a single list: what EVERY call with these arguments answers.
-use Rattle.std.specs.Prelude.{ℕ, ◌+◌, ◌*◌, ◌/◌, ◌%◌, Bool, true, false, List, [], ◌∷◌, ◌++◌, ◌≡◌, ℤ, pos, neg_ℤ, nat_abs, ◌-ℤ◌, replicate, length, take, Result, Ok}
+-- THE RULES' EXAMPLES, and the auditor's clip and exports of docs/AUDIT.md, in one statement over a single list: what
+-- EVERY call with these arguments answers.
+use Rattle.std.specs.Prelude.{ℕ, ◌+◌, ◌*◌, ◌/◌, ◌%◌, Bool, true, false, List, [], ◌∷◌, ◌++◌, ◌≡◌, ℤ, pos, neg_ℤ, ◌-ℤ◌, replicate, length, take, Result, Ok, unsigned_abs}
 use Rattle.refusal.specs.declared.Reason.{Reason}
 use Rattle.refusal.specs.declared.Reason.TheVariants as reason
 use Rattle.refusal.specs.declared.Refusal.{Refusal}
@@ -20,41 +21,42 @@ use Rattle.audit.specs.Words.{Lent, table, Check, SegmentOfFrame, SegmentOfTimeU
 
 pub data Example : Type 0 where
   -- so many ticks of a scale are so many microseconds
-  ticks : (t : ℤ) (scale : ℕ) (us : Result ℤ Refusal) → Example
+  ticks : (count : ℤ) (scale : ℕ) (is : Result ℤ Refusal) → Example
   -- bytes pass the UTC rule, or don't
   second : (bytes : List ℕ) (is : Bool) → Example
   -- a table is accepted with so many frames, or refused
-  checked : (l : Lent) (is : Result ℕ Refusal) → Example
+  checked : (lent : Lent) (is : Result ℕ Refusal) → Example
   -- a table against a video without lent starts
-  against : (l : Lent) (video : Video) (is : Result ℕ Refusal) → Example
+  against : (lent : Lent) (video : Video) (is : Result ℕ Refusal) → Example
   -- a table against a recording of one timestamp, which needs no working slices
-  filmed : (l : Lent) (timestamp : ℤ) (is : Result ℕ Refusal) → Example
-  -- two tables that agree in their frame fields, accepted for one constant video: their last durations are us apart, and us·num is so much below document 02's bound
-  exports : (l m : Lent) (frames num den us below : ℕ) → Example
+  filmed : (lent : Lent) (timestamp : ℤ) (is : Result ℕ Refusal) → Example
+  -- two tables that agree in their frame fields, accepted for one constant video: their last durations are us apart,
+  -- and us·numerator is so much below the bound of RULES 6.4
+  exports : (one other : Lent) (frames numerator denominator us below : ℕ) → Example
   -- the segment of a frame, and of a time
-  frame : (l : Lent) (k : ℕ) (is : Result ℕ Refusal) → Example
-  time : (l : Lent) (us : ℤ) (is : Result ℕ Refusal) → Example
+  frame : (lent : Lent) (k : ℕ) (is : Result ℕ Refusal) → Example
+  time : (lent : Lent) (us : ℤ) (is : Result ℕ Refusal) → Example
   -- the segments of a list of frames, put into this room, and what it holds then
-  list : (l : Lent) (frames room : List ℕ) (is : Result ℕ Refusal) (are : List ℕ) → Example
+  list : (lent : Lent) (frames room : List ℕ) (is : Result ℕ Refusal) (are : List ℕ) → Example
   -- the rows of a table
-  map : (l : Lent) (are : List Row) → Example
+  map : (lent : Lent) (are : List Row) → Example
   -- the frames a to b of a map are these rows
-  cut_to : (m : List Row) (a b : ℕ) (are : List Row) → Example
+  cut_to : (whole : List Row) (a b : ℕ) (are : List Row) → Example
   -- the cuts of ranges of a map, two words each, are these rows, so many of each; or are refused, with no room lent
-  cuts_are : (m : List Row) (ranges : List ℕ) (are : List Row) (counts : List ℕ) → Example
-  cuts_refused : (m : List Row) (ranges : List ℕ) (why : Reason) (index : ℕ) → Example
+  cuts_are : (whole : List Row) (ranges : List ℕ) (are : List Row) (counts : List ℕ) → Example
+  cuts_refused : (whole : List Row) (ranges : List ℕ) (why : Reason) (index : ℕ) → Example
   -- two maps joined, and a map merged
-  joins : (m n : List Row) (are : List Row) → Example
-  merges : (m : List Row) (are : List Row) → Example
+  joins : (one other : List Row) (are : List Row) → Example
+  merges : (whole : List Row) (are : List Row) → Example
   -- where a frame of a map comes from
-  comes : (m : List Row) (k : ℕ) (is : Result From Refusal) → Example
+  comes : (whole : List Row) (k : ℕ) (is : Result From Refusal) → Example
   -- the frame times of a moov, with offsets by the standard or not, and where each frame starts
   movie : (moov : List ℕ) (standard : Bool) (are : Result FrameTimes Refusal) (starts : List ℤ) → Example
   -- the times of a recording's timestamps, and where each frame starts
   recording : (timestamps : List ℤ) (are : Result FrameTimes Refusal) (starts : List ℤ) → Example
 
 abbrev pub last_duration : Lent → ℤ
-last_duration l = (last_segment (table l).segments).stamps.duration
+last_duration lent = (last_segment (table lent).segments).stamps.duration
 
 -- every call with these arguments answers so, and writes the rows or starts into room for just them
 abbrev pub Holds : Example → Type 0
@@ -63,59 +65,74 @@ Holds (second bytes is) = (r : Bool) → IsUtcSecond bytes r → r ≡ is
 Holds (checked l is) = (r : Result ℕ Refusal) → Check l r → r ≡ is
 Holds (against l video is) = (r : Result ℕ Refusal) → Validate l video [] r → r ≡ is
 Holds (filmed l x is) = (r : Result ℕ Refusal) (a b : List ℤ) → CheckMcraw l (x ∷ []) [] [] r a b → r ≡ is
-Holds (exports l m frames num den us below) =
-    ((r : Result ℕ Refusal) → Validate l (Constant frames num den) [] r → r ≡ Ok frames)
-    × ((r : Result ℕ Refusal) → Validate m (Constant frames num den) [] r → r ≡ Ok frames)
+Holds (exports l m frames numerator denominator us below) =
+    ((r : Result ℕ Refusal) → Validate l (Constant frames numerator denominator) [] r → r ≡ Ok frames)
+    × ((r : Result ℕ Refusal) → Validate m (Constant frames numerator denominator) [] r → r ≡ Ok frames)
     × SameFrames (table l) (table m)
-    × (nat_abs (last_duration l -ℤ last_duration m) ≡ us)
-    × (us * num + below ≡ 2 * den * 1000000 + num)
+    × (unsigned_abs (last_duration l -ℤ last_duration m) ≡ us)
+    × (us * numerator + below ≡ 2 * denominator * 1000000 + numerator)
 Holds (frame l k is) = (r : Result ℕ Refusal) → SegmentOfFrame l k r → r ≡ is
 Holds (time l us is) = (r : Result ℕ Refusal) → SegmentOfTimeUs l us r → r ≡ is
-Holds (list l frames room is are) = (r : Result ℕ Refusal) (out : List ℕ) → SegmentsOfFrames l frames room r out → (r ≡ is) × (out ≡ are)
+Holds (list l frames room is are) = (r : Result ℕ Refusal) (out : List ℕ) → SegmentsOfFrames l frames room r out
+    → (r ≡ is) × (out ≡ are)
 Holds (map l are) =
-    (r : Result ℕ Refusal) (ou : List ℕ) (os : List ℤ) → RowsOfTable l (replicate (5 * length are) 0) (replicate (length are) (pos 0)) r ou os
+    (r : Result ℕ Refusal) (ou : List ℕ) (os : List ℤ)
+    → RowsOfTable l (replicate (5 * length are) 0) (replicate (length are) (pos 0)) r ou os
     → (r ≡ Ok (length are)) × (map_written (length are) ou os ≡ are)
 Holds (cut_to m a b are) =
-    (r : Result ℕ Refusal) (ou : List ℕ) (os : List ℤ) → Cut (words_of m) (shifts_of m) a b (replicate (5 * length are) 0) (replicate (length are) (pos 0)) r ou os
+    (r : Result ℕ Refusal) (ou : List ℕ) (os : List ℤ)
+    → Cut (words_of m) (shifts_of m) a b (replicate (5 * length are) 0) (replicate (length are) (pos 0)) r ou os
     → (r ≡ Ok (length are)) × (map_written (length are) ou os ≡ are)
 Holds (cuts_are m ranges are counts) =
     (r : Result ℕ Refusal) (ou : List ℕ) (os : List ℤ) (counts' : List ℕ)
-    → Cuts (words_of m) (shifts_of m) ranges (replicate (5 * length are) 0) (replicate (length are) (pos 0)) (replicate (length counts) 0) r ou os counts'
+    → Cuts (words_of m) (shifts_of m) ranges (replicate (5 * length are) 0) (replicate (length are) (pos 0))
+    (replicate (length counts) 0) r ou os counts'
     → (r ≡ Ok (length are)) × (map_written (length are) ou os ≡ are) × (counts' ≡ counts)
 Holds (cuts_refused m ranges why index) =
-    (r : Result ℕ Refusal) (ou : List ℕ) (os : List ℤ) (counts' : List ℕ) → Cuts (words_of m) (shifts_of m) ranges [] [] [] r ou os counts' → r ≡ refused why index
+    (r : Result ℕ Refusal) (ou : List ℕ) (os : List ℤ) (counts' : List ℕ)
+    → Cuts (words_of m) (shifts_of m) ranges [] [] [] r ou os counts' → r ≡ refused why index
 Holds (joins m n are) =
-    (r : Result ℕ Refusal) (ou : List ℕ) (os : List ℤ) → Join (words_of m) (shifts_of m) (words_of n) (shifts_of n) (replicate (5 * length are) 0) (replicate (length are) (pos 0)) r ou os
+    (r : Result ℕ Refusal) (ou : List ℕ) (os : List ℤ)
+    → Join (words_of m) (shifts_of m) (words_of n) (shifts_of n) (replicate (5 * length are) 0)
+    (replicate (length are) (pos 0)) r ou os
     → (r ≡ Ok (length are)) × (map_written (length are) ou os ≡ are)
 Holds (merges m are) =
-    (r : Result ℕ Refusal) (ou : List ℕ) (os : List ℤ) → Merge (words_of m) (shifts_of m) (replicate (5 * length are) 0) (replicate (length are) (pos 0)) r ou os
+    (r : Result ℕ Refusal) (ou : List ℕ) (os : List ℤ)
+    → Merge (words_of m) (shifts_of m) (replicate (5 * length are) 0) (replicate (length are) (pos 0)) r ou os
     → (r ≡ Ok (length are)) × (map_written (length are) ou os ≡ are)
 Holds (comes m k is) = (r : Result From Refusal) → Origin (words_of m) (shifts_of m) k r → r ≡ is
 Holds (movie moov standard are starts) =
     (r : Result FrameTimes Refusal) (starts' a' b' : List ℤ)
-    → VideoFrameTimesOfMoov moov standard (replicate (length starts) (pos 0)) (replicate (length starts) (pos 0)) (replicate (length starts) (pos 0)) r starts' a' b'
+    → VideoFrameTimesOfMoov moov standard (replicate (length starts) (pos 0)) (replicate (length starts) (pos 0))
+    (replicate (length starts) (pos 0)) r starts' a' b'
     → (r ≡ are) × (starts' ≡ starts)
-Holds (recording ts are starts) =
-    (r : Result FrameTimes Refusal) (starts' work' : List ℤ) → McrawTimes ts (replicate (length ts) (pos 0)) (replicate (length ts) (pos 0)) r starts' work'
+Holds (recording timestamps are starts) =
+    (r : Result FrameTimes Refusal) (starts' work' : List ℤ)
+    → McrawTimes timestamps (replicate (length timestamps) (pos 0))
+    (replicate (length timestamps) (pos 0)) r starts' work'
     → (r ≡ are) × (starts' ≡ starts)
 
 -- so many frames, at so many ticks a second, with this nominal duration and end
 abbrev pub times : (frames scale : ℕ) (nominal end : ℤ) → Result FrameTimes Refusal
-times f s m e = Ok (record { frames = f; scale = s; nominal = m; end = e })
+times frames scale nominal end = Ok (record { frames = frames; scale = scale; nominal = nominal; end = end })
 
 -- a frame of a source, with a shift's flag and the shift
-abbrev pub origin : (source frame flag : ℕ) (shift : ℤ) → Result From Refusal
-origin s f g z = Ok (record { source = s; frame = f; flag = g; shift = z })
+abbrev pub origin : (source source_frame flag : ℕ) (shift : ℤ) → Result From Refusal
+origin source source_frame flag shift =
+    Ok (record { source = source; frame = source_frame; flag = flag; shift = shift })
 
--- ---- T of document 01
+-- ---- table T (RULES 3.6)
 -- a row without shift, and one with
 abbrev pub row : (source first count out : ℕ) → Row
-row s f n o = record { source = s; first = f; count = n; out = o; flag = 0; shift = pos 0 }
+row source first count out =
+    record { source = source; first = first; count = count; out = out; flag = 0; shift = pos 0 }
 
-abbrev pub shifted : (source first count out : ℕ) → ℤ → Row
-shifted s f n o z = record { source = s; first = f; count = n; out = o; flag = 1; shift = z }
+abbrev pub shifted : (source first count out : ℕ) (shift : ℤ) → Row
+shifted source first count out shift =
+    record { source = source; first = first; count = count; out = out; flag = 1; shift = shift }
 
--- a source at 25/1: its frames; without creation time or clock, with the 20 bytes of text at 0 as creation time, and with a clock of 1,000,000 ticks a second
+-- a source at 25/1: its frames; without creation time or clock, with the 20 bytes of text at 0 as creation time, and
+-- with a clock of 1,000,000 ticks a second
 abbrev pub plain : ℕ → List ℕ
 plain frames = frames ∷ 25 ∷ 1 ∷ 0 ∷ 0 ∷ 0 ∷ 0 ∷ 0 ∷ 0 ∷ 0 ∷ []
 
@@ -134,14 +151,33 @@ T = row 0 10 30 0 ∷ row 1 5 20 30 ∷ []
 
 -- T as a table of the source A and of B, with a text
 abbrev pub table_t : List ℕ → List ℕ → Lent
-table_t a text = record { sources = a ++ plain 50; words = words_of T; stamps = stamps 0 1200000 (pos 0) ++ stamps 1200000 800000 (pos 0); log = false; text = text }
+table_t a text = record {
+  sources = a ++ plain 50;
+  words = words_of T;
+  stamps = stamps 0 1200000 (pos 0) ++ stamps 1200000 800000 (pos 0);
+  log = false;
+  text = text;
+}
 
--- a segment of duration 0: of one source's frames 0 and 1 the first lasts 0..10 and the second 10..10; in the longer table frame 2 lasts 10..20 after them
+-- a segment of duration 0: of one source's frames 0 and 1 the first lasts 0..10 and the second 10..10; in the longer
+-- table frame 2 lasts 10..20 after them
 abbrev pub still : Lent
-still = record { sources = plain 100; words = words_of (row 0 0 1 0 ∷ row 0 1 1 1 ∷ []); stamps = stamps 0 10 (pos 0) ++ stamps 10 0 (pos 0); log = false; text = [] }
+still = record {
+  sources = plain 100;
+  words = words_of (row 0 0 1 0 ∷ row 0 1 1 1 ∷ []);
+  stamps = stamps 0 10 (pos 0) ++ stamps 10 0 (pos 0);
+  log = false;
+  text = [];
+}
 
 abbrev pub still_between : Lent
-still_between = record { sources = plain 100; words = words_of (row 0 0 1 0 ∷ row 0 1 1 1 ∷ row 0 2 1 2 ∷ []); stamps = stamps 0 10 (pos 0) ++ stamps 10 0 (pos 0) ++ stamps 10 10 (pos 0); log = false; text = [] }
+still_between = record {
+  sources = plain 100;
+  words = words_of (row 0 0 1 0 ∷ row 0 1 1 1 ∷ row 0 2 1 2 ∷ []);
+  stamps = stamps 0 10 (pos 0) ++ stamps 10 0 (pos 0) ++ stamps 10 10 (pos 0);
+  log = false;
+  text = [];
+}
 
 -- 0000-02-29T00:00:00Z and 1900-02-29T00:00:00Z
 abbrev pub leap_day : List ℕ
@@ -150,9 +186,15 @@ leap_day = 48 ∷ 48 ∷ 48 ∷ 48 ∷ 45 ∷ 48 ∷ 50 ∷ 45 ∷ 50 ∷ 57 ∷
 abbrev pub not_leap_day : List ℕ
 not_leap_day = 49 ∷ 57 ∷ 48 ∷ 48 ∷ 45 ∷ 48 ∷ 50 ∷ 45 ∷ 50 ∷ 57 ∷ 84 ∷ 48 ∷ 48 ∷ 58 ∷ 48 ∷ 48 ∷ 58 ∷ 48 ∷ 48 ∷ 90 ∷ []
 
--- a source of so many frames at num/den, all of which are one segment, with these signed words
-abbrev pub whole_source : (frames num den : ℕ) → List ℤ → Lent
-whole_source frames num den signed = record { sources = frames ∷ num ∷ den ∷ 0 ∷ 0 ∷ 0 ∷ 0 ∷ 0 ∷ 0 ∷ 0 ∷ []; words = words_of (row 0 0 frames 0 ∷ []); stamps = signed; log = false; text = [] }
+-- a source of so many frames at numerator/denominator, all of which are one segment, with these signed words
+abbrev pub whole_source : (frames numerator denominator : ℕ) → List ℤ → Lent
+whole_source frames numerator denominator signed = record {
+  sources = frames ∷ numerator ∷ denominator ∷ 0 ∷ 0 ∷ 0 ∷ 0 ∷ 0 ∷ 0 ∷ 0 ∷ [];
+  words = words_of (row 0 0 frames 0 ∷ []);
+  stamps = signed;
+  log = false;
+  text = [];
+}
 
 -- 30 frames at 30000/1001, of which the one segment lasts so many microseconds; as a video
 abbrev pub lasting : ℕ → Lent
@@ -163,7 +205,10 @@ thirty = Constant 30 30000 1001
 
 -- the same frames; the source start and the capture times have ends at 2^63 - 1
 abbrev pub elsewhere : Lent
-elsewhere = whole_source 30 30000 1001 (pos 9223372036853774807 ∷ pos 0 ∷ pos 1001000 ∷ pos 4611686018427387904 ∷ pos 4611686018427387904 ∷ pos 4611686018427387903 ∷ pos 0 ∷ [])
+elsewhere =
+    whole_source 30 30000 1001
+    (pos 9223372036853774807 ∷ pos 0 ∷ pos 1001000 ∷ pos 4611686018427387904 ∷ pos 4611686018427387904
+    ∷ pos 4611686018427387903 ∷ pos 0 ∷ [])
 
 -- ---- moovs
 -- numbers as four bytes each, and a box
@@ -174,7 +219,8 @@ numbers (n ∷ l) = (n / 16777216 ∷ n / 65536 % 256 ∷ n / 256 % 256 ∷ n % 
 abbrev pub box_of : ℕ → List ℕ → List ℕ
 box_of kind payload = numbers ((8 + length payload) ∷ kind ∷ []) ++ payload
 
--- a moov of one video track, with this for both timescales, of what its stbl has and of the box that may be absent, edts
+-- a moov of one video track, with this for both timescales, of what its stbl has and of the box that may be absent,
+-- edts
 abbrev pub moov_at : ℕ → List ℕ → List ℕ → List ℕ
 moov_at scale tables edit =
     box_of mvhd (numbers (0 ∷ 0 ∷ 0 ∷ scale ∷ []))
@@ -191,7 +237,8 @@ moov_with = moov_at 100
 
 -- the same of the entries of its stts, and of a ctts, which may be absent too
 abbrev pub moov_of : List ℕ → List ℕ → List ℕ → List ℕ
-moov_of durations offsets edit = moov_with (box_of stts (numbers (0 ∷ (length durations / 2) ∷ durations)) ++ offsets) edit
+moov_of durations offsets edit =
+    moov_with (box_of stts (numbers (0 ∷ (length durations / 2) ∷ durations)) ++ offsets) edit
 
 -- M1 and M2: durations 10, 10, 10, offsets 10, 30, 0; M2 has one edit, time 10, duration 0, rate 1
 abbrev pub M : List ℕ → List ℕ
@@ -200,17 +247,20 @@ M edit = moov_of (3 ∷ 10 ∷ []) (box_of ctts (numbers (0 ∷ 3 ∷ 1 ∷ 10 �
 abbrev pub M2 : List ℕ
 M2 = M (box_of edts (box_of elst (numbers (0 ∷ 1 ∷ 0 ∷ 10 ∷ 0x10000 ∷ []))))
 
--- document 02's time-lapse: three frames of 500,000,000 ticks at 1,000,000,000 a second, each with the offset 2,400,000,000, in a ctts of a version; and an edit at that time
+-- a time-lapse: three frames of 500,000,000 ticks at 1,000,000,000 a second, each with the offset 2,400,000,000, in a
+-- ctts of a version; and an edit at that time
 abbrev pub lapse : ℕ → List ℕ → List ℕ
 lapse version edit =
     moov_at 1000000000
-    (box_of stts (numbers (0 ∷ 1 ∷ 3 ∷ 500000000 ∷ [])) ++ box_of ctts (numbers (version * 16777216 ∷ 1 ∷ 3 ∷ 2400000000 ∷ [])))
+    (box_of stts (numbers (0 ∷ 1 ∷ 3 ∷ 500000000 ∷ []))
+    ++ box_of ctts (numbers (version * 16777216 ∷ 1 ∷ 3 ∷ 2400000000 ∷ [])))
     edit
 
 abbrev pub lapse_edit : List ℕ
 lapse_edit = box_of edts (box_of elst (numbers (16777216 ∷ 1 ∷ 0 ∷ 0 ∷ 0 ∷ 2400000000 ∷ 0x10000 ∷ [])))
 
--- ---- the auditor's clip: three originals at 25/1 of 90,000, 60,000 and 45,000 frames, the second with a clock; 108,500 frames are put out
+-- ---- the auditor's clip: three originals at 25/1 of 90,000, 60,000 and 45,000 frames, the second with a clock;
+-- 108,500 frames are put out
 abbrev pub clip_shift : ℤ
 clip_shift = neg_ℤ (pos 1800)
 
@@ -221,7 +271,8 @@ abbrev pub clip_table : Lent
 clip_table = record {
   sources = plain 90000 ++ clocked 60000 ++ plain 45000;
   words = words_of clip_rows;
-  stamps = stamps 0 1600000000 (pos 0) ++ stamps 1600000000 1540000000 clip_shift ++ stamps 3140000000 1200000000 (pos 0);
+  stamps = stamps 0 1600000000 (pos 0) ++ stamps 1600000000 1540000000 clip_shift
+      ++ stamps 3140000000 1200000000 (pos 0);
   log = false;
   text = [];
 }
@@ -275,12 +326,16 @@ examples =
     -- M1, M2, and durations 5, 7, 7, 5: nominal 5
     ∷ movie (M []) false (times 3 100 (pos 10) (pos 50)) (pos 10 ∷ pos 20 ∷ pos 40 ∷ [])
     ∷ movie M2 false (times 3 100 (pos 10) (pos 40)) (pos 0 ∷ pos 10 ∷ pos 30 ∷ [])
-    ∷ movie (moov_of (1 ∷ 5 ∷ 2 ∷ 7 ∷ 1 ∷ 5 ∷ []) [] []) false (times 4 100 (pos 5) (pos 24)) (pos 0 ∷ pos 5 ∷ pos 12 ∷ pos 19 ∷ [])
+    ∷ movie (moov_of (1 ∷ 5 ∷ 2 ∷ 7 ∷ 1 ∷ 5 ∷ []) [] []) false (times 4 100 (pos 5) (pos 24))
+    (pos 0 ∷ pos 5 ∷ pos 12 ∷ pos 19 ∷ [])
     -- nominal isn't the median: of durations 5, 5, 7, 8, 9 it is 5
-    ∷ movie (moov_of (2 ∷ 5 ∷ 1 ∷ 7 ∷ 1 ∷ 8 ∷ 1 ∷ 9 ∷ []) [] []) false (times 5 100 (pos 5) (pos 34)) (pos 0 ∷ pos 5 ∷ pos 10 ∷ pos 17 ∷ pos 25 ∷ [])
+    ∷ movie (moov_of (2 ∷ 5 ∷ 1 ∷ 7 ∷ 1 ∷ 8 ∷ 1 ∷ 9 ∷ []) [] []) false (times 5 100 (pos 5) (pos 34))
+    (pos 0 ∷ pos 5 ∷ pos 10 ∷ pos 17 ∷ pos 25 ∷ [])
     -- a recording's timestamps 1000, 1010, 1025: nominal 10, end 35
-    ∷ recording (pos 1000 ∷ pos 1010 ∷ pos 1025 ∷ []) (times 3 1000000000 (pos 10) (pos 35)) (pos 0 ∷ pos 10 ∷ pos 25 ∷ [])
-    -- the auditor's clip: accepted, its rows, cut twice and cut at once, and frame 41,200 of it: frame 28,200 of original 1, with the shift -1,800
+    ∷ recording (pos 1000 ∷ pos 1010 ∷ pos 1025 ∷ []) (times 3 1000000000 (pos 10) (pos 35))
+    (pos 0 ∷ pos 10 ∷ pos 25 ∷ [])
+    -- the auditor's clip: accepted, its rows, cut twice and cut at once, and frame 41,200 of it: frame 28,200 of
+    -- original 1, with the shift -1,800
     ∷ checked clip_table (Ok 108500)
     ∷ against clip_table (Constant 108500 25 1) (Ok 108500)
     ∷ map clip_table clip_rows
@@ -293,39 +348,55 @@ examples =
     -- its frames up to 50,000 and those after them, joined: four rows, which merged are the clip again
     ∷ cut_to clip_rows 0 50000 clip_head
     ∷ cut_to clip_rows 50000 108500 clip_tail
-    ∷ joins clip_head clip_tail (row 0 1500 40000 0 ∷ shifted 1 12000 10000 40000 clip_shift ∷ shifted 1 22000 28500 50000 clip_shift ∷ row 2 0 30000 78500 ∷ [])
-    ∷ merges (row 0 1500 40000 0 ∷ shifted 1 12000 10000 40000 clip_shift ∷ shifted 1 22000 28500 50000 clip_shift ∷ row 2 0 30000 78500 ∷ []) clip_rows
+    ∷ joins clip_head clip_tail
+    (row 0 1500 40000 0 ∷ shifted 1 12000 10000 40000 clip_shift ∷ shifted 1 22000 28500 50000 clip_shift
+    ∷ row 2 0 30000 78500 ∷ [])
+    ∷ merges
+    (row 0 1500 40000 0 ∷ shifted 1 12000 10000 40000 clip_shift ∷ shifted 1 22000 28500 50000 clip_shift
+    ∷ row 2 0 30000 78500 ∷ [])
+    clip_rows
     -- a cut merges nothing, and neighbours whose shifts differ stay apart: an absent shift isn't a shift of 0
     ∷ cut_to (row 0 0 10 0 ∷ row 0 10 10 10 ∷ []) 0 20 (row 0 0 10 0 ∷ row 0 10 10 10 ∷ [])
     ∷ merges (row 0 0 10 0 ∷ row 0 10 10 10 ∷ []) (row 0 0 20 0 ∷ [])
     ∷ merges (row 0 0 10 0 ∷ shifted 0 10 10 10 (pos 0) ∷ []) (row 0 0 10 0 ∷ shifted 0 10 10 10 (pos 0) ∷ [])
-    ∷ merges (shifted 0 0 10 0 (pos 5) ∷ shifted 0 10 10 10 (pos 6) ∷ []) (shifted 0 0 10 0 (pos 5) ∷ shifted 0 10 10 10 (pos 6) ∷ [])
-    -- document 02, n: at 30000/1001 the bound is reached up to the rounding, since one microsecond more would be 30,000 more; at 128/5 it is reached
+    ∷ merges (shifted 0 0 10 0 (pos 5) ∷ shifted 0 10 10 10 (pos 6) ∷ [])
+    (shifted 0 0 10 0 (pos 5) ∷ shifted 0 10 10 10 (pos 6) ∷ [])
+    -- how far two tables may differ (RULES 6.4): at 30000/1001 the bound is reached up to the rounding, since one
+    -- microsecond more would be 30,000 more; at 128/5 it is reached
     ∷ exports (lasting 967633) (lasting 1034367) 30 30000 1001 66734 10000
-    ∷ exports (whole_source 2 128 5 (stamps 0 39062 (pos 0))) (whole_source 2 128 5 (stamps 0 117188 (pos 0))) 2 128 5 78126 0
+    ∷ exports (whole_source 2 128 5 (stamps 0 39062 (pos 0)))
+    (whole_source 2 128 5 (stamps 0 117188 (pos 0))) 2 128 5 78126 0
     -- source and capture times aren't bound by it
     ∷ exports (lasting 1001000) elsewhere 30 30000 1001 0 2002030000
-    -- of one timestamp the fps decides, so that it is asked to be the same: at 25/1 a frame lasts 40,000, at 1/1 a million
+    -- of one timestamp the fps decides, so that it is asked to be the same: at 25/1 a frame lasts 40,000, at 1/1 a
+    -- million
     ∷ filmed (whole_source 1 25 1 (stamps 0 40000 (pos 0))) (pos 7) (Ok 1)
     ∷ filmed (whole_source 1 1 1 (stamps 0 1000000 (pos 0))) (pos 7) (Ok 1)
-    -- document 02, a: T's frames in any order, and what lies past them; room that is too short; a table that is refused, of a list without frames
-    ∷ list (table_t (plain 100) []) (49 ∷ 0 ∷ 30 ∷ 29 ∷ 18446744073709551615 ∷ []) (9 ∷ 9 ∷ 9 ∷ 9 ∷ 9 ∷ 9 ∷ []) (Ok 5) (1 ∷ 0 ∷ 1 ∷ 0 ∷ 1 ∷ 9 ∷ [])
+    -- the segments of a list (RULES 4.4): T's frames in any order, and what lies past them; room that is too short; a
+    -- table that is refused, of a list without frames
+    ∷ list (table_t (plain 100) []) (49 ∷ 0 ∷ 30 ∷ 29 ∷ 18446744073709551615 ∷ []) (9 ∷ 9 ∷ 9 ∷ 9 ∷ 9 ∷ 9 ∷ []) (Ok 5)
+    (1 ∷ 0 ∷ 1 ∷ 0 ∷ 1 ∷ 9 ∷ [])
     ∷ list (table_t (plain 100) []) (29 ∷ 30 ∷ []) (9 ∷ []) (refused reason.NoRoom 0) (9 ∷ [])
     ∷ list (table_t (plain 0) []) [] [] (refused reason.ZeroInSource 0) []
-    -- document 02, g: of M1 the mvhd and 6 bytes, so that its boxes end there without a track; 10 bytes more, where the trak's header at 24 is bad; a bad header in the
-    -- place of the stts; and one in that of the edts, which may be absent
+    -- missing or broken (RULES 7.6): of M1 the mvhd and 6 bytes, so that its boxes end there without a track; 10 bytes
+    -- more, where the trak's header at 24 is broken; a broken one in the place of the stts; and in that of the edts,
+    -- which may be absent
     ∷ movie (take 30 (M [])) false (refused reason.Missing 0) []
     ∷ movie (take 40 (M [])) false (refused reason.Broken 24) []
     ∷ movie (moov_with (numbers (7 ∷ stts ∷ [])) []) false (refused reason.Broken 100) []
     ∷ movie (M (numbers (7 ∷ edts ∷ []))) false (times 3 100 (pos 10) (pos 50)) (pos 10 ∷ pos 20 ∷ pos 40 ∷ [])
-    -- document 02, d: the time-lapse by the standard, without an edit and with one; by the Rust its times are below 0, and no frame is kept; the versions 1, 2 and 255 are signed
-    ∷ movie (lapse 0 []) true (times 3 1000000000 (pos 500000000) (pos 3900000000)) (pos 2400000000 ∷ pos 2900000000 ∷ pos 3400000000 ∷ [])
-    ∷ movie (lapse 0 lapse_edit) true (times 3 1000000000 (pos 500000000) (pos 1500000000)) (pos 0 ∷ pos 500000000 ∷ pos 1000000000 ∷ [])
+    -- offsets (RULES 8.4): the time-lapse by the standard, without an edit and with one; by the Rust its times are
+    -- below 0, and no frame is kept; the versions 1, 2 and 255 are signed
+    ∷ movie (lapse 0 []) true (times 3 1000000000 (pos 500000000) (pos 3900000000))
+    (pos 2400000000 ∷ pos 2900000000 ∷ pos 3400000000 ∷ [])
+    ∷ movie (lapse 0 lapse_edit) true (times 3 1000000000 (pos 500000000) (pos 1500000000))
+    (pos 0 ∷ pos 500000000 ∷ pos 1000000000 ∷ [])
     ∷ movie (lapse 0 []) false (refused reason.Missing 0) (pos 0 ∷ pos 0 ∷ pos 0 ∷ [])
     ∷ movie (lapse 1 []) true (refused reason.Missing 0) (pos 0 ∷ pos 0 ∷ pos 0 ∷ [])
     ∷ movie (lapse 2 []) true (refused reason.Missing 0) (pos 0 ∷ pos 0 ∷ pos 0 ∷ [])
     ∷ movie (lapse 255 []) true (refused reason.Missing 0) (pos 0 ∷ pos 0 ∷ pos 0 ∷ [])
-    -- T cut 25..40 and 28..33 in one call, and 28..30 and 25..40, each counted from its own a; no range at all; and of three the second past T's end, before the lack of room
+    -- T cut 25..40 and 28..33 in one call, and 28..30 and 25..40, each counted from its own a; no range at all; and of
+    -- three the second past T's end, before the lack of room
     ∷ cuts_are T (25 ∷ 40 ∷ 28 ∷ 33 ∷ []) (row 0 35 5 0 ∷ row 1 5 10 5 ∷ row 0 38 2 0 ∷ row 1 5 3 2 ∷ []) (2 ∷ 2 ∷ [])
     ∷ cuts_are T (28 ∷ 30 ∷ 25 ∷ 40 ∷ []) (row 0 38 2 0 ∷ row 0 35 5 0 ∷ row 1 5 10 5 ∷ []) (1 ∷ 2 ∷ [])
     ∷ cuts_are T [] [] []

@@ -1,14 +1,16 @@
--- What a public call's promise is, and what it is for exactly one answer to meet it: the result, and what each lent `&mut` slice holds afterwards.
+-- What a public call's promise is, and what it is for exactly one answer to meet it: the result, and what each lent
+-- `&mut` slice holds afterwards.
 use Rattle.std.specs.Prelude.{◌≡◌}
 use contract.Lifetimes.{Lfts}
 use denote.Triple.Entry.{Args, Res}
 use denote.Triple.Clauses.{Ended, Lasts, AtExit, at_exit}
 
--- A promise: the types of a function's parameters and of its result, which Rattle generates of its source, and what its `ensures` says of
--- the result and of the parameters at exit. Nothing is asked of the arguments: Promised.antt.
+-- A promise: the types of a function's parameters and of its result, which Rattle generates of its source, and what its
+-- `ensures` says of the result and of the parameters at exit. Nothing is asked of the arguments: Promised.antt.
 pub record Promise : Type 2 where
   pub types : Ended
-  pub Learnt : (κs : Lfts types.signature.lifetimes) → Args types.signature κs → Res types.signature κs → AtExit types κs → Type 0
+  pub Learnt : (κs : Lfts types.signature.lifetimes) → Args types.signature κs → Res types.signature κs
+      → AtExit types κs → Type 0
 
 module _ (f : Promise) where
   -- where the slices live, the arguments, and the result
@@ -21,7 +23,8 @@ module _ (f : Promise) where
   abbrev pub Result : Regions → Type 0
   Result κs = Res f.types.signature κs
 
-  -- how a call could end: its result, and for each parameter the last value behind it (a list for a `&mut` slice, nothing for what no call can change)
+  -- how a call could end: its result, and for each parameter the last value behind it (a list for a `&mut` slice,
+  -- nothing for what no call can change)
   pub record End (κs : Regions) (a : Given κs) : Type 0 where
     pub result : Result κs
     pub last : Lasts f.types κs a

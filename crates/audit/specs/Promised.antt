@@ -1,5 +1,6 @@
--- WHAT THE TOOLCHAIN PROVES OF A CALL'S CODE, said of its quoted promise. proofs/Quoted.antt and proofs/FaceQuoted.antt have this theorem of every call: run in
--- any model of the language, its code `Meets` the contract `promised`. That contract is made of the quotation alone, so what is quoted is what was proved.
+-- WHAT THE TOOLCHAIN PROVES OF A CALL'S CODE, said of its quoted promise. proofs/Quoted.antt and proofs/FaceQuoted.antt
+-- have this theorem of every call: run in any model of the language, its code `Meets` the contract `promised`. That
+-- contract is made of the quotation alone, so what is quoted is what was proved.
 use seplogic.Ra.Ura.{Ura}
 use base.Logic.{emp}
 use contract.Monad.{fact}

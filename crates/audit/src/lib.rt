@@ -1,9 +1,11 @@
-// What is claimed of the public calls, as the contract of a function that does nothing: the check proves it like any other.
+// What is claimed of the public calls, as the contract of a function that does nothing: the check
+// proves it like any other.
 #![tactic(auto)]
 
 ghost use Rattle.audit.specs.Claims.{Claims};
 
-// Every claim holds, by the theorems of the crates below: the contracts of the functions called here, which do nothing either.
+// Every claim holds, by the theorems of the crates below: the contracts of the functions called
+// here, which do nothing either.
 pub fn all_claims_hold()
     ensures { Claims }
 {

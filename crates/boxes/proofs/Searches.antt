@@ -1,4 +1,5 @@
--- The first box of a type, with text types or without, and all boxes of a type, from `at` on, by the header at `at`. Assumes nothing.
+-- The first box of a type, with text types or without, and all boxes of a type, from `at` on, by the header at `at`.
+-- Assumes nothing.
 use mathlib.Core.Path.{◌≡◌, refl, sym}
 use mathlib.Core.Bool.{Bool, true, false, not, ◌&&◌}
 use mathlib.Core.List.{List, [], ◌∷◌}
@@ -21,18 +22,21 @@ use Rattle.boxes.specs.Walks.{stop_at}
 use Rattle.boxes.proofs.Walks.{Stops, at-header}
 
 -- a type that the search may pass, and one at which it stops; the code has `t` for whether it is text
-goes_on : (text t : Bool) (at k a n : ℕ) (rest : Boxes) → t ≡ is_text k → text && not t ≡ false → searched text (box at k a n rest) ≡ box at k a n (searched text rest)
+goes_on : (text t : Bool) (at k a n : ℕ) (rest : Boxes) → t ≡ is_text k → text && not t ≡ false
+    → searched text (box at k a n rest) ≡ box at k a n (searched text rest)
 unfolding textual
 goes_on true t at k a n rest e x = rw (← e, not-false t x)
 goes_on false t at k a n rest e x = refl
 
-breaks-off : (text t : Bool) (at k a n : ℕ) (rest : Boxes) → t ≡ is_text k → text && not t ≡ true → searched text (box at k a n rest) ≡ bad at
+breaks-off : (text t : Bool) (at k a n : ℕ) (rest : Boxes) → t ≡ is_text k → text && not t ≡ true
+    → searched text (box at k a n rest) ≡ bad at
 unfolding textual
 breaks-off true t at k a n rest e x = rw (← e, not-true t x)
 breaks-off false t at k a n rest e x = tf (sym x)
 
 module _ (kind : ℕ) (s : List ℕ) (at : ℕ) where
-  stop : (text : Bool) (h : Header) → Stops h → first_of kind (searched text (after_header h at (boxes_at s))) ≡ stop_at h at
+  stop : (text : Bool) (h : Header) → Stops h
+      → first_of kind (searched text (after_header h at (boxes_at s))) ≡ stop_at h at
   unfolding first_such textual
   stop true Short t = refl
   stop true Bad t = refl
@@ -46,7 +50,8 @@ module _ (kind : ℕ) (s : List ℕ) (at : ℕ) where
   none Bad t = refl
   none (Whole b) t = absurd (t b refl)
 
-  pub search-stops : (text : Bool) {h : Header} → h ≡ header_at s at → Stops h → first_of kind (searched text (boxes_at s at)) ≡ stop_at h at
+  pub search-stops : (text : Bool) {h : Header} → h ≡ header_at s at → Stops h
+      → first_of kind (searched text (boxes_at s at)) ≡ stop_at h at
   search-stops text {h} e t = rw (at-header s at e) (stop text h t)
 
   all-stops : {h : Header} → h ≡ header_at s at → Stops h → all_of kind (boxes_at s at) ≡ []
@@ -63,7 +68,8 @@ module _ (kind : ℕ) (s : List ℕ) (at : ℕ) where
         unfolding first_such
         search-finds z = rw (at-header s at e, goes_on text t at b.kind b.start b.len (boxes_at s b.next) i x, eq-eqb _ _ z)
 
-        pub search-passes : (b.kind ≡ kind → ⊥) → first_of kind (searched text (boxes_at s at)) ≡ first_of kind (searched text (boxes_at s b.next))
+        pub search-passes : (b.kind ≡ kind → ⊥)
+            → first_of kind (searched text (boxes_at s at)) ≡ first_of kind (searched text (boxes_at s b.next))
         unfolding first_such
         search-passes z = rw (at-header s at e, goes_on text t at b.kind b.start b.len (boxes_at s b.next) i x, ne_eqb _ _ z)
 
@@ -82,18 +88,23 @@ with_found (Some p) l = p ∷ l
 
 -- a turn of a walk for the only box of a type: it ends, finds the first, finds the second, passes another
 module _ (kind : ℕ) (s : List ℕ) (at : ℕ) {answer : Result Place Refusal} where
-  pub no_more : (found : Option Place) → only_of (with_found found (all_of kind (boxes_at s at))) ≡ answer → {h : Header} → h ≡ header_at s at → Stops h → ok_or found (refusal_at reason.NoTable 0) ≡ answer
+  pub no_more : (found : Option Place) → only_of (with_found found (all_of kind (boxes_at s at))) ≡ answer
+      → {h : Header} → h ≡ header_at s at → Stops h → ok_or found (refusal_at reason.NoTable 0) ≡ answer
   no_more None i e t = rw (all-stops kind s at e t) at i
   no_more (Some p) i e t = rw (all-stops kind s at e t) at i
 
   module _ {b : BoxAt} (e : Whole b ≡ header_at s at) where
-    pub first_one : (found : Option Place) → only_of (with_found found (all_of kind (boxes_at s at))) ≡ answer → is_some found ≡ false → b.kind ≡ kind → only_of (place b.start b.len ∷ all_of kind (boxes_at s b.next)) ≡ answer
+    pub first_one : (found : Option Place) → only_of (with_found found (all_of kind (boxes_at s at))) ≡ answer
+        → is_some found ≡ false → b.kind ≡ kind
+        → only_of (place b.start b.len ∷ all_of kind (boxes_at s b.next)) ≡ answer
     first_one None i f t = rw (all-finds kind s at e t) at i
     first_one (Some p) i f t = tf f
 
-    pub second-one : (found : Option Place) → only_of (with_found found (all_of kind (boxes_at s at))) ≡ answer → is_some found ≡ true → b.kind ≡ kind → refused reason.SeveralTables 0 ≡ answer
+    pub second-one : (found : Option Place) → only_of (with_found found (all_of kind (boxes_at s at))) ≡ answer
+        → is_some found ≡ true → b.kind ≡ kind → refused reason.SeveralTables 0 ≡ answer
     second-one None i f t = tf (sym f)
     second-one (Some p) i f t = rw (all-finds kind s at e t) at i
 
-    pub not-one : (found : Option Place) → only_of (with_found found (all_of kind (boxes_at s at))) ≡ answer → (b.kind ≡ kind → ⊥) → only_of (with_found found (all_of kind (boxes_at s b.next))) ≡ answer
+    pub not-one : (found : Option Place) → only_of (with_found found (all_of kind (boxes_at s at))) ≡ answer
+        → (b.kind ≡ kind → ⊥) → only_of (with_found found (all_of kind (boxes_at s b.next))) ≡ answer
     not-one found i t = rw (all-passes kind s at e t) at i

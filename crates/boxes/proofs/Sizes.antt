@@ -44,7 +44,8 @@ pub fits : (s : List ℕ) (remaining : ℕ) {z : Option BoxSize} → z ≡ size_
 fits s remaining e = subst (Fitting remaining) (sym e) (size-fitting s remaining)
 
 -- a size of 32 bits
-small : (s : List ℕ) (remaining : ℕ) → 4 ≤ length s → {n : ℕ} {r : Option BoxSize} → 2 ≤ be32_at s 0 → n ≡ be32_at s 0 → r ≡ fitting_in remaining 8 n → r ≡ size_of s remaining
+small : (s : List ℕ) (remaining : ℕ) → 4 ≤ length s → {n : ℕ} {r : Option BoxSize} → 2 ≤ be32_at s 0 → n ≡ be32_at s 0
+    → r ≡ fitting_in remaining 8 n → r ≡ size_of s remaining
 unfolding size_of
 small s remaining h z n r = simp (le-ltb _ _ h, ne_eqb (be32_at s 0) 0 (omega arith), ne_eqb (be32_at s 0) 1 (omega arith), r, n)
 
@@ -54,12 +55,14 @@ module _ (s : List ℕ) (at : ℕ) where
   short h = rw (lt-ltb _ _ h)
 
   -- the code has the bytes from `at` on as `&s[at..]`
-  pub by_size : {k : ℕ} {z : Option BoxSize} → 8 ≤ length s - at → k ≡ be32_at s (at + 4) → z ≡ size_of (take (length s - at) (drop at s)) (length s - at) → header_by at k z ≡ header_at s at
+  pub by_size : {k : ℕ} {z : Option BoxSize} → 8 ≤ length s - at → k ≡ be32_at s (at + 4)
+      → z ≡ size_of (take (length s - at) (drop at s)) (length s - at) → header_by at k z ≡ header_at s at
   unfolding header_at
   by_size h k z = rw (le-ltb _ _ h, k, z, take_rest s at)
 
   -- a size of 32 bits that fits, by the one test that the code makes
-  pub plain : {n k : ℕ} → 8 ≤ length s - at → length s < 2 ^ 64 → n ≡ be32_at s at → n < 2 ^ 32 → (n + 18446744073709551608) % 2 ^ 64 ≤ length s - at - 8 → k ≡ be32_at s (at + 4)
+  pub plain : {n k : ℕ} → 8 ≤ length s - at → length s < 2 ^ 64 → n ≡ be32_at s at → n < 2 ^ 32
+      → (n + 18446744073709551608) % 2 ^ 64 ≤ length s - at - 8 → k ≡ be32_at s (at + 4)
       → Whole (record { kind = k; start = at + 8; len = (n + 18446744073709551608) % 2 ^ 64; next = at + n }) ≡ header_at s at
   unfolding header_at fitting_in
   plain {n} h m e u t k =
@@ -71,8 +74,8 @@ module _ (s : List ℕ) (at : ℕ) where
       small (drop at s) (length s - at) (rw length-drop (omega arith)) (rw there (omega arith)) (sym there) (rw (le-ltb n 8 b, le-ltb (length s - at) n l)) in
       rw (le-ltb _ _ h, sym size, k, len)
 
--- what a whole header says: the payload starts 8 bytes further at least, ends where the next box starts, and that is within the bytes;
--- of a bad one 8 bytes are there
+-- what a whole header says: the payload starts 8 bytes further at least, ends where the next box starts, and that is
+-- within the bytes; of a bad one 8 bytes are there
 abbrev pub Lies : ℕ → ℕ → Header → Type 0
 Lies at l Short = Unit {0}
 Lies at l Bad = at + 8 ≤ l

@@ -14,7 +14,8 @@ use Rattle.boxes.specs.Walks.{stop_at}
 use Rattle.boxes.proofs.Sizes.{Lies, header-lies, short}
 
 -- any count that is enough gives the same boxes
-after_same : (at l : ℕ) (f g : ℕ → Boxes) (h : Header) → Lies at l h → ((k : ℕ) → at + 8 ≤ k → f k ≡ g k) → after_header h at f ≡ after_header h at g
+after_same : (at l : ℕ) (f g : ℕ → Boxes) (h : Header) → Lies at l h → ((k : ℕ) → at + 8 ≤ k → f k ≡ g k)
+    → after_header h at f ≡ after_header h at g
 after_same at l f g Short z e = refl
 after_same at l f g Bad z e = refl
 after_same at l f g (Whole b) z e = ap (box at b.kind b.start b.len) (e b.next (omega arith))
@@ -59,6 +60,7 @@ module _ (test : ℕ → ℕ → ℕ → Bool) (s : List ℕ) (at : ℕ) where
     unfolding first_such
     first_found t = rw (at-header s at e, t)
 
-    pub first-passed : test b.kind b.start b.len ≡ false → first_such test (boxes_at s at) ≡ first_such test (boxes_at s b.next)
+    pub first-passed : test b.kind b.start b.len ≡ false
+        → first_such test (boxes_at s at) ≡ first_such test (boxes_at s b.next)
     unfolding first_such
     first-passed t = rw (at-header s at e, t)

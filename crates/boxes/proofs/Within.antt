@@ -32,7 +32,8 @@ Inside l clean = Unit {0}
 Inside l (bad at) = at + 8 ≤ l
 Inside l (box at kind start len rest) = (start + len ≤ l) × (at + 8 ≤ l) × Inside l rest
 
-after-inside : (l at : ℕ) (f : ℕ → Boxes) (h : Header) → Lies at l h → ((k : ℕ) → Inside l (f k)) → Inside l (after_header h at f)
+after-inside : (l at : ℕ) (f : ℕ → Boxes) (h : Header) → Lies at l h → ((k : ℕ) → Inside l (f k))
+    → Inside l (after_header h at f)
 after-inside l at f Short z e = tt
 after-inside l at f Bad z e = z
 after-inside l at f (Whole b) z e = (omega arith, omega arith, e b.next)
@@ -66,10 +67,12 @@ first-inside l test (box at k start len rest) i =
     either (WalkStays l) (test k start len) (λ e. i.0) (λ e. first-inside l test rest i.2)
 
 -- every walk over a list stays within it, and so does a search, with text types or without
-pub walk-stays : (test : ℕ → ℕ → ℕ → Bool) (s : List ℕ) {w : Walk} → w ≡ first_such test (boxes_of s) → WalkStays (length s) w
+pub walk-stays : (test : ℕ → ℕ → ℕ → Bool) (s : List ℕ) {w : Walk} → w ≡ first_such test (boxes_of s)
+    → WalkStays (length s) w
 walk-stays test s e = subst (WalkStays (length s)) (sym e) (first-inside (length s) test (boxes_of s) (inside s))
 
-pub search-stays : (kind : ℕ) (text : Bool) (s : List ℕ) {w : Walk} → w ≡ first_of kind (searched text (boxes_of s)) → WalkStays (length s) w
+pub search-stays : (kind : ℕ) (text : Bool) (s : List ℕ) {w : Walk} → w ≡ first_of kind (searched text (boxes_of s))
+    → WalkStays (length s) w
 search-stays kind text s e =
     subst (WalkStays (length s)) (sym e)
     (first-inside (length s) (λ k start len. eqb k kind) (searched text (boxes_of s)) (searched-inside (length s) text (boxes_of s) (inside s)))
@@ -96,7 +99,8 @@ moved-stays by l m (Found p) h k = omega arith
 moved-stays by l m End h k = tt
 moved-stays by l m (BadAt at) h k = omega arith
 
-pub offset_moves : (s : List ℕ) (start end kind : ℕ) (text : Bool) {w : Walk} → start ≤ end → end ≤ length s → w ≡ first_of kind (searched text (boxes_of (take (end - start) (drop start s)))) → start + offset_in w ≤ length s
+pub offset_moves : (s : List ℕ) (start end kind : ℕ) (text : Bool) {w : Walk} → start ≤ end → end ≤ length s
+    → w ≡ first_of kind (searched text (boxes_of (take (end - start) (drop start s)))) → start + offset_in w ≤ length s
 offset_moves s start end kind text {w} h k e =
     let part = take (end - start) (drop start s) in
     omega (arith, offset-within (length part) w (search-stays kind text part e), length_part s start (end - start) (omega arith))
@@ -107,23 +111,28 @@ ok-within l (Some p) e h = h
 ok-within l None e h = tt
 
 -- a place that is answered, as the code has it
-pub fits_in : (l : ℕ) (w : Walk) (e : Refusal) {o : Option Place} {r : Result Place Refusal} {p : Place} → WalkStays l w → o ≡ found_place w → r ≡ ok_or o e → r ≡ Ok p → p.start + p.len ≤ l
+pub fits_in : (l : ℕ) (w : Walk) (e : Refusal) {o : Option Place} {r : Result Place Refusal} {p : Place} → WalkStays l w
+    → o ≡ found_place w → r ≡ ok_or o e → r ≡ Ok p → p.start + p.len ≤ l
 fits_in l w e {o} h f g k =
     subst (λ (r : Result Place Refusal). Within l (result_ok r)) (sym g ∙ k) (ok-within l o e (subst (Within l) (sym f) (walked_within l w h)))
 
 -- a place in a part, moved to its place in the whole
-moved-within : (a l m : ℕ) (p : Result Place Refusal) → Within m (result_ok p) → a + m ≤ l → Within l (result_ok (moved_place a p))
+moved-within : (a l m : ℕ) (p : Result Place Refusal) → Within m (result_ok p) → a + m ≤ l
+    → Within l (result_ok (moved_place a p))
 moved-within a l m (Ok p) w h = omega arith
 moved-within a l m (Err refusal) w h = tt
 
-in-part-within : (s : List ℕ) (p : Result Place Refusal) (search : List ℕ → Result Place Refusal) → Within (length s) (result_ok p) → ((t : List ℕ) → Within (length t) (result_ok (search t))) → Within (length s) (result_ok (in_part s p search))
+in-part-within : (s : List ℕ) (p : Result Place Refusal) (search : List ℕ → Result Place Refusal)
+    → Within (length s) (result_ok p) → ((t : List ℕ) → Within (length t) (result_ok (search t)))
+    → Within (length s) (result_ok (in_part s p search))
 in-part-within s (Ok p) search w f =
     let t = take p.len (drop p.start s) in
     moved-within p.start (length s) (length t) (search t) (f t) (omega (arith, length_part s p.start p.len w))
 in-part-within s (Err refusal) search w f = tt
 
 -- the move wraps nothing; the code has the part as `&s[a..a + n]`
-pub movable : (s : List ℕ) (a n : ℕ) {r v : Result Place Refusal} {p : Place} → a + n ≤ length s → r ≡ v → r ≡ Ok p → Within (length (take (a + n - a) (drop a s))) (result_ok v) → a + p.start ≤ length s
+pub movable : (s : List ℕ) (a n : ℕ) {r v : Result Place Refusal} {p : Place} → a + n ≤ length s → r ≡ v → r ≡ Ok p
+    → Within (length (take (a + n - a) (drop a s))) (result_ok v) → a + p.start ≤ length s
 movable s a n {p = p} h e f w =
     let l = length (take (a + n - a) (drop a s)) in
     let there : Within l (Some p) = subst (λ (r : Result Place Refusal). Within l (result_ok r)) (sym e ∙ f) w in
@@ -150,7 +159,8 @@ pub only-within : (kind : ℕ) (s : List ℕ) → Within (length s) (result_ok (
 only-within kind s = only-inside (length s) (all_of kind (boxes_of s)) (all-inside (length s) kind (boxes_of s) (inside s))
 
 -- what each call answers lies within its bytes
-found-within : (kind : ℕ) (text : Bool) (s : List ℕ) (e : Refusal) → Within (length s) (result_ok (ok_or (found_place (first_of kind (searched text (boxes_of s)))) e))
+found-within : (kind : ℕ) (text : Bool) (s : List ℕ) (e : Refusal)
+    → Within (length s) (result_ok (ok_or (found_place (first_of kind (searched text (boxes_of s)))) e))
 found-within kind text s e =
     let w = first_of kind (searched text (boxes_of s)) in
     ok-within (length s) (found_place w) e (walked_within (length s) w (search-stays kind text s refl))
@@ -181,7 +191,8 @@ module _ (s : List ℕ) where
       (moved-stays start (length s) (length part) w (search-stays kind text part refl) (omega (arith, fits, length_part s start (end - start) fits))))))
 
   -- what find_box_place answered ends within the bytes, as a caller has it
-  pub found_ends : (start end kind : ℕ) (text : Bool) {r : Result Place Refusal} {p : Place} → r ≡ find_box_place s start end kind text → r ≡ Ok p → p.start + p.len ≤ length s
+  pub found_ends : (start end kind : ℕ) (text : Bool) {r : Result Place Refusal} {p : Place}
+      → r ≡ find_box_place s start end kind text → r ≡ Ok p → p.start + p.len ≤ length s
   found_ends start end kind text e f = subst Placed (sym e ∙ f) (find_box_within start end kind text)
 
   pub table_text_within : Placed (table_text_place s)

@@ -3,11 +3,13 @@ use Rattle.std.specs.Prelude.{ℕ, ◌+◌, ◌*◌, List, get_or}
 
 -- the four bytes at `at`, the first the most significant
 abbrev pub be32_at : List ℕ → ℕ → ℕ
-be32_at s at = ((get_or s at 0 * 256 + get_or s (at + 1) 0) * 256 + get_or s (at + 2) 0) * 256 + get_or s (at + 3) 0
+be32_at bytes at =
+    ((get_or bytes at 0 * 256 + get_or bytes (at + 1) 0) * 256 + get_or bytes (at + 2) 0) * 256
+    + get_or bytes (at + 3) 0
 
 -- the eight bytes at `at`
 abbrev pub be64_at : List ℕ → ℕ → ℕ
-be64_at s at = be32_at s at * 4294967296 + be32_at s (at + 4)
+be64_at bytes at = be32_at bytes at * 4294967296 + be32_at bytes (at + 4)
 
 -- `moov`, `udta`, `MTRM`, `trak`, `mdia`, `hdlr` and `vide`, their four letters as a number
 abbrev pub moov : ℕ

@@ -15,24 +15,26 @@ abbrev pub table : List ℕ
 table = 0 ∷ 0 ∷ 0 ∷ 10 ∷ 0x4d ∷ 0x54 ∷ 0x52 ∷ 0x4d ∷ 0x7b ∷ 0x7d ∷ []
 
 abbrev pub large : List ℕ
-large = 0 ∷ 0 ∷ 0 ∷ 1 ∷ 0x4d ∷ 0x54 ∷ 0x52 ∷ 0x4d ∷ 0 ∷ 0 ∷ 0 ∷ 0 ∷ 0 ∷ 0 ∷ 0 ∷ 18 ∷ 0x7b ∷ 0x7d ∷ []
+large =
+    0 ∷ 0 ∷ 0 ∷ 1 ∷ 0x4d ∷ 0x54 ∷ 0x52 ∷ 0x4d
+    ∷ 0 ∷ 0 ∷ 0 ∷ 0 ∷ 0 ∷ 0 ∷ 0 ∷ 18 ∷ 0x7b ∷ 0x7d ∷ []
 
 -- a free box of so many bytes, of which 8 are here; a udta and a moov that take what remains
 abbrev pub free : ℕ → List ℕ
 free size = 0 ∷ 0 ∷ 0 ∷ size ∷ 0x66 ∷ 0x72 ∷ 0x65 ∷ 0x65 ∷ []
 
 abbrev pub in_udta : List ℕ → List ℕ
-in_udta l = 0 ∷ 0 ∷ 0 ∷ 0 ∷ 0x75 ∷ 0x64 ∷ 0x74 ∷ 0x61 ∷ l
+in_udta inside = 0 ∷ 0 ∷ 0 ∷ 0 ∷ 0x75 ∷ 0x64 ∷ 0x74 ∷ 0x61 ∷ inside
 
 abbrev pub in_moov : List ℕ → List ℕ
-in_moov l = 0 ∷ 0 ∷ 0 ∷ 0 ∷ 0x6d ∷ 0x6f ∷ 0x6f ∷ 0x76 ∷ l
+in_moov inside = 0 ∷ 0 ∷ 0 ∷ 0 ∷ 0x6d ∷ 0x6f ∷ 0x6f ∷ 0x76 ∷ inside
 
 abbrev pub file : List ℕ → List ℕ
-file l = free 8 ++ in_moov (in_udta l)
+file inside = free 8 ++ in_moov (in_udta inside)
 
 -- a box whose type ends with a byte
 abbrev pub typed : ℕ → List ℕ
-typed b = 0 ∷ 0 ∷ 0 ∷ 8 ∷ 0x66 ∷ 0x72 ∷ 0x65 ∷ b ∷ []
+typed byte = 0 ∷ 0 ∷ 0 ∷ 8 ∷ 0x66 ∷ 0x72 ∷ 0x65 ∷ byte ∷ []
 
 -- how the boxes end: three bytes are left; a size below its header; a size that passes the bytes
 abbrev pub walks : List (Worked Boxes)
@@ -53,7 +55,7 @@ abbrev pub places : List (Worked (Result Place Refusal))
 places =
     -- a 64-bit size has a header of 16
     is (child_place large mtrm) (Ok (place 16 2))
-    -- a child is missing where the boxes end cleanly, and can't be had where a bad header stands before it
+    -- a child is missing where the boxes end cleanly, and can't be had where a broken header stands before it
     ∷ is (child_place (free 8 ++ (9 ∷ 9 ∷ 9 ∷ [])) mtrm) (refused reason.Missing 0)
     ∷ is (child_place (free 8 ++ free 7 ++ table) mtrm) (refused reason.Broken 8)
     -- places are those in the whole; a range that ends past the bytes, or before it starts, is 42

@@ -1,5 +1,5 @@
--- The first video track of a moov (ISO/IEC 14496-12, 8.3.1, 8.4.1, 8.4.3).
-use Rattle.std.specs.Prelude.{ℕ, List, Bool, false, length, ltb, eqb, if◌then◌else◌}
+-- The first video track of a moov: RULES 7.8, of ISO/IEC 14496-12, 8.3.1, 8.4.1, 8.4.3.
+use Rattle.std.specs.Prelude.{ℕ, List, Bool, false, length, if◌then◌else◌, ◌==◌, nat_lt}
 use Rattle.boxes.specs.Bytes.{be32_at, trak, mdia, hdlr, vide}
 use Rattle.boxes.specs.Boxes.{boxes_of, place, first_such}
 use Rattle.boxes.specs.Places.{bytes_at, child_of}
@@ -7,14 +7,17 @@ use Rattle.boxes.specs.declared.Walk.{Walk}
 
 -- a track whose first mdia's first hdlr has `vide` at 8 (8.4.3: version and flags, four bytes, then the handler's type)
 unfoldable pub is_video : List ℕ → Bool
-is_video t =
-    let h = child_of hdlr (child_of mdia t) in
-    if ltb (length h) 12 then false else eqb (be32_at h 8) vide
+is_video track =
+    let handler = child_of hdlr (child_of mdia track) in
+    if nat_lt (length handler) 12 then false
+    else be32_at handler 8 == vide
 
--- the same of a box of some bytes, where it is a trak
+-- the same of a box of a moov, where it is a trak
 unfoldable pub is_video_track : List ℕ → ℕ → ℕ → ℕ → Bool
-is_video_track s kind start len = if eqb kind trak then is_video (bytes_at s (place start len)) else false
+is_video_track moov kind start len =
+    if kind == trak then is_video (bytes_at moov (place start len))
+    else false
 
 -- the first video track of a moov
 abbrev pub video_track : List ℕ → Walk
-video_track m = first_such (is_video_track m) (boxes_of m)
+video_track moov = first_such (is_video_track moov) (boxes_of moov)

@@ -1,5 +1,5 @@
-// The boxes of an ISO base media file (ISO/IEC 14496-12): sizes, the walk, the child of a type, the search in a range, and the MTRM box.
-// The calls are here; what they and the frame times stand on is in the modules.
+// The boxes of an ISO base media file (ISO/IEC 14496-12): RULES 7. The calls are here; what they
+// and the frame times stand on is in the modules.
 #![tactic(auto)]
 
 pub mod part;
@@ -22,7 +22,7 @@ use search::{find, find_child};
 use size::{header_at, size_of};
 use table::table_of;
 
-// The most bytes that a call takes; over them it answers 30.
+// The most bytes that a call takes.
 pub const MOST_BYTES: usize = 16_777_216;
 
 // A box's size, and its header's.
@@ -32,7 +32,7 @@ pub struct BoxSize {
     pub header: u64,
 }
 
-// The box at an offset: its type, where its payload starts and how long that is, and where the next box is.
+// A box: its type, where its payload starts and how long that is, and where the next box is.
 #[derive(Clone, Copy)]
 pub struct BoxAt {
     pub kind: u32,
@@ -78,11 +78,13 @@ pub enum Walk {
     Found(Place),
     // Fewer than 8 bytes were left.
     End,
-    // At offset at stands a header that isn't whole, whose size doesn't fit, or whose type isn't text where it must be.
+    // At an offset stands a header that isn't whole, whose size doesn't fit, or whose type isn't
+    // text where it must be.
     Bad { at: usize },
 }
 
-// The size of the box at the start of data and of its header, where remaining bytes are left of what it is in: the Rust's box_size. 30, 31.
+// The size of the box at the start of data, and its header's, where remaining bytes are left of
+// what it is in: the Rust's box_size (RULES 7.9).
 #[tactic(auto, using(conditions::proofs::Tests::tests), unfolding(crate::specs::Boxes::box_size))]
 pub fn box_size(data: &[u8], remaining: u64) -> Result<BoxSize, Refusal>
     ensures { result ≡ box_size «data».now remaining }
@@ -93,8 +95,8 @@ pub fn box_size(data: &[u8], remaining: u64) -> Result<BoxSize, Refusal>
     size_of(data, remaining).ok_or(Reason::Missing.at(0))
 }
 
-// The box at an offset: a turn of the Rust's children. From 0 on, and then from each answer's next, all boxes are met, in order,
-// until 31, where fewer than 8 bytes are left, or 36, where a bad header stands: both are the Rust's None. 30, 42, 31 or 36.
+// The box at an offset: a turn of the Rust's children, whose None is 31 or 36 here (RULES 7.3).
+// From 0 on, and then from each answer's next, all boxes are met, in order.
 #[tactic(auto, using(conditions::proofs::Tests::tests), unfolding(crate::specs::Boxes::children_at))]
 pub fn children(payload: &[u8], at: usize) -> Result<BoxAt, Refusal>
     ensures { result ≡ children_at payload.now at }
@@ -112,8 +114,7 @@ pub fn children(payload: &[u8], at: usize) -> Result<BoxAt, Refusal>
     }
 }
 
-// Where the payload of the first child of a type lies: the Rust's child. 30, 31 where the boxes end without it, 36 where a bad header ends
-// them before, with its offset.
+// Where the payload of the first child of a type lies: the Rust's child (RULES 7.3).
 #[tactic(auto, using(conditions::proofs::Tests::tests), unfolding(crate::specs::Places::child_place))]
 pub fn child_place(payload: &[u8], kind: u32) -> Result<Place, Refusal>
     ensures { result ≡ child_place payload.now kind }
@@ -132,8 +133,8 @@ pub fn child(payload: &[u8], kind: u32) -> &[u8]
     part(payload, child_place(payload, kind).ok())
 }
 
-// Where the payload of the first box of a type among those from start to end lies, in the whole of bytes: the Rust's find_box. 30, 42, 31
-// or 36; the bad header's offset is in the whole too.
+// Where the payload of the first box of a type among those from start to end lies: the Rust's
+// find_box (RULES 7.4). Places and a broken header's offset are those in the whole of bytes.
 #[tactic(auto, using(conditions::proofs::Tests::tests, crate::proofs::Within::offset_moves), unfolding(crate::specs::Places::find_box_place))]
 pub fn find_box_place(
     bytes: &[u8],
@@ -160,7 +161,8 @@ pub fn find_box_place(
 // That payload, as that part of the caller's bytes; empty on a refusal.
 #[tactic(auto, using(crate::proofs::Within::find_box_within))]
 pub fn find_box(bytes: &[u8], start: usize, end: usize, kind: u32, text_types: bool) -> &[u8]
-    ensures { PartAt bytes.entry (result_ok (find_box_place bytes.now start end kind text_types)) result }
+    ensures { PartAt bytes.entry (result_ok (find_box_place bytes.now start end kind text_types))
+        result }
 {
     part(
         bytes,
@@ -168,7 +170,7 @@ pub fn find_box(bytes: &[u8], start: usize, end: usize, kind: u32, text_types: b
     )
 }
 
-// Where a file's segment table has its text, the payload of the only moov/udta/MTRM: the search of the Rust's read_isobmff. 30, 40, 41.
+// Where a file's segment table has its text: the search of the Rust's read_isobmff (RULES 7.5).
 #[tactic(auto, using(conditions::proofs::Tests::tests), unfolding(crate::specs::Places::table_text_place))]
 pub fn table_text_place(file: &[u8]) -> Result<Place, Refusal>
     ensures { result ≡ table_text_place file.now }

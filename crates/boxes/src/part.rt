@@ -31,7 +31,7 @@ impl Walk {
         }
     }
 
-    // The place of what was found; 31 after a clean end, 36 after a bad header, with its offset.
+    // The place of what was found, or why there is none (RULES 7.6).
     pub(crate) fn answer(self) -> Result<Place, Refusal>
         ensures { result ≡ place_of self }
     {
@@ -56,20 +56,20 @@ impl Walk {
 }
 
 // The part of the caller's bytes at a place; empty where there is none.
-pub(crate) fn part(s: &[u8], p: Option<Place>) -> &[u8]
-    requires { Within (length s.now) p }
-    ensures { PartAt s.entry p result }
+pub(crate) fn part(bytes: &[u8], place: Option<Place>) -> &[u8]
+    requires { Within (length bytes.now) place }
+    ensures { PartAt bytes.entry place result }
 {
-    let Some(Place { start, len }) = p else {
-        return &s[..0];
+    let Some(Place { start, len }) = place else {
+        return &bytes[..0];
     };
-    &s[start..start + len]
+    &bytes[start..start + len]
 }
 
-// The payload of the first child of a type, however many bytes there are; empty where there is none.
+// The payload of the first child of a type; empty where there is none.
 #[tactic(auto, using(crate::proofs::Within::walked_within))]
-pub fn inner_child(s: &[u8], kind: u32) -> &[u8]
-    ensures { PartAt s.entry (child_in kind s.now) result }
+pub fn inner_child(bytes: &[u8], kind: u32) -> &[u8]
+    ensures { PartAt bytes.entry (child_in kind bytes.now) result }
 {
-    part(s, find_child(s, kind).place())
+    part(bytes, find_child(bytes, kind).place())
 }

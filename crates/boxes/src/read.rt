@@ -3,19 +3,19 @@ ghost use Rattle.std.specs.Prelude.{◌≡◌, ◌+◌, ◌≤◌, length};
 ghost use Rattle.boxes.specs.Bytes.{be32_at, be64_at};
 
 // The four bytes at an offset: the Rust's be_u32, where they are there.
-pub fn be32(s: &[u8], at: usize) -> u32
-    requires { at + 4 ≤ length s.now }
-    ensures { result ≡ be32_at s.now at }
+pub fn be32(bytes: &[u8], at: usize) -> u32
+    requires { at + 4 ≤ length bytes.now }
+    ensures { result ≡ be32_at bytes.now at }
 {
-    u32::from_be_bytes([s[at], s[at + 1], s[at + 2], s[at + 3]])
+    u32::from_be_bytes([bytes[at], bytes[at + 1], bytes[at + 2], bytes[at + 3]])
 }
 
 // The eight bytes at an offset: the Rust's be_u64, where they are there.
-pub fn be64(s: &[u8], at: usize) -> u64
-    requires { at + 8 ≤ length s.now }
-    ensures { result ≡ be64_at s.now at }
+pub fn be64(bytes: &[u8], at: usize) -> u64
+    requires { at + 8 ≤ length bytes.now }
+    ensures { result ≡ be64_at bytes.now at }
 {
-    (be32(s, at) as u64) * 4294967296 + (be32(s, at + 4) as u64)
+    (be32(bytes, at) as u64) * 4294967296 + (be32(bytes, at + 4) as u64)
 }
 
 // A type's number, as `code(b"moov")`.

@@ -7,20 +7,20 @@ use crate::size::header_at;
 use crate::{Header, Walk};
 
 // How a walk ends at a header that isn't whole.
-pub(crate) fn stopped(h: Header, at: usize) -> Walk
-    ensures { result ≡ stop_at h at }
+pub(crate) fn stopped(header: Header, at: usize) -> Walk
+    ensures { result ≡ stop_at header at }
 {
-    match h {
+    match header {
         Header::Bad => Walk::Bad { at },
         Header::Short | Header::Whole(_) => Walk::End,
     }
 }
 
 // Whether a byte is text, 20 to 7E hex.
-fn text_byte(b: u32) -> bool
-    ensures { result ≡ text_byte b }
+fn text_byte(byte: u32) -> bool
+    ensures { result ≡ text_byte byte }
 {
-    (0x20 <= b) & (b <= 0x7e)
+    (0x20 <= byte) & (byte <= 0x7e)
 }
 
 // Whether the four bytes of a type are text.
@@ -32,15 +32,16 @@ fn is_text(kind: u32) -> bool
         & (text_byte(kind / 65536 % 256) & (text_byte(kind / 256 % 256) & text_byte(kind % 256)))
 }
 
-// The first box of a type; with text types a type that isn't text ends the walk as a bad header does.
-pub(crate) fn find(s: &[u8], kind: u32, text_types: bool) -> Walk
-    ensures { result ≡ first_of kind (searched text_types (boxes_of s.now)) }
+// The first box of a type; with text types a type that isn't text ends the walk as a broken header
+// does (RULES 7.4).
+pub(crate) fn find(bytes: &[u8], kind: u32, text_types: bool) -> Walk
+    ensures { result ≡ first_of kind (searched text_types (boxes_of bytes.now)) }
 {
     let mut at = 0;
     loop {
-        let h = header_at(s, at);
-        let Header::Whole(child) = h else {
-            break stopped(h, at);
+        let header = header_at(bytes, at);
+        let Header::Whole(child) = header else {
+            break stopped(header, at);
         };
         if text_types & !is_text(child.kind) {
             break Walk::Bad { at };
@@ -53,9 +54,9 @@ pub(crate) fn find(s: &[u8], kind: u32, text_types: bool) -> Walk
 }
 
 // The first child of a type.
-pub fn find_child(s: &[u8], kind: u32) -> Walk
-    ensures first { result ≡ first_of kind (boxes_of s.now) }
-    ensures stays { WalkStays (length s.now) result }
+pub fn find_child(bytes: &[u8], kind: u32) -> Walk
+    ensures first { result ≡ first_of kind (boxes_of bytes.now) }
+    ensures stays { WalkStays (length bytes.now) result }
 {
-    find(s, kind, false)
+    find(bytes, kind, false)
 }

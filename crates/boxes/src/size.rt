@@ -19,7 +19,7 @@ fn fitting(remaining: u64, header: u64, size: u64) -> Option<BoxSize>
     Some(BoxSize { size, header })
 }
 
-// The size of the box at the start of data, and its header's: the Rust's box_size, with no limit.
+// The Rust's box_size, with no limit (RULES 7.9).
 #[tactic(auto, using(conditions::proofs::Tests::tests), unfolding(crate::specs::Boxes::size_of))]
 pub(crate) fn size_of(data: &[u8], remaining: u64) -> Option<BoxSize>
     ensures { result ≡ size_of «data».now remaining }
@@ -41,45 +41,46 @@ pub(crate) fn size_of(data: &[u8], remaining: u64) -> Option<BoxSize>
 }
 
 // The header of the box at an offset, whatever its size says.
-fn any_header_at(s: &[u8], at: usize) -> Header
-    requires { at ≤ length s.now }
-    ensures { result ≡ header_at s.now at }
+fn any_header_at(bytes: &[u8], at: usize) -> Header
+    requires { at ≤ length bytes.now }
+    ensures { result ≡ header_at bytes.now at }
 {
-    let left = s.len() - at;
+    let left = bytes.len() - at;
     if left < 8 {
         return Header::Short;
     }
-    let Some(BoxSize { size, header }) = size_of(&s[at..], left as u64) else {
+    let Some(BoxSize { size, header }) = size_of(&bytes[at..], left as u64) else {
         return Header::Bad;
     };
     let start = at + (header as usize);
     let len = (size - header) as usize;
     let next = at + (size as usize);
     Header::Whole(BoxAt {
-        kind: be32(s, at + 4),
+        kind: be32(bytes, at + 4),
         start,
         len,
         next,
     })
 }
 
-// The header of the box at an offset: a turn of the Rust's children. Nearly every size has 32 bits and fits; such a box is
-// answered here, so that a walk passes it without a call. A size below 8 wraps, and is more than is left.
-pub(crate) fn header_at(s: &[u8], at: usize) -> Header
-    requires { at ≤ length s.now }
-    ensures { result ≡ header_at s.now at }
+// The header of the box at an offset: a turn of the Rust's children. Nearly every size has 32 bits
+// and fits; such a box is answered here, so that a walk passes it without a call. A size below 8
+// wraps, and is more than is left.
+pub(crate) fn header_at(bytes: &[u8], at: usize) -> Header
+    requires { at ≤ length bytes.now }
+    ensures { result ≡ header_at bytes.now at }
 {
-    let left = s.len() - at;
+    let left = bytes.len() - at;
     if left < 8 {
         return Header::Short;
     }
-    let size = be32(s, at) as usize;
+    let size = be32(bytes, at) as usize;
     let len = size.wrapping_sub(8);
     if left - 8 < len {
-        return any_header_at(s, at);
+        return any_header_at(bytes, at);
     }
     Header::Whole(BoxAt {
-        kind: be32(s, at + 4),
+        kind: be32(bytes, at + 4),
         start: at + 8,
         len,
         next: at + size,

@@ -9,15 +9,15 @@ use crate::size::header_at;
 use crate::{Header, Place};
 use refusal::{Reason, Refusal};
 
-// The only child of a type: 40 where there is none, 41 where there are more. The walk ends at the second.
-fn only_child(s: &[u8], kind: u32) -> Result<Place, Refusal>
-    ensures { result ≡ only_of (all_of kind (boxes_of s.now)) }
+// The only child of a type. The walk ends at the second (RULES 7.5).
+fn only_child(bytes: &[u8], kind: u32) -> Result<Place, Refusal>
+    ensures { result ≡ only_of (all_of kind (boxes_of bytes.now)) }
 {
     let mut at = 0;
     let mut found = None;
     loop {
-        let h = header_at(s, at);
-        let Header::Whole(child) = h else {
+        let header = header_at(bytes, at);
+        let Header::Whole(child) = header else {
             break found.ok_or(Reason::NoTable.at(0));
         };
         if child.kind == kind {

@@ -1,4 +1,4 @@
-// The first video track of a moov.
+// The first video track of a moov: RULES 7.8.
 ghost use Rattle.std.specs.Prelude.{◌≡◌, ◌+◌, ◌≤◌, length};
 ghost use Rattle.boxes.specs.Tracks.{is_video, is_video_track, video_track};
 ghost use Rattle.boxes.specs.Walks.{WalkStays};
@@ -40,9 +40,9 @@ pub fn find_video_track(moov: &[u8]) -> Walk
 {
     let mut at = 0;
     loop {
-        let h = header_at(moov, at);
-        let Header::Whole(child) = h else {
-            break stopped(h, at);
+        let header = header_at(moov, at);
+        let Header::Whole(child) = header else {
+            break stopped(header, at);
         };
         if is_video_track(moov, child) {
             break Walk::Found(child.payload());

@@ -29,7 +29,8 @@ decide true f g = f refl
 decide false f g = g refl
 
 -- a fact of what a test chooses
-pub either : {A : Type 0} (P : A → Type 0) (b : Bool) {x y : A} → (b ≡ true → P x) → (b ≡ false → P y) → P (if b then x else y)
+pub either : {A : Type 0} (P : A → Type 0) (b : Bool) {x y : A} → (b ≡ true → P x) → (b ≡ false → P y)
+    → P (if b then x else y)
 either P true f g = f refl
 either P false f g = g refl
 

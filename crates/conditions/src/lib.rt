@@ -1,13 +1,13 @@
-// The words that definitions share: a chain of tests in order, and a sum that is past a bound.
+// Whether a sum passes a bound, tested without making the sum.
 #![tactic(auto)]
 
 ghost use Rattle.std.specs.Prelude.{◌≡◌};
 ghost use Rattle.conditions.specs.Conditions.{past};
 
-// Whether a and b together pass m; the sum is never made, so that nothing wraps.
+// Whether a and b together pass a limit; the sum is never made, so that nothing wraps.
 #[tactic(auto, unfolding(crate::specs::Conditions::past))]
-pub fn is_past(a: u64, b: u64, m: u64) -> bool
-    ensures { result ≡ past a b m }
+pub fn is_past(a: u64, b: u64, limit: u64) -> bool
+    ensures { result ≡ past a b limit }
 {
-    b > m || a > m - b
+    b > limit || a > limit - b
 }

@@ -1,4 +1,5 @@
--- Every law of the cuts holds: the promise is opened, and the rows and counts of one cut are found among those of all. Assumes nothing.
+-- Every law of the cuts holds: the promise is opened, and the rows and counts of one cut are found among those of all.
+-- Assumes nothing.
 use Prim.Native.Nat.{ℕ, zero, suc, ◌+◌, ◌*◌, ◌/◌, ◌≤◌, ◌<◌}
 use native.Mathlib.Nat.{not-suc-le-zero, le_of_suc-le-suc}
 use native.Mathlib.Omega.{arith}
@@ -27,12 +28,13 @@ use Rattle.cuts.specs.Laws.{rows_before, Accepted, CountsAsLent, CutsLaws}
 use Rattle.cuts.proofs.Refused.{Cuttable, cuts-unrefused, cuts-accepted, length-cuts}
 use Rattle.cuts.proofs.Rows.{cut_at, count_at}
 use Rattle.cuts.proofs.Single.{one}
-use Rattle.cuts.proofs.Which.{map-refused, torn-refused, range-refused, room-refused}
+use Rattle.cuts.proofs.Which.{map_refused, torn_refused, range_refused, room_refused}
 
 -- ---- one list of many
 module _ {A : Type 0} where
   -- the lists before the k-th, it, and those after it
-  parted : (l : List (List A)) (k : ℕ) → k < length l → concat l ≡ concat (take k l) ++ (get_or l k [] ++ concat (drop (suc k) l))
+  parted : (l : List (List A)) (k : ℕ) → k < length l
+      → concat l ≡ concat (take k l) ++ (get_or l k [] ++ concat (drop (suc k) l))
   unfolding concat
   parted [] k h = absurd (not-suc-le-zero h)
   parted (x ∷ l) zero h = refl
@@ -47,7 +49,8 @@ module _ {A : Type 0} where
   length_before (x ∷ l) (suc k) = length-append x (concat (take k l)) ∙ ap (λ (n : ℕ). length x + n) (length_before l k) ∙ sym (sum_by-cons (λ n. n) (length x) (take k (map length l)))
 
 -- y lies in x ++ (y ++ z), of which what is after it is of no matter
-found : {A : Type 0} (x y z o : List A) (b n : ℕ) → length x ≡ b → length y ≡ n → take n (drop b ((x ++ (y ++ z)) ++ o)) ≡ y
+found : {A : Type 0} (x y z o : List A) (b n : ℕ) → length x ≡ b → length y ≡ n
+    → take n (drop b ((x ++ (y ++ z)) ++ o)) ≡ y
 found x y z o b n p q =
     ap (λ l. take n (drop b l)) (append_assoc x (y ++ z) o)
     ∙ ap (take n) (drop_at x ((y ++ z) ++ o) b p)
@@ -124,7 +127,8 @@ module _ (u : List ℕ) (s : List ℤ) (ranges ou : List ℕ) (os : List ℤ) (c
         ap (λ (l : List ℤ). take (length this) (drop (rows_before k counts') l)) (the-shifts ∙ ap (λ (l : List ℤ). l ++ o) e)
         ∙ found (shifts_of x) (shifts_of this) (shifts_of z) o (rows_before k counts') (length this) (omega (arith, length-shifts x, rows_before-are k (omega arith))) (length-shifts this)
 
-    alone : {i : ℕ} {pu pu' : List ℕ} {ps ps' : List ℤ} → Cut u s (range_at ranges k).from (range_at ranges k).to pu ps (Ok i) pu' ps'
+    alone : {i : ℕ} {pu pu' : List ℕ} {ps ps' : List ℤ}
+        → Cut u s (range_at ranges k).from (range_at ranges k).to pu ps (Ok i) pu' ps'
         → (i ≡ get_or counts' k 0) × (take (5 * i) pu' ≡ take (5 * i) (drop (5 * rows_before k counts') ou')) × (take i ps' ≡ take i (drop (rows_before k counts') os'))
     alone {i} q =
         let e = count q in (
@@ -133,11 +137,12 @@ module _ (u : List ℕ) (s : List ℤ) (ranges ou : List ℕ) (os : List ℤ) (c
           shifts-are q ∙ sym shifts_here ∙ ap (λ (j : ℕ). take j (drop (rows_before k counts') os')) (sym e),
         )
 
-    answers : {pu pu' : List ℕ} {ps ps' : List ℤ} {r : Result ℕ Refusal} → 5 * get_or counts' k 0 ≤ length pu → get_or counts' k 0 ≤ length ps
+    answers : {pu pu' : List ℕ} {ps ps' : List ℤ} {r : Result ℕ Refusal} → 5 * get_or counts' k 0 ≤ length pu
+        → get_or counts' k 0 ≤ length ps
         → Cut u s (range_at ranges k).from (range_at ranges k).to pu ps r pu' ps' → r ≡ Ok (get_or counts' k 0)
     answers {pu} {pu'} {ps} {ps'} {r} x y q =
         let i = can.ready.inside k h in
-        (maps.lawful).cut-accepts u s (range_at ranges k).from (range_at ranges k).to pu pu' ps ps' r (lent can) i.some i.within (omega (arith, count-is)) (omega (arith, count-is)) q
+        (maps.lawful).cut_accepts u s (range_at ranges k).from (range_at ranges k).to pu pu' ps ps' r (lent can) i.some i.within (omega (arith, count-is)) (omega (arith, count-is)) q
         ∙ ap Ok (sym count-is)
 
   what : Accepted u s ranges ou os counts
@@ -147,7 +152,7 @@ module _ (u : List ℕ) (s : List ℤ) (ranges ou : List ℕ) (os : List ℤ) (c
     inside = can.ready.inside;
     words = can.words;
     shifts = can.shifts;
-    counts-fit = can.counts;
+    counts_fit = can.counts;
   }
 
 -- ---- any call
@@ -166,7 +171,7 @@ accept {u} {s} {ranges} {ou} {os} {counts} a p =
       even = a.pairs;
       words = a.words;
       shifts = a.shifts;
-      counts = a.counts-fit;
+      counts = a.counts_fit;
     }))
 
 counts-kept : (u : List ℕ) (s : List ℤ) (ranges ou : List ℕ) (os : List ℤ) (counts : List ℕ) (r : Result ℕ Refusal) (ou' : List ℕ) (os' : List ℤ) (counts' : List ℕ)
@@ -177,14 +182,14 @@ counts-kept u s ranges ou os counts (Err e) ou' os' counts' p = rw (err-of _ _ e
 pub lawful : CutsLaws Cuts Cut
 lawful = record {
   each = λ u ranges ou ou' counts counts' pu pu' s os os' ps ps' n k i p h q. alone u s ranges ou os counts p k h q;
-  each-answers = λ u ranges ou ou' counts counts' pu pu' s os os' ps ps' n k r p h x y q. answers u s ranges ou os counts p k h x y q;
+  each_answers = λ u ranges ou ou' counts counts' pu pu' s os os' ps ps' n k r p h x y q. answers u s ranges ou os counts p k h x y q;
   in_all = λ u ranges ou ou' counts counts' s os os' n p. sum-all u s ranges ou os counts p;
   one = λ u ou ou' ou'' counts counts' s os os' os'' a b r q h p x. one u s a b ou os counts h p x;
   accepted = λ u ranges ou ou' counts counts' s os os' n p. what u s ranges ou os counts p;
   accepts = λ u ranges ou ou' counts counts' s os os' r a p. accept a p;
-  map-refused = λ u ranges ou ou' counts counts' pu pu' s os os' ps ps' a b r q h p c. map-refused u s ranges ou os counts p a b pu ps h c;
-  torn-refused = λ u ranges ou ou' counts counts' s os os' r m e p. torn-refused u s ranges ou os counts p m e;
-  range-refused = λ u ranges ou ou' counts counts' s os os' k r m e h b q p. range-refused u s ranges ou os counts p m k e h b q;
-  room-refused = λ u ranges ou ou' counts counts' s os os' r m e b q p. room-refused u s ranges ou os counts p m e b q;
+  map_refused = λ u ranges ou ou' counts counts' pu pu' s os os' ps ps' a b r q h p c. map_refused u s ranges ou os counts p a b pu ps h c;
+  torn_refused = λ u ranges ou ou' counts counts' s os os' r m e p. torn_refused u s ranges ou os counts p m e;
+  range_refused = λ u ranges ou ou' counts counts' s os os' k r m e h b q p. range_refused u s ranges ou os counts p m k e h b q;
+  room_refused = λ u ranges ou ou' counts counts' s os os' r m e b q p. room_refused u s ranges ou os counts p m e b q;
   leaves = λ u ranges ou ou' counts counts' s os os' r p. (as_lent r p.placed, counts-kept u s ranges ou os counts r ou' os' counts' p);
 }

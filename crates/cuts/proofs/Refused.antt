@@ -1,4 +1,5 @@
--- The refusals of the cuts: what it says that a range, all ranges, or the whole chain isn't refused, and what each test of the chain gives. Assumes nothing.
+-- The refusals of the cuts: what it says that a range, all ranges, or the whole chain isn't refused, and what each test
+-- of the chain gives. Assumes nothing.
 use Prim.Native.Nat.{ℕ, ◌*◌, ◌/◌, ◌%◌, ◌≤◌, ◌<◌}
 use Rattle.std.proofs.lemmas.Bool.{and_parts}
 use Rattle.std.proofs.lemmas.List.FromFn.{length-map-range_with_len, get_or-map-range_with_len}
@@ -13,11 +14,10 @@ use lib.ListN.{length, get_or, length-map}
 use borrow.Author.Tests.{le-ltb, le-leb, lt-leb, eq-eqb, ne_eqb, ltb-false, leb-true, leb-false, eqb-true, eqb-false, not-false}
 use Rattle.std.specs.Prelude.{Ok, Err}
 use Rattle.std.proofs.Math.Bool.{and-true}
-use Rattle.conditions.specs.Conditions.{when}
 use Rattle.conditions.proofs.Tests.{decide, and-false, tests}
 use Rattle.refusal.specs.declared.Reason.TheVariants as reason
 use Rattle.refusal.specs.Refusals.{refused, first_refused}
-use Rattle.refusal.proofs.Chains.{when-ok, and-ok}
+use Rattle.refusal.proofs.Chains.{if-ok, and-ok}
 use Rattle.refusal.proofs.First.{none-refused, refuses-none, first-refused, first-turn, first-hit, first-end}
 use Rattle.rows.specs.declared.Row.{Row}
 use Rattle.rows.specs.Rows.{total}
@@ -32,18 +32,18 @@ use Rattle.cuts.specs.Writing.{ReadyToCut, room_of}
 inside : (t : ℕ) (r : Range) → range_refusal t r ≡ Ok tt → Inside t r
 unfolding range_refusal
 inside t r e =
-    let o = when-ok _ _ _ tt e in
-    let p = when-ok _ _ _ tt o.1 in
+    let o = if-ok _ _ _ tt e in
+    let p = if-ok _ _ _ tt o.1 in
     record { some = leb-false r.to r.from o.0; within = ltb-false t r.to p.0 }
 
 outside : (t : ℕ) (r : Range) → (Inside t r → ⊥) → range_refusal t r ≡ Err reason.BadRange
-unfolding range_refusal when
+unfolding range_refusal
 outside t r q =
     decide (leb r.to r.from) (λ x. rw x)
     (λ x. decide (ltb t r.to) (λ y. rw (x, y)) (λ y. absurd (q (record { some = leb-false r.to r.from x; within = ltb-false t r.to y }))))
 
 accepted : (t : ℕ) (r : Range) → Inside t r → range_refusal t r ≡ Ok tt
-unfolding range_refusal when
+unfolding range_refusal
 accepted t r i = rw (lt-leb r.to r.from i.some, le-ltb t r.to i.within)
 
 -- what stands past the end of a list of ranges, which no answer rests on
@@ -62,29 +62,32 @@ module _ (t : ℕ) (l : List ℕ) where
   all_read = length-map-range_with_len (range_at l) 0 (length l / 2)
 
   pub ranges-odd : length l % 2 ≡ 1 → ranges_refusal t l ≡ refused reason.BadRange (length l / 2)
-  unfolding ranges_refusal when
+  unfolding ranges_refusal
   ranges-odd e = rw (eq-eqb (length l % 2) 1 e)
 
   ranges-even : (length l % 2 ≡ 1 → ⊥) → ranges_refusal t l ≡ first_refused (range_refusal t) 0 (ranges_of l)
-  unfolding ranges_refusal when
+  unfolding ranges_refusal
   ranges-even h = rw (ne_eqb (length l % 2) 1 h)
 
-  pub ranges-unrefused : ranges_refusal t l ≡ Ok tt → (length l % 2 ≡ 0) × ((k : ℕ) → k < length l / 2 → Inside t (range_at l k))
+  pub ranges-unrefused : ranges_refusal t l ≡ Ok tt
+      → (length l % 2 ≡ 0) × ((k : ℕ) → k < length l / 2 → Inside t (range_at l k))
   unfolding ranges_refusal
   ranges-unrefused e =
-      let o = when-ok _ _ _ tt e in (
+      let o = if-ok _ _ _ tt e in (
         odd-rest (length l) o.0,
         λ k h. inside t (range_at l k) (rw (read k h) at (none-refused (range_refusal t) 0 (ranges_of l) no_range o.1 k (omega (arith, all_read)))),
       )
 
-  pub ranges-accepted : length l % 2 ≡ 0 → ((k : ℕ) → k < length l / 2 → Inside t (range_at l k)) → ranges_refusal t l ≡ Ok tt
+  pub ranges-accepted : length l % 2 ≡ 0 → ((k : ℕ) → k < length l / 2 → Inside t (range_at l k))
+      → ranges_refusal t l ≡ Ok tt
   ranges-accepted e h =
       ranges-even (λ z. omega arith)
       ∙ refuses-none (range_refusal t) 0 (ranges_of l) no_range
       (λ k b. let c : k < length l / 2 = omega (arith, all_read) in rw (read k c) (accepted t (range_at l k) (h k c)))
 
   -- the first that leaves the map, or is empty
-  pub ranges-first : (k : ℕ) → length l % 2 ≡ 0 → k < length l / 2 → ((j : ℕ) → j < k → Inside t (range_at l j)) → (Inside t (range_at l k) → ⊥)
+  pub ranges-first : (k : ℕ) → length l % 2 ≡ 0 → k < length l / 2 → ((j : ℕ) → j < k → Inside t (range_at l j))
+      → (Inside t (range_at l k) → ⊥)
       → ranges_refusal t l ≡ refused reason.BadRange k
   ranges-first k e h p q =
       ranges-even (λ x. omega arith)
@@ -125,7 +128,8 @@ module _ (u : List ℕ) (s : List ℤ) (ranges : List ℕ) (nu ns nc : ℕ) wher
   rows-asked h =
       rw (le-leb (length all) nc (omega (arith, length-cuts (rows u s) ranges)), room-rows (length (concat all)) nu ns, and-true)
 
-  pub fit-facts : cuts_fit all nu ns nc ≡ true → (5 * length (concat all) ≤ nu) × (length (concat all) ≤ ns) × (length ranges / 2 ≤ nc)
+  pub fit-facts : cuts_fit all nu ns nc ≡ true
+      → (5 * length (concat all) ≤ nu) × (length (concat all) ≤ ns) × (length ranges / 2 ≤ nc)
   fit-facts e =
       let n = length (concat all) in
       let f = (and_parts (leb (5 * n) nu && leb n ns) (leb (length all) nc) e).0 in
@@ -144,14 +148,15 @@ pub record Cuttable (u : List ℕ) (s : List ℤ) (ranges : List ℕ) (nu ns nc 
   pub shifts : length (concat (cuts_of (rows u s) (ranges_of ranges))) ≤ ns
   pub counts : length ranges / 2 ≤ nc
 
-pub cuts-unrefused : (u : List ℕ) (s : List ℤ) (ranges : List ℕ) (nu ns nc : ℕ) → cuts_refusal u s ranges nu ns nc ≡ Ok tt → Cuttable u s ranges nu ns nc
+pub cuts-unrefused : (u : List ℕ) (s : List ℤ) (ranges : List ℕ) (nu ns nc : ℕ)
+    → cuts_refusal u s ranges nu ns nc ≡ Ok tt → Cuttable u s ranges nu ns nc
 unfolding cuts_refusal
 cuts-unrefused u s ranges nu ns nc e =
     let e₀ = and-ok _ _ tt e in
-    let e₁ = when-ok _ _ _ tt e₀.1 in
+    let e₁ = if-ok _ _ _ tt e₀.1 in
     let e₂ = and-ok _ _ tt e₁.1 in
     let r = ranges-unrefused (total (rows u s)) ranges e₂.0 in
-    let f = fit-facts u s ranges nu ns nc (not-false (cuts_fit (cuts_of (rows u s) (ranges_of ranges)) nu ns nc) (when-ok _ _ _ tt e₂.1).0) in
+    let f = fit-facts u s ranges nu ns nc (not-false (cuts_fit (cuts_of (rows u s) (ranges_of ranges)) nu ns nc) (if-ok _ _ _ tt e₂.1).0) in
     record {
       ready = record { sound = sound u s e₀.0; inside = r.1 };
       few = ltb-false most_rows (length s) e₁.0;
@@ -161,8 +166,9 @@ cuts-unrefused u s ranges nu ns nc e =
       counts = f.2;
     }
 
-pub cuts-accepted : (u : List ℕ) (s : List ℤ) (ranges : List ℕ) (nu ns nc : ℕ) → Cuttable u s ranges nu ns nc → cuts_refusal u s ranges nu ns nc ≡ Ok tt
-unfolding cuts_refusal when
+pub cuts-accepted : (u : List ℕ) (s : List ℤ) (ranges : List ℕ) (nu ns nc : ℕ) → Cuttable u s ranges nu ns nc
+    → cuts_refusal u s ranges nu ns nc ≡ Ok tt
+unfolding cuts_refusal
 cuts-accepted u s ranges nu ns nc o =
     rw (
       sound-map u s o.ready.sound,

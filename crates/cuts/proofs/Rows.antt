@@ -63,9 +63,10 @@ unfolding concat cuts_of
 cuts-few m [] = omega arith
 cuts-few m (r ∷ l) =
     let e = length-append (cut r.from r.to m) (concat (cuts_of m l)) in
-    omega (arith, cuts-few m l, demanded.cut-rows m r.from r.to)
+    omega (arith, cuts-few m l, demanded.cut_rows m r.from r.to)
 
-pub plainly : (u : List ℕ) (s : List ℤ) (l : List ℕ) (room : ℕ) → 0 < length s → length l / 2 ≤ room / length s → true ≡ leb (length (concat (cuts_of (rows u s) (ranges_of l)))) room
+pub plainly : (u : List ℕ) (s : List ℤ) (l : List ℕ) (room : ℕ) → 0 < length s → length l / 2 ≤ room / length s
+    → true ≡ leb (length (concat (cuts_of (rows u s) (ranges_of l)))) room
 plainly u s l room some h =
     let n = length-map-range_with_len (range_at l) 0 (length l / 2) in
     let m = length-map-range_with_len (row_at u s) 0 (length s) in
@@ -85,7 +86,8 @@ module _ {C rest₀ : List Row} (x rest : List Row) {ou₀ : List ℕ} {os₀ : 
   pub room_next : (5 * (w + length x) ≤ length ou) × (w + length x ≤ length os)
   room_next = omega (arith, rows_next, words-length room d, shifts-length room d, room.words, room.shifts)
 
-  pub part_room : {k : ℕ} → length x ≡ k → Room k (take (length ou - 5 * w) (drop (5 * w) ou)) (take (length os - w) (drop w os))
+  pub part_room : {k : ℕ} → length x ≡ k
+      → Room k (take (length ou - 5 * w) (drop (5 * w) ou)) (take (length os - w) (drop w os))
   part_room z = let r = room_next in record { words = omega (arith, r, part-long ou (5 * w)); shifts = omega (arith, r, part-long os w) }
 
   pub part-written : {k : ℕ} (ou' : List ℕ) (os' : List ℤ) → length x ≡ k
@@ -108,14 +110,16 @@ module _ {C rest₀ : List Row} (x rest : List Row) {ou₀ : List ℕ} {os₀ : 
       }
 
 -- a cut, and its count
-pub cut_at : (m : List Row) (f : ℕ → Range) (n k : ℕ) → k < n → get_or (cuts_of m (run f 0 n)) k [] ≡ cut (f k).from (f k).to m
+pub cut_at : (m : List Row) (f : ℕ → Range) (n k : ℕ) → k < n
+    → get_or (cuts_of m (run f 0 n)) k [] ≡ cut (f k).from (f k).to m
 unfolding cuts_of
 cut_at m f n k h =
     let a = length-map-range_with_len f 0 n in
     let z : 0 + k ≡ k = omega arith in
     get_or-map (λ (r : Range). cut r.from r.to m) (run f 0 n) k (f k) [] (omega arith) ∙ ap (λ (r : Range). cut r.from r.to m) (get_or-map-range_with_len f 0 n k _ (f k) h refl ∙ ap f z)
 
-pub count_at : (m : List Row) (f : ℕ → Range) (n k : ℕ) → k < n → get_or (map length (cuts_of m (run f 0 n))) k 0 ≡ length (cut (f k).from (f k).to m)
+pub count_at : (m : List Row) (f : ℕ → Range) (n k : ℕ) → k < n
+    → get_or (map length (cuts_of m (run f 0 n))) k 0 ≡ length (cut (f k).from (f k).to m)
 unfolding cuts_of
 count_at m f n k h =
     let a = length-map-range_with_len f 0 n in

@@ -8,10 +8,9 @@ use lib.IntN.{ℤ}
 use lib.Dec.{ltb, leb}
 use lib.ListN.{length}
 use borrow.Author.Tests.{le-leb, ltb-false}
-use Rattle.std.specs.Prelude.{Result}
+use Rattle.std.specs.Prelude.{Result, if◌then◌else◌}
 use Rattle.std.specs.Result.{result_and}
 use Rattle.std.proofs.Math.Bool.{and-true}
-use Rattle.conditions.specs.Conditions.{when}
 use Rattle.conditions.proofs.Tests.{decide}
 use Rattle.refusal.specs.declared.Refusal.{Refusal}
 use Rattle.refusal.specs.declared.Reason.TheVariants as reason
@@ -28,8 +27,9 @@ unfolding concat cuts_of
 one-cut m a b = append-nil (cut a b m)
 
 -- the two tests of a range, with what comes after them
-one-range : (t a b : ℕ) (rest : Result (Unit {0}) Refusal) → result_and (ranges_refusal t (a ∷ b ∷ [])) rest ≡ when (leb b a) (refused reason.BadRange 0) (when (ltb t b) (refused reason.BadRange 0) rest)
-unfolding ranges_refusal first_refused range_refusal when
+one-range : (t a b : ℕ) (rest : Result (Unit {0}) Refusal) → result_and (ranges_refusal t (a ∷ b ∷ [])) rest
+    ≡ (if leb b a then refused reason.BadRange 0 else if ltb t b then refused reason.BadRange 0 else rest)
+unfolding ranges_refusal first_refused range_refusal
 one-range t a b rest = decide (leb b a) (λ e. rw e) (λ e. decide (ltb t b) (λ f. rw (e, f)) (λ f. rw (e, f)))
 
 module _ (u : List ℕ) (s : List ℤ) (a b nu ns nc : ℕ) (h : 0 < nc) where
@@ -44,12 +44,12 @@ module _ (u : List ℕ) (s : List ℤ) (a b nu ns nc : ℕ) (h : 0 < nc) where
       rw (
         append-nil (cut a b (rows u s)),
         le-leb 1 nc h,
-        le-leb k most_rows (omega (arith, demanded.cut-rows (rows u s) a b, length-map-range_with_len (row_at u s) 0 (length s))),
+        le-leb k most_rows (omega (arith, demanded.cut_rows (rows u s) a b, length-map-range_with_len (row_at u s) 0 (length s))),
         and-true,
       )
 
   same-refusal : cuts_refusal u s (a ∷ b ∷ []) nu ns nc ≡ cut_refusal u s a b nu ns
-  unfolding cuts_refusal cut_refusal room_refusal when
+  unfolding cuts_refusal cut_refusal room_refusal
   same-refusal =
       ap (result_and (map_refusal u s))
       (decide (ltb most_rows (length s)) (λ e. rw e)

@@ -7,7 +7,6 @@ use lib.IntN.{ℤ}
 use lib.ListN.{length}
 use borrow.Author.Tests.{le-ltb, ltb-false}
 use Rattle.std.specs.Prelude.{Result, Ok, Err}
-use Rattle.conditions.specs.Conditions.{when}
 use Rattle.conditions.proofs.Tests.{decide}
 use Rattle.refusal.specs.declared.Refusal.{Refusal}
 use Rattle.refusal.specs.declared.Reason.TheVariants as reason
@@ -23,9 +22,10 @@ use Rattle.cuts.proofs.Refused.{ranges-odd, ranges-accepted, ranges-first, fit-f
 
 module _ (u : List ℕ) (s : List ℤ) (ranges ou : List ℕ) (os : List ℤ) (counts : List ℕ) {r : Result ℕ Refusal} {ou' : List ℕ} {os' : List ℤ} {counts' : List ℕ} (p : Cuts u s ranges ou os counts r ou' os' counts') where
   -- a map that no call takes: both chains end at the same test
-  pub map-refused : (a b : ℕ) (pu : List ℕ) (ps : List ℤ) {pu' : List ℕ} {ps' : List ℤ} {q : Result ℕ Refusal} → (LentMap u s → ⊥) → Cut u s a b pu ps q pu' ps' → r ≡ q
-  unfolding cuts_refusal cut_refusal when
-  map-refused a b pu ps {pu'} {ps'} {q} h c = by (map_refusal u s) refl
+  pub map_refused : (a b : ℕ) (pu : List ℕ) (ps : List ℤ) {pu' : List ℕ} {ps' : List ℤ} {q : Result ℕ Refusal}
+      → (LentMap u s → ⊥) → Cut u s a b pu ps q pu' ps' → r ≡ q
+  unfolding cuts_refusal cut_refusal
+  map_refused a b pu ps {pu'} {ps'} {q} h c = by (map_refusal u s) refl
     where
       by : (x : Result (Unit {0}) Refusal) → map_refusal u s ≡ x → r ≡ q
       by (Err x) e = (rw e at p.placed.answer) ∙ sym (rw e at c.answer)
@@ -41,19 +41,21 @@ module _ (u : List ℕ) (s : List ℤ) (ranges ou : List ℕ) (os : List ℤ) (c
     is-sound = sound-map u s (record { some = m.some; sizes = m.sizes; well = m.well })
 
     at_range : {k : ℕ} → ranges_refusal t ranges ≡ refused reason.BadRange k → r ≡ refused reason.BadRange k
-    unfolding cuts_refusal when
+    unfolding cuts_refusal
     at_range e = rw (is-sound, le-ltb most_rows (length s) m.few, e) at p.placed.answer
 
-    pub torn-refused : length ranges % 2 ≡ 1 → r ≡ refused reason.BadRange (length ranges / 2)
-    torn-refused e = at_range (ranges-odd t ranges e)
+    pub torn_refused : length ranges % 2 ≡ 1 → r ≡ refused reason.BadRange (length ranges / 2)
+    torn_refused e = at_range (ranges-odd t ranges e)
 
-    pub range-refused : (k : ℕ) → length ranges % 2 ≡ 0 → k < length ranges / 2 → ((j : ℕ) → j < k → Inside t (range_at ranges j)) → (Inside t (range_at ranges k) → ⊥)
+    pub range_refused : (k : ℕ) → length ranges % 2 ≡ 0 → k < length ranges / 2
+        → ((j : ℕ) → j < k → Inside t (range_at ranges j)) → (Inside t (range_at ranges k) → ⊥)
         → r ≡ refused reason.BadRange k
-    range-refused k e h b q = at_range (ranges-first t ranges k e h b q)
+    range_refused k e h b q = at_range (ranges-first t ranges k e h b q)
 
-    pub room-refused : length ranges % 2 ≡ 0 → ((k : ℕ) → k < length ranges / 2 → Inside t (range_at ranges k)) → (Accepted u s ranges ou os counts → ⊥) → r ≡ refused reason.RowsDontFit 0
-    unfolding cuts_refusal when
-    room-refused e b q =
+    pub room_refused : length ranges % 2 ≡ 0 → ((k : ℕ) → k < length ranges / 2 → Inside t (range_at ranges k))
+        → (Accepted u s ranges ou os counts → ⊥) → r ≡ refused reason.RowsDontFit 0
+    unfolding cuts_refusal
+    room_refused e b q =
         decide (cuts_fit (cuts_of (rows u s) (ranges_of ranges)) (length ou) (length os) (length counts))
-        (λ f. let x = fit-facts u s ranges (length ou) (length os) (length counts) f in absurd (q (record { map = m; pairs = e; inside = b; words = x.0; shifts = x.1; counts-fit = x.2 })))
+        (λ f. let x = fit-facts u s ranges (length ou) (length os) (length counts) f in absurd (q (record { map = m; pairs = e; inside = b; words = x.0; shifts = x.1; counts_fit = x.2 })))
         (λ f. rw (is-sound, le-ltb most_rows (length s) m.few, ranges-accepted t ranges e b, f) at p.placed.answer)

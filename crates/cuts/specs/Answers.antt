@@ -1,8 +1,9 @@
--- Many cuts of one map: the ranges as they are lent, the rows of their cuts, and what `cuts` answers and leaves in the lent room.
-use Rattle.std.specs.Prelude.{ℕ, ◌+◌, ◌*◌, ◌/◌, ◌%◌, ◌≤◌, ◌<◌, Bool, not, ◌&&◌, List, [], ◌∷◌, ◌++◌, map, ◌≡◌, ℤ, ltb, leb, eqb, length, get_or, Result, Ok, Err}
-use Rattle.std.specs.List.{range_with_len}
+-- Many cuts of one map (RULES 10.6): the ranges as they are lent, the rows of their cuts, and what `cuts` answers and
+-- leaves in the lent room. A map is lent as its words and shifts. For the answer out_words, out_shifts and counts are
+-- lent, word_room, shift_room and count_room long; with a prime they are what is there afterwards.
+use Rattle.std.specs.Prelude.{ℕ, ◌+◌, ◌*◌, ◌/◌, ◌%◌, ◌≤◌, ◌<◌, Bool, not, ◌&&◌, List, map, ◌≡◌, ℤ, length, get_or, Result, Ok, Err, ◌==◌, nat_lt, nat_le, if◌then◌else◌}
+use Rattle.std.specs.List.{range_with_len, flat_map}
 use Rattle.std.specs.Result.{result_and}
-use Rattle.conditions.specs.Conditions.{when}
 use Rattle.refusal.specs.declared.Reason.{Reason}
 use Rattle.refusal.specs.declared.Reason.TheVariants as reason
 use Rattle.refusal.specs.declared.Refusal.{Refusal}
@@ -14,52 +15,73 @@ use Rattle.rows.specs.Lent.{rows}
 use Rattle.maps.specs.Answers.{most_rows, map_refusal, Placed}
 use Rattle.cuts.specs.declared.Range.{Range}
 
--- a range that has frames, all of them in a map of t frames
-pub record Inside (t : ℕ) (r : Range) : Type 0 where
-  pub some : r.from < r.to
-  pub within : r.to ≤ t
+-- a range that has frames, all of them in a map of so many frames
+pub record Inside (frames : ℕ) (range : Range) : Type 0 where
+  pub some : range.from < range.to
+  pub within : range.to ≤ frames
 
 -- range k of the lent words, two a range, and all of them
 abbrev pub range_at : List ℕ → ℕ → Range
-range_at l k = record { from = get_or l (2 * k) 0; to = get_or l (2 * k + 1) 0 }
+range_at ranges k = record { from = get_or ranges (2 * k) 0; to = get_or ranges (2 * k + 1) 0 }
 
 abbrev pub ranges_of : List ℕ → List Range
-ranges_of l = map (range_at l) (range_with_len 0 (length l / 2))
+ranges_of ranges = map (range_at ranges) (range_with_len 0 (length ranges / 2))
 
--- of a map, the cut of each range
+-- of a map's rows, the cut of each range
 unfoldable pub cuts_of : List Row → List Range → List (List Row)
-cuts_of m l = map (λ r. cut r.from r.to m) l
+cuts_of whole ranges = map (λ range. cut range.from range.to whole) ranges
 
 -- one list after the other
 unfoldable pub concat : {A : Type 0} → List (List A) → List A
-concat [] = []
-concat (x ∷ l) = x ++ concat l
+concat lists = flat_map (λ xs. xs) lists
 
--- 50 of a range of a map of t frames, by the tests of `cut`
+-- 50 of a range of a map of so many frames, by the tests of `cut`
 unfoldable pub range_refusal : ℕ → Range → Result (Unit {0}) Reason
-range_refusal t r = when (leb r.to r.from) (Err reason.BadRange) (when (ltb t r.to) (Err reason.BadRange) (Ok tt))
+range_refusal frames range =
+    if nat_le range.to range.from then Err reason.BadRange
+    else if nat_lt frames range.to then Err reason.BadRange
+    else Ok tt
 
 -- 50 of the lent words: the last range has no end, or the first range that is refused
 unfoldable pub ranges_refusal : ℕ → List ℕ → Result (Unit {0}) Refusal
-ranges_refusal t l = when (eqb (length l % 2) 1) (refused reason.BadRange (length l / 2)) (first_refused (range_refusal t) 0 (ranges_of l))
+ranges_refusal frames ranges =
+    if length ranges % 2 == 1 then refused reason.BadRange (length ranges / 2)
+    else first_refused (range_refusal frames) 0 (ranges_of ranges)
 
--- the rows of cuts, which may be over 1,024 in all, go into nu words and ns shifts, and their counts into nc words
+-- the rows of cuts, which may be over 1,024 in all, and their counts go into the room
 abbrev pub cuts_fit : List (List Row) → ℕ → ℕ → ℕ → Bool
-cuts_fit l nu ns nc = leb (5 * length (concat l)) nu && leb (length (concat l)) ns && leb (length l) nc
+cuts_fit asked word_room shift_room count_room =
+    nat_le (5 * length (concat asked)) word_room
+    && nat_le (length (concat asked)) shift_room
+    && nat_le (length asked) count_room
 
--- the refusals, where nu words and ns shifts are lent for the rows and nc words for the counts
+-- the refusals
 unfoldable pub cuts_refusal : List ℕ → List ℤ → List ℕ → ℕ → ℕ → ℕ → Result (Unit {0}) Refusal
-cuts_refusal u s ranges nu ns nc =
-    result_and (map_refusal u s)
-    (when (ltb most_rows (length s)) (refused reason.RowsDontFit 0)
-    (result_and (ranges_refusal (total (rows u s)) ranges)
-    (when (not (cuts_fit (cuts_of (rows u s) (ranges_of ranges)) nu ns nc)) (refused reason.RowsDontFit 0) (Ok tt))))
+cuts_refusal words shifts ranges word_room shift_room count_room =
+    result_and (map_refusal words shifts)
+    (if nat_lt most_rows (length shifts) then refused reason.RowsDontFit 0
+    else result_and (ranges_refusal (total (rows words shifts)) ranges)
+    (if not (cuts_fit (cuts_of (rows words shifts) (ranges_of ranges)) word_room shift_room count_room)
+    then refused reason.RowsDontFit 0
+    else Ok tt))
 
--- cuts l were asked for, or refused: their rows in order and, of each, how many
-pub record Placing (refusal : Result (Unit {0}) Refusal) (l : List (List Row)) (ou : List ℕ) (os : List ℤ) (counts : List ℕ) (r : Result ℕ Refusal) (ou' : List ℕ) (os' : List ℤ) (counts' : List ℕ) : Type 0 where
-  pub placed : Placed refusal (concat l) ou os r ou' os'
-  pub counted : counts' ≡ after refusal (map length l) counts
+-- cuts were asked for, or refused: their rows in order and, of each, how many
+pub record Placing
+    (refusal : Result (Unit {0}) Refusal) (asked : List (List Row))
+    (out_words : List ℕ) (out_shifts : List ℤ) (counts : List ℕ)
+    (result : Result ℕ Refusal)
+    (out_words' : List ℕ) (out_shifts' : List ℤ) (counts' : List ℕ)
+    : Type 0 where
+  pub placed : Placed refusal (concat asked) out_words out_shifts result out_words' out_shifts'
+  pub counted : counts' ≡ after refusal (map length asked) counts
 
--- cuts(u, s, ranges, ou, os, counts) answers r and leaves ou', os' and counts'
-abbrev pub Cuts : List ℕ → List ℤ → List ℕ → List ℕ → List ℤ → List ℕ → Result ℕ Refusal → List ℕ → List ℤ → List ℕ → Type 0
-Cuts u s ranges ou os counts = Placing (cuts_refusal u s ranges (length ou) (length os) (length counts)) (cuts_of (rows u s) (ranges_of ranges)) ou os counts
+-- cuts(words, shifts, ranges, out_words, out_shifts, counts) answers a result and leaves out_words', out_shifts',
+-- counts'
+abbrev pub Cuts :
+    List ℕ → List ℤ → List ℕ → List ℕ → List ℤ → List ℕ
+    → Result ℕ Refusal → List ℕ → List ℤ → List ℕ → Type 0
+Cuts words shifts ranges out_words out_shifts counts =
+    Placing
+    (cuts_refusal words shifts ranges (length out_words) (length out_shifts) (length counts))
+    (cuts_of (rows words shifts) (ranges_of ranges))
+    out_words out_shifts counts

@@ -8,17 +8,22 @@ use Rattle.maps.specs.Spans.{Sound}
 use Rattle.cuts.specs.Answers.{Inside, range_at, concat}
 
 -- a map that 51 doesn't refuse, and ranges that 50 doesn't
-pub record ReadyToCut (u : List ℕ) (s : List ℤ) (ranges : List ℕ) : Type 0 where
-  pub sound : Sound u s
-  pub inside : (k : ℕ) → k < length ranges / 2 → Inside (total (rows u s)) (range_at ranges k)
+pub record ReadyToCut (words : List ℕ) (shifts : List ℤ) (ranges : List ℕ) : Type 0 where
+  pub sound : Sound words shifts
+  pub inside : (k : ℕ) → k < length ranges / 2 → Inside (total (rows words shifts)) (range_at ranges k)
 
--- the rows for which there is room in nu words and ns shifts
+-- the rows for which there is room
 abbrev pub room_of : ℕ → ℕ → ℕ
-room_of nu ns = min (nu / 5) ns
+room_of word_room shift_room = min (word_room / 5) shift_room
 
--- n rows of cuts l were written, and their counts
-pub record AllWritten (l : List (List Row)) (ou : List ℕ) (os : List ℤ) (counts : List ℕ) (n : ℕ) (ou' : List ℕ) (os' : List ℤ) (counts' : List ℕ) : Type 0 where
-  pub many : n ≡ length (concat l)
-  pub words : ou' ≡ laid (words_of (concat l)) ou
-  pub shifts : os' ≡ laid (shifts_of (concat l)) os
-  pub counted : counts' ≡ laid (map length l) counts
+-- the rows of cuts were written, so many, and their counts
+pub record AllWritten
+    (asked : List (List Row))
+    (out_words : List ℕ) (out_shifts : List ℤ) (counts : List ℕ)
+    (count : ℕ)
+    (out_words' : List ℕ) (out_shifts' : List ℤ) (counts' : List ℕ)
+    : Type 0 where
+  pub many : count ≡ length (concat asked)
+  pub words : out_words' ≡ laid (words_of (concat asked)) out_words
+  pub shifts : out_shifts' ≡ laid (shifts_of (concat asked)) out_shifts
+  pub counted : counts' ≡ laid (map length asked) counts

@@ -1,8 +1,10 @@
-// Many cuts of one map in one call: the map is tested once, and the rows of all cuts are written one cut after the other. A map is lent as its
-// words u and its shifts s; ou, os and counts are lent for the rows out and how many each cut has, nu words, ns shifts and nc counts.
+// Many cuts of one map in one call (RULES 10.6): the map is tested once, and the rows of all cuts
+// are written one cut after the other. A map is lent as its words and shifts. The rows are written
+// over the first of out_words and out_shifts, and how many each cut has over the first of counts;
+// word_room, shift_room and count_room are their lengths.
 #![tactic(auto)]
 
-ghost use Rattle.std.specs.Prelude.{◌≡◌, ◌+◌, ◌*◌, ◌/◌, ◌≤◌, leb, length};
+ghost use Rattle.std.specs.Prelude.{◌≡◌, ◌+◌, ◌*◌, ◌/◌, ◌≤◌, length, nat_le};
 ghost use Rattle.rows.specs.Lent.{rows};
 ghost use Rattle.maps.specs.Answers.{Cut};
 ghost use Rattle.maps.specs.Spans.{Room};
@@ -33,48 +35,52 @@ fn range_at(ranges: &[u64], k: usize) -> Range
     }
 }
 
-// 50 of a range of a map of t frames.
-#[tactic(auto, using(conditions::proofs::Tests::tests), unfolding(conditions::specs::Conditions::when, crate::specs::Answers::range_refusal))]
-fn refuse_range(r: Range, t: u64) -> Result<(), Reason>
-    ensures { result ≡ range_refusal t r }
+// 50 of a range of a map of so many frames.
+#[tactic(auto, using(conditions::proofs::Tests::tests), unfolding(crate::specs::Answers::range_refusal))]
+fn refuse_range(range: Range, frames: u64) -> Result<(), Reason>
+    ensures { result ≡ range_refusal frames range }
 {
-    if r.to <= r.from {
+    if range.to <= range.from {
         return Err(Reason::BadRange);
     }
-    if t < r.to {
+    if frames < range.to {
         return Err(Reason::BadRange);
     }
     Ok(())
 }
 
 // 50 of the ranges.
-#[tactic(auto, using(crate::proofs::Refused::ranged), unfolding(conditions::specs::Conditions::when, crate::specs::Answers::ranges_refusal))]
-fn refuse_ranges(ranges: &[u64], t: u64) -> Result<(), Refusal>
-    ensures { result ≡ ranges_refusal t ranges.now }
+#[tactic(auto, using(crate::proofs::Refused::ranged), unfolding(crate::specs::Answers::ranges_refusal))]
+fn refuse_ranges(ranges: &[u64], frames: u64) -> Result<(), Refusal>
+    ensures { result ≡ ranges_refusal frames ranges.now }
 {
     let n = ranges.len() / 2;
     if ranges.len() % 2 == 1 {
         return Err(Reason::BadRange.at(n));
     }
     for k in 0..n {
-        if let Err(reason) = refuse_range(range_at(ranges, k), t) {
+        if let Err(reason) = refuse_range(range_at(ranges, k), frames) {
             return Err(reason.at(k));
         }
     }
     Ok(())
 }
 
-// Whether room for so many rows holds those of all cuts, counted cut by cut, so that no sum passes the room.
+// Whether room for so many rows holds those of all cuts, counted cut by cut, so that no sum passes
+// the room.
 #[tactic(auto, using(crate::proofs::Rows::counting))]
-fn holds_cut_by_cut(u: &[u64], s: &[i64], ranges: &[u64], room: usize) -> bool
-    requires { ReadyToCut u.now s.now ranges.now }
-    ensures { result ≡ leb (length (concat (cuts_of (rows u.now s.now) (ranges_of ranges.now)))) room }
+fn holds_cut_by_cut(words: &[u64], shifts: &[i64], ranges: &[u64], room: usize) -> bool
+    requires { ReadyToCut words.now shifts.now ranges.now }
+    ensures { result
+        ≡ nat_le
+        (length (concat (cuts_of (rows words.now shifts.now) (ranges_of ranges.now))))
+        room }
 {
     let n = ranges.len() / 2;
     let mut left = room;
     for k in 0..n {
-        let r = range_at(ranges, k);
-        let part = maps::part_of(u, s, r.from, r.to);
+        let range = range_at(ranges, k);
+        let part = maps::part_of(words, shifts, range.from, range.to);
         if left < part.count {
             return false;
         }
@@ -85,44 +91,48 @@ fn holds_cut_by_cut(u: &[u64], s: &[i64], ranges: &[u64], room: usize) -> bool
 
 // The same; where each cut could have all rows of the map, none is counted.
 #[tactic(auto, using(crate::proofs::Rows::plainly))]
-fn holds_all(u: &[u64], s: &[i64], ranges: &[u64], room: usize) -> bool
-    requires { ReadyToCut u.now s.now ranges.now }
-    ensures { result ≡ leb (length (concat (cuts_of (rows u.now s.now) (ranges_of ranges.now)))) room }
+fn holds_all(words: &[u64], shifts: &[i64], ranges: &[u64], room: usize) -> bool
+    requires { ReadyToCut words.now shifts.now ranges.now }
+    ensures { result
+        ≡ nat_le
+        (length (concat (cuts_of (rows words.now shifts.now) (ranges_of ranges.now))))
+        room }
 {
-    if ranges.len() / 2 <= room / s.len() {
+    if ranges.len() / 2 <= room / shifts.len() {
         return true;
     }
-    holds_cut_by_cut(u, s, ranges, room)
+    holds_cut_by_cut(words, shifts, ranges, room)
 }
 
-// The rows for which there is room in nu words and ns shifts.
-fn room_of(nu: usize, ns: usize) -> usize
-    ensures { result ≡ room_of nu ns }
+// The rows for which there is room.
+fn room_of(word_room: usize, shift_room: usize) -> usize
+    ensures { result ≡ room_of word_room shift_room }
 {
-    (nu / ROW_WORDS).min(ns)
+    (word_room / ROW_WORDS).min(shift_room)
 }
 
-// The refusal of the cuts, where nu words, ns shifts and nc counts are lent.
-#[tactic(auto, using(crate::proofs::Refused::refusing), unfolding(conditions::specs::Conditions::when, crate::specs::Answers::cuts_refusal))]
+// The refusal of the cuts.
+#[tactic(auto, using(crate::proofs::Refused::refusing), unfolding(crate::specs::Answers::cuts_refusal))]
 fn refuse_cuts(
-    u: &[u64],
-    s: &[i64],
+    words: &[u64],
+    shifts: &[i64],
     ranges: &[u64],
-    nu: usize,
-    ns: usize,
-    nc: usize,
+    word_room: usize,
+    shift_room: usize,
+    count_room: usize,
 ) -> Result<(), Refusal>
-    ensures { result ≡ cuts_refusal u.now s.now ranges.now nu ns nc }
+    ensures { result
+        ≡ cuts_refusal words.now shifts.now ranges.now word_room shift_room count_room }
 {
-    let frames = maps::frames_of(u, s)?;
-    if MOST_ROWS < s.len() {
+    let frames = maps::frames_of(words, shifts)?;
+    if MOST_ROWS < shifts.len() {
         return Err(Reason::RowsDontFit.at(0));
     }
     refuse_ranges(ranges, frames)?;
-    if nc < ranges.len() / 2 {
+    if count_room < ranges.len() / 2 {
         return Err(Reason::RowsDontFit.at(0));
     }
-    if !holds_all(u, s, ranges, room_of(nu, ns)) {
+    if !holds_all(words, shifts, ranges, room_of(word_room, shift_room)) {
         return Err(Reason::RowsDontFit.at(0));
     }
     Ok(())
@@ -130,47 +140,71 @@ fn refuse_cuts(
 
 // The rows of all cuts and their counts, over the first of what is lent: how many rows.
 fn write_cuts(
-    u: &[u64],
-    s: &[i64],
+    words: &[u64],
+    shifts: &[i64],
     ranges: &[u64],
-    ou: &mut [u64],
-    os: &mut [i64],
+    out_words: &mut [u64],
+    out_shifts: &mut [i64],
     counts: &mut [u64],
 ) -> usize
-    requires { ReadyToCut u.now s.now ranges.now × Room (length (concat (cuts_of (rows u.now s.now) (ranges_of ranges.now)))) ou.old os.old × (length ranges.now / 2 ≤ length counts.old) }
-    ensures { AllWritten (cuts_of (rows u.now s.now) (ranges_of ranges.now)) ou.old os.old counts.old result ou.new os.new counts.new }
+    requires { ReadyToCut words.now shifts.now ranges.now
+        × Room
+        (length (concat (cuts_of (rows words.now shifts.now) (ranges_of ranges.now))))
+        out_words.old out_shifts.old
+        × (length ranges.now / 2 ≤ length counts.old) }
+    ensures { AllWritten (cuts_of (rows words.now shifts.now) (ranges_of ranges.now))
+        out_words.old out_shifts.old counts.old
+        result out_words.new out_shifts.new counts.new }
 {
     let n = ranges.len() / 2;
-    let mut w: usize = 0;
+    let mut done: usize = 0;
     for k in 0..n {
-        let r = range_at(ranges, k);
-        let part = maps::part_of(u, s, r.from, r.to);
-        let m = ROW_WORDS * w;
-        maps::write_cut(u, s, r.from, r.to, part, &mut ou[m..], &mut os[w..]);
+        let range = range_at(ranges, k);
+        let part = maps::part_of(words, shifts, range.from, range.to);
+        let start = ROW_WORDS * done;
+        maps::write_cut(
+            words,
+            shifts,
+            range.from,
+            range.to,
+            part,
+            &mut out_words[start..],
+            &mut out_shifts[done..],
+        );
         counts[k] = part.count as u64;
-        w += part.count;
+        done += part.count;
     }
-    w
+    done
 }
 
-// Cuts of a map into what is lent, two words a range: of each range the rows that `maps::cut` would write, and how many these are.
+// Cuts of a map into what is lent, two words a range: of each range the rows that `maps::cut` would
+// write, and how many these are.
 #[tactic(auto, using(crate::proofs::Refused::refusing))]
 pub fn cuts(
-    u: &[u64],
-    s: &[i64],
+    words: &[u64],
+    shifts: &[i64],
     ranges: &[u64],
-    ou: &mut [u64],
-    os: &mut [i64],
+    out_words: &mut [u64],
+    out_shifts: &mut [i64],
     counts: &mut [u64],
 ) -> Result<usize, Refusal>
-    ensures { Cuts u.now s.now ranges.now ou.old os.old counts.old result ou.new os.new counts.new }
+    ensures { Cuts words.now shifts.now ranges.now
+        out_words.old out_shifts.old counts.old
+        result out_words.new out_shifts.new counts.new }
 {
-    refuse_cuts(u, s, ranges, ou.len(), os.len(), counts.len())?;
-    Ok(write_cuts(u, s, ranges, ou, os, counts))
+    refuse_cuts(
+        words,
+        shifts,
+        ranges,
+        out_words.len(),
+        out_shifts.len(),
+        counts.len(),
+    )?;
+    Ok(write_cuts(words, shifts, ranges, out_words, out_shifts, counts))
 }
 
-// Each of many cuts is the cut of its range alone, and one range is one cut; which lists are accepted, how others are refused, and what stays
-// as lent.
+// Each of many cuts is the cut of its range alone, and one range is one cut; which lists are
+// accepted, how others are refused, and what stays as lent.
 #[tactic(auto, using(crate::proofs::Lawful::lawful))]
 pub fn each_cut_is_one_cut()
     ensures { CutsLaws Cuts Cut }

@@ -15,24 +15,24 @@ use Rattle.mcraw.specs.Mcraw.{nanoseconds, nominal}
 use Rattle.judge.specs.Video.{Shown, shown_by}
 use Rattle.judge.specs.Judge.{last_segment, validate_of, single, check_mcraw, Settled}
 use Rattle.judge.specs.Means.{Fits, Recorded}
-use Rattle.judge.specs.Paper.{Near, first_source}
+use Rattle.judge.specs.Grounds.{Near, first_source}
 use Rattle.differ.specs.Differ.{SameFrames, Alike, SameFps, Differing}
 use Rattle.differ.proofs.Distances.{last-near, duration-is, time-0, near-rates}
 
 -- ---- two tables whose starts agree, and which both end near the end of a video
 module _ (t u : Table) (v : Shown) {M N : ℕ} (p : Accepted t M) (q : Accepted u N) (many : length t.segments ≡ length u.segments)
-    (starts : (k : ℕ) → k < length t.segments → (segment t k).stamps.outstart ≡ (segment u k).stamps.outstart) where
+    (starts : (k : ℕ) → k < length t.segments → (segment t k).stamps.out_start ≡ (segment u k).stamps.out_start) where
   durations : (k : ℕ) → suc k < length t.segments → (segment t k).stamps.duration ≡ (segment u k).stamps.duration
   durations k h =
       let j : suc k < length u.segments = subst (λ (n : ℕ). suc k < n) many h in
-      duration-is (segment t k).stamps.outstart _ _ (p.follows k h).time
+      duration-is (segment t k).stamps.out_start _ _ (p.follows k h).time
       ∙ (λ i. starts (suc k) h i -ℤ starts k (omega arith) i)
-      ∙ sym (duration-is (segment u k).stamps.outstart _ _ (q.follows k j).time)
+      ∙ sym (duration-is (segment u k).stamps.out_start _ _ (q.follows k j).time)
 
-  last-start : (last_segment t.segments).stamps.outstart ≡ (last_segment u.segments).stamps.outstart
+  last-start : (last_segment t.segments).stamps.out_start ≡ (last_segment u.segments).stamps.out_start
   last-start =
       starts (length t.segments - 1) (omega (arith, p.some-segments))
-      ∙ ap (λ (n : ℕ). (segment u (n - 1)).stamps.outstart) many
+      ∙ ap (λ (n : ℕ). (segment u (n - 1)).stamps.out_start) many
 
   from-starts : Near t v → Near u v → Alike t u v.scale v.nominal
   from-starts h k = record {
@@ -45,7 +45,8 @@ module _ (t u : Table) (v : Shown) {M N : ℕ} (p : Accepted t M) (q : Accepted 
   }
 
 -- ---- one video
-same-video : (t u : Table) (v : Shown) (M N : ℕ) → Fits t v M → Fits u v N → SameFrames t u → Alike t u v.scale v.nominal
+same-video : (t u : Table) (v : Shown) (M N : ℕ) → Fits t v M → Fits u v N → SameFrames t u
+    → Alike t u v.scale v.nominal
 same-video t u v M N f g s =
     from-starts t u v (accepted t M f.checked) (accepted u N g.checked) s.many
     (λ k h.
@@ -70,7 +71,7 @@ module _ (t u : Table) (M N : ℕ) (f : Fits t (single t.sources t.segments) M) 
   q : Accepted u N
   q = accepted u N g.checked
 
-  same-frame : Alike t u (first_source t).num (pos (first_source t).den)
+  same-frame : Alike t u (first_source t).numerator (pos (first_source t).denominator)
   unfolding single
   same-frame =
       let named = (q.segments 0 q.some-segments).named in
@@ -79,38 +80,41 @@ module _ (t u : Table) (M N : ℕ) (f : Fits t (single t.sources t.segments) M) 
       (λ k h.
       let j : k < length u.segments = subst (λ (n : ℕ). k < n) s.many h in
       f.starts k h
-      ∙ time-0 _ (first_source t).den (first_source t).num (only-frame t M p f.frames k h) f.scaled
-      ∙ sym (g.starts k j ∙ time-0 _ (first_source u).den (first_source u).num (only-frame u N q g.frames k j) g.scaled))
+      ∙ time-0 _ (first_source t).denominator (first_source t).numerator (only-frame t M p f.frames k h) f.scaled
+      ∙ sym (g.starts k j ∙ time-0 _ (first_source u).denominator (first_source u).numerator (only-frame u N q g.frames k j) g.scaled))
       f.near
-      (near-rates (out_end_us (last_segment u.segments)) _ (first_source t).num (first_source t).den (first_source u).num (first_source u).den
-      last.sum (q.sources (segment u 0).words.source named).den r g.near)
+      (near-rates (out_end_us (last_segment u.segments)) _ (first_source t).numerator (first_source t).denominator (first_source u).numerator (first_source u).denominator
+      last.sum (q.sources (segment u 0).words.source named).denominator r g.near)
 
 -- ---- a recording
-several : (t u : Table) (ts : List ℤ) (a b c d M N : ℕ) → 1 < length ts → Recorded t ts a b M → Recorded u ts c d N → SameFrames t u → Alike t u nanoseconds (nominal ts)
-several t u ts a b c d M N h =
+several : (t u : Table) (timestamps : List ℤ) (a b c d M N : ℕ) → 1 < length timestamps → Recorded t timestamps a b M
+    → Recorded u timestamps c d N → SameFrames t u → Alike t u nanoseconds (nominal timestamps)
+several t u timestamps a b c d M N h =
     ⊎_elim (λ f. absurd (omega (arith, f.0)))
     (λ f. ⊎_elim (λ g. absurd (omega (arith, g.0))) (λ g. same-video t u _ M N f.2 g.2))
 
-one : (t u : Table) (x : ℤ) (a b c d M N : ℕ) → Recorded t (x ∷ []) a b M → Recorded u (x ∷ []) c d N → SameFrames t u → SameFps (first_source t) (first_source u)
-    → Alike t u (first_source t).num (pos (first_source t).den)
+one : (t u : Table) (x : ℤ) (a b c d M N : ℕ) → Recorded t (x ∷ []) a b M → Recorded u (x ∷ []) c d N → SameFrames t u
+    → SameFps (first_source t) (first_source u)
+    → Alike t u (first_source t).numerator (pos (first_source t).denominator)
 one t u x a b c d M N =
     ⊎_elim (λ f. ⊎_elim (λ g. same-frame t u M N f.1 g.1) (λ g. absurd (g.0 refl)))
     (λ f. absurd (f.0 refl))
 
 -- of the judge's calls, by what it means that they accept
 pub differing : ((t : Table) (v : Shown) (N : ℕ) → (validate_of t v ≡ Ok N) ↔ Fits t v N)
-    → ((t : Table) (ts : List ℤ) (a b N : ℕ) → (check_mcraw t ts a b ≡ Ok N) ↔ Recorded t ts a b N)
+    → ((t : Table) (timestamps : List ℤ) (a b N : ℕ) → (check_mcraw t timestamps a b ≡ Ok N) ↔ Recorded t timestamps a b N)
     → Differing (λ (t : Table). t) (λ t video starts r. r ≡ validate_of t (shown_by video starts)) Settled
 unfolding shown_by
 differing fit recorded = record {
-  constant = λ t u frames num den M N s s' x y. same-video t u _ M N (fits t _ x) (fits u _ y);
+  constant = λ t u frames numerator denominator M N s s' x y. same-video t u _ M N (fits t _ x) (fits u _ y);
   times = λ t u scale end nominal starts M N x y. same-video t u _ M N (fits t _ x) (fits u _ y);
-  recording = λ t u ts a b a' b' c d c' d' M N h x y. several t u ts _ _ _ _ M N h (holds t x) (holds u y);
-  one-timestamp = λ t u z a b a' b' c d c' d' M N x y. one t u z _ _ _ _ M N (holds t x) (holds u y);
+  recording = λ t u timestamps a b a' b' c d c' d' M N h x y. several t u timestamps _ _ _ _ M N h (holds t x) (holds u y);
+  one_timestamp = λ t u z a b a' b' c d c' d' M N x y. one t u z _ _ _ _ M N (holds t x) (holds u y);
 }
   where
     fits : (t : Table) (v : Shown) {N : ℕ} → Ok N ≡ validate_of t v → Fits t v N
     fits t v x = (fit t v _).0 (sym x)
 
-    holds : (t : Table) {ts a b a' b' : List ℤ} {N : ℕ} → Settled t ts a b (Ok N) a' b' → Recorded t ts (length a) (length b) N
+    holds : (t : Table) {timestamps a b a' b' : List ℤ} {N : ℕ} → Settled t timestamps a b (Ok N) a' b'
+        → Recorded t timestamps (length a) (length b) N
     holds t x = (recorded t _ _ _ _).0 (sym x.answer)

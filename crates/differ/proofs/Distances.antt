@@ -16,12 +16,14 @@ at_most : (n c : ℕ) → pos n ≤ℤ pos c → n ≤ c
 at_most n c h = leb→le n c h.le
 
 -- two numbers, each within c of x
-both-near : (p q c : ℕ) (x : ℤ) → nat_abs (pos p -ℤ x) ≤ c → nat_abs (pos q -ℤ x) ≤ c → (p ≤ q + (c + c)) × (q ≤ p + (c + c))
+both-near : (p q c : ℕ) (x : ℤ) → nat_abs (pos p -ℤ x) ≤ c → nat_abs (pos q -ℤ x) ≤ c
+    → (p ≤ q + (c + c)) × (q ≤ p + (c + c))
 both-near p q c (pos n) h k = (omega (arith, above p n, above q n), omega (arith, above p n, above q n))
 both-near p q c (negsuc n) h k = (omega arith, omega arith)
 
 -- twice two ends, apart by at most 2c, times s
-lasts : (a d e s c : ℕ) → 2 * (a + d) * s ≤ 2 * (a + e) * s + (c + c) → 2 * (a + e) * s ≤ 2 * (a + d) * s + (c + c) → nat_abs (pos d -ℤ pos e) * s ≤ c
+lasts : (a d e s c : ℕ) → 2 * (a + d) * s ≤ 2 * (a + e) * s + (c + c) → 2 * (a + e) * s ≤ 2 * (a + d) * s + (c + c)
+    → nat_abs (pos d -ℤ pos e) * s ≤ c
 lasts a d e s c h k =
     ⊎_elim
     (λ (o : d ≤ e). go (nat_abs (pos d -ℤ pos e)) (omega (arith, above d e)))
@@ -61,10 +63,11 @@ duration-is a d b e = sym (+ℤ-neg_ℤ_cancel d a) ∙ ap (λ (z : ℤ). z -ℤ
 
 -- ---- one frame, at a rate
 -- frame 0 lies at 0
-pub time-0 : (o den num : ℕ) → o ≡ 0 → 0 < num → rounded (pos (o * den) *ℤ pos 1000000) num ≡ pos 0
-time-0 o den num e h =
-    ap (λ (x : ℕ). pos (nearest (x * den * 1000000) num)) e
-    ∙ ap pos (ap (λ (x : ℕ). x / (2 * num)) (omega arith) ∙ div-eq_of_lt {n = num} {m = 2 * num} (omega arith))
+pub time-0 : (o denominator numerator : ℕ) → o ≡ 0 → 0 < numerator
+    → rounded (pos (o * denominator) *ℤ pos 1000000) numerator ≡ pos 0
+time-0 o denominator numerator e h =
+    ap (λ (x : ℕ). pos (nearest (x * denominator * 1000000) numerator)) e
+    ∙ ap pos (ap (λ (x : ℕ). x / (2 * numerator)) (omega arith) ∙ div-eq_of_lt {n = numerator} {m = 2 * numerator} (omega arith))
 
 -- near at one rate is near at the same rate in other numbers
 near-rate : (m n d n' d' : ℕ) → 0 < d' → n * d' ≡ n' * d

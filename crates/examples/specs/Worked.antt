@@ -1,4 +1,4 @@
--- Worked examples: what a definition computes, beside what it is by the paper.
+-- Worked examples: what a definition computes, beside what it is by the rules.
 use Rattle.std.specs.Prelude.{◌≡◌, List, map}
 
 pub record Worked (A : Type 0) : Type 0 where
@@ -6,8 +6,8 @@ pub record Worked (A : Type 0) : Type 0 where
   pub want : A
 
 abbrev pub is : {A : Type 0} → A → A → Worked A
-is x y = record { got = x; want = y }
+is computed right = record { got = computed; want = right }
 
 -- each is what it should be
 abbrev pub AllRight : {A : Type 0} → List (Worked A) → Type 0
-AllRight {A} l = map (λ (w : Worked A). w.got) l ≡ map (λ (w : Worked A). w.want) l
+AllRight {A} examples = map (λ (one : Worked A). one.got) examples ≡ map (λ (one : Worked A). one.want) examples

@@ -1,4 +1,4 @@
--- The frame times of a whole file.
+-- The frame times of a whole file: RULES 12.
 use Rattle.std.specs.Prelude.{ℕ, true, List, [], length, take, drop, Result, Ok, Err}
 use Rattle.boxes.specs.Bytes.{moov}
 use Rattle.boxes.specs.Places.{find_box_place}
@@ -11,6 +11,7 @@ abbrev pub moov_times : List ℕ → ℕ → Result Place Refusal → Outcome
 moov_times file room (Ok place) = times_of_moov true (take place.len (drop place.start file)) room
 moov_times file room (Err refusal) = record { answer = Err refusal; starts = [] }
 
--- of the first moov among the file's boxes, whose types are text; 36 has its index in the file where no moov is found, else in the moov
+-- of the first moov among the file's boxes, whose types are text; 36 has its index in the file where no moov is found,
+-- else in the moov
 abbrev pub file_times : List ℕ → ℕ → Outcome
 file_times file room = moov_times file room (find_box_place file 0 (length file) moov true)

@@ -1,4 +1,4 @@
-// The programs frametimes and frametimes_files: a file from a reader, its frame times to standard output.
+// What the programs frametimes and frametimes_files print of a file from a reader: RULES 12.
 #![tactic(auto)]
 
 ghost use Rattle.frame_times.specs.Times.{room};
@@ -16,18 +16,26 @@ use ticks::FrameTimes;
 // How many bytes a file may have; a longer one is refused with 30.
 const FILE_BYTES: usize = 32_768;
 
-// The frame times of a file's first moov, with composition offsets by the standard; 31 where there is none, 36 where a bad header stands before it.
+// The frame times of a file's first moov, with composition offsets by the standard.
 #[tactic(auto, using(boxes::proofs::Within::found_ends))]
 fn times_of_file(
     file: &[u8],
     starts: &mut [i64],
-    work_a: &mut [i64],
-    work_b: &mut [i64],
+    first_work: &mut [i64],
+    second_work: &mut [i64],
 ) -> Result<FrameTimes, Refusal>
-    ensures { OutcomeAnswered (file_times file.now (room starts.old work_a.old work_b.old)) result starts.old starts.new }
+    ensures { OutcomeAnswered
+        (file_times file.now (room starts.old first_work.old second_work.old)) result
+        starts.old starts.new }
 {
     let Place { start, len } = find_box_place(file, 0, file.len(), code(b"moov"), true)?;
-    video_frame_times_of_moov(&file[start..start + len], true, starts, work_a, work_b)
+    video_frame_times_of_moov(
+        &file[start..start + len],
+        true,
+        starts,
+        first_work,
+        second_work,
+    )
 }
 
 // One start a line, for so many frames.
@@ -39,8 +47,8 @@ fn print_starts(rt: &impl Print, starts: &[i64], frames: usize) {
 
 // The line of a refusal.
 fn print_refusal(rt: &impl Print, reason: Reason) {
-    let n = reason.number();
-    let _ = println!(rt; "refused {n}");
+    let number = reason.number();
+    let _ = println!(rt; "refused {number}");
 }
 
 // The line of numbers.
@@ -57,9 +65,9 @@ fn print_numbers(rt: &impl Print, times: FrameTimes) {
 // All lines for a file, with room for 1,024 frames.
 fn print_file(rt: &impl Print, file: &[u8]) {
     let mut starts = [0i64; 1024];
-    let mut work_a = [0i64; 1024];
-    let mut work_b = [0i64; 1024];
-    match times_of_file(file, &mut starts, &mut work_a, &mut work_b) {
+    let mut first_work = [0i64; 1024];
+    let mut second_work = [0i64; 1024];
+    match times_of_file(file, &mut starts, &mut first_work, &mut second_work) {
         Ok(times) => {
             print_numbers(rt, times);
             print_starts(rt, &starts, times.frames);
@@ -68,7 +76,8 @@ fn print_file(rt: &impl Print, file: &[u8]) {
     }
 }
 
-// Prints the frame times of a file. Where it can't be read to its end that is an error, and nothing is printed: what was read of it has no frame times.
+// Prints the frame times of a file. Where it can't be read to its end that is an error, and nothing
+// is printed: what was read of it has no frame times.
 pub fn run<R: Read>(rt: &impl Print, input: &mut R) -> io::Result<()> {
     let mut file = [0u8; FILE_BYTES];
     let HeldInput { held, end } = reading::read_input(input, &mut file);

@@ -24,8 +24,8 @@ use Rattle.tracks.proofs.OffsetLaws.{offset_wrapped}
 use Rattle.tracks.proofs.EntryLaws.{length-per-frame}
 use Rattle.frame_times.specs.declared.Kept.{Kept}
 use Rattle.frame_times.specs.Frames.{Frame, frames_from, in_edit, kept, cts_of, last_of}
-use Rattle.frame_times.specs.KeptFrames.{Near, Good, kept_with, Ends, Told}
-use Rattle.frame_times.proofs.FrameLaws.{last-is, first_of, end-of}
+use Rattle.frame_times.specs.KeptFrames.{Near, Good, kept_with, Ends, Tallied}
+use Rattle.frame_times.proofs.FrameLaws.{last-is, first_decode, last_end}
 
 -- ---- what is told of kept frames, one after the other
 unfoldable pub tally : Kept → List Frame → Kept
@@ -38,7 +38,8 @@ no_frame = record { count = 0; first = 0; last = pos 0; last_duration = 0 }
 abbrev told_of : ℕ → ℕ → Frame → Kept
 told_of n d g = record { count = n; first = d; last = g.cts; last_duration = g.duration }
 
-tally-more : (n d : ℕ) (g : Frame) (fs : List Frame) → 0 < n → tally (told_of n d g) fs ≡ told_of (n + length fs) d (last_of g fs)
+tally-more : (n d : ℕ) (g : Frame) (fs : List Frame) → 0 < n
+    → tally (told_of n d g) fs ≡ told_of (n + length fs) d (last_of g fs)
 unfolding tally kept_with last_of
 tally-more n d g [] p = let e : n ≡ n + 0 = omega arith in ap (λ m. told_of m d g) e
 tally-more n d g (f ∷ fs) p =
@@ -71,7 +72,8 @@ pub record Keeping (e : Edit) (whole : List Frame) (times : List ℤ) (ds : List
   pub front : take k.count times ++ cts_of (kept e (frames_from t ds os)) ≡ cts_of whole
   pub good : AllByRecursion (Good e) (kept e (frames_from t ds os)) → AllByRecursion (Good e) whole
 
-pub keep-start : {e : Edit} (n : ℕ) (stts : List ℕ) {os : List ℤ} {times : List ℤ} → length times ≡ entry_total (entries_of n stts)
+pub keep-start : {e : Edit} (n : ℕ) (stts : List ℕ) {os : List ℤ} {times : List ℤ}
+    → length times ≡ entry_total (entries_of n stts)
     → Keeping e (kept e (frames_from 0 (durations n stts) os)) times (durations n stts) os no_frame 0
 keep-start n stts l = let d = length-per-frame (entries_of n stts) in record { small = omega (arith, l, d); few = omega (arith, l, d); told = refl; front = refl; good = λ a. a }
 
@@ -81,18 +83,21 @@ pub record Taken (os os' : List ℤ) (o : ℤ) : Type 0 where
   pub rest : drop 1 os ≡ os'
   pub small : nat_abs o ≤ 2 ^ 32
 
-next-is : (u : Bool) (xs xs' : List ℕ) (r : Option ℕ) → MatchOption r ((xs ≡ []) × (xs' ≡ [])) (λ x. xs ≡ x ∷ xs') → unwrap_or r 0 < 2 ^ 32
+next-is : (u : Bool) (xs xs' : List ℕ) (r : Option ℕ) → MatchOption r ((xs ≡ []) × (xs' ≡ [])) (λ x. xs ≡ x ∷ xs')
+    → unwrap_or r 0 < 2 ^ 32
     → Taken (map (offset_of u) xs) (map (offset_of u) xs') (offset_of u (unwrap_or r 0))
 next-is true xs xs' None h l = rw (h.0, h.1) record { first = refl; rest = refl; small = omega (arith, ints) }
 next-is false xs xs' None h l = rw (h.0, h.1) record { first = refl; rest = refl; small = omega (arith, ints) }
 next-is true xs xs' (Some x) h l = rw h record { first = refl; rest = refl; small = omega (arith, ints) }
 next-is false xs xs' (Some x) h l = rw h record { first = refl; rest = refl; small = omega (arith, ints) }
 
-pub taken : (u : Bool) (xs xs' : List ℕ) (r : Option ℕ) {x wrap : ℕ} {o : ℤ} → MatchOption r ((xs ≡ []) × (xs' ≡ [])) (λ x. xs ≡ x ∷ xs') → x ≡ unwrap_or r 0 → x < 2 ^ 32
+pub taken : (u : Bool) (xs xs' : List ℕ) (r : Option ℕ) {x wrap : ℕ} {o : ℤ}
+    → MatchOption r ((xs ≡ []) × (xs' ≡ [])) (λ x. xs ≡ x ∷ xs') → x ≡ unwrap_or r 0 → x < 2 ^ 32
     → wrap ≡ offset_wrap u → o ≡ wrapped wrap x → Taken (map (offset_of u) xs) (map (offset_of u) xs') o
 taken u xs xs' r h e l w q = rw (q, w, offset_wrapped u _ l, e) (next-is u xs xs' r h (rw e at l))
 
-frame-more : (e : Edit) (t : ℕ) {d : ℕ} {ds ds' : List ℕ} {os os' : List ℤ} {o c : ℤ} → ds ≡ d ∷ ds' → Taken os os' o → pos t +ℤ o ≡ c
+frame-more : (e : Edit) (t : ℕ) {d : ℕ} {ds ds' : List ℕ} {os os' : List ℤ} {o c : ℤ} → ds ≡ d ∷ ds' → Taken os os' o
+    → pos t +ℤ o ≡ c
     → kept e (frames_from t ds os) ≡ (if in_edit e c then record { decode = t; cts = c; duration = d } ∷ kept e (frames_from (t + d) ds' os') else kept e (frames_from (t + d) ds' os'))
 unfolding frames_from kept
 frame-more e t nd x c = rw (nd, x.first, x.rest, c) refl
@@ -119,7 +124,7 @@ module _ {e : Edit} {whole : List Frame} {times : List ℤ} {ds : List ℕ} {os 
         few = omega (arith, h.few, ap length nd, length-set times k.count cts, count-with k t cts d);
         told = rw is at h.told;
         front = rw (count-with k t cts d, add-one, take-suc-set times k.count cts room) (append_assoc (take k.count times) (cts ∷ []) _ ∙ rw is at h.front);
-        good = λ a. (rw is at h.good) (record { decode-near = early; cts-near = omega (arith, ints, early, no.small); short = fd; kept = p }, a);
+        good = λ a. (rw is at h.good) (record { decode_near = early; cts_near = omega (arith, ints, early, no.small); short = fd; kept = p }, a);
       }
 
   pub left-turn : in_edit e cts ≡ false → Keeping e whole times ds' os' k (t + d)
@@ -127,7 +132,8 @@ module _ {e : Edit} {whole : List Frame} {times : List ℤ} {ds : List ℕ} {os 
       let is : kept e (frames_from t ds os) ≡ kept e (frames_from (t + d) ds' os') = rw p at here in
       record { small = omega (arith, h.small, ap length nd); few = omega (arith, h.few, ap length nd); told = rw is at h.told; front = rw is at h.front; good = rw is at h.good }
 
-pub keep-end : {e : Edit} {whole : List Frame} {times : List ℤ} {ds : List ℕ} {os : List ℤ} {k : Kept} {t : ℕ} → Keeping e whole times ds os k t → ds ≡ [] → Told e whole k times
+pub keep-end : {e : Edit} {whole : List Frame} {times : List ℤ} {ds : List ℕ} {os : List ℤ} {k : Kept} {t : ℕ}
+    → Keeping e whole times ds os k t → ds ≡ [] → Tallied e whole k times
 unfolding kept frames_from tally
 keep-end {e} {whole} {times} {ds} {os} {k} {t} h n =
     let is : kept e (frames_from t ds os) ≡ [] = ap (λ l. kept e (frames_from t l os)) n in
@@ -139,19 +145,20 @@ pub record Known (fs : List Frame) (k : Kept) : Type 0 where
   pub some : 0 < length fs
   pub near : Near k.last
   pub short : k.last_duration < 2 ^ 32
-  pub first : to_z w64 k.first ≡ first_of fs
-  pub last : read (read k.last +ℤ to_z w64 k.last_duration) ≡ end-of fs
+  pub first : to_z w64 k.first ≡ first_decode fs
+  pub last : read (read k.last +ℤ to_z w64 k.last_duration) ≡ last_end fs
 
-pub known : {e : Edit} (fs : List Frame) {k : Kept} {times : List ℤ} → Told e fs k times → (k.count ≡ 0 → ⊥) → Known fs k
+pub known : {e : Edit} (fs : List Frame) {k : Kept} {times : List ℤ} → Tallied e fs k times → (k.count ≡ 0 → ⊥)
+    → Known fs k
 known [] h n = absurd (n h.count)
 known {e} (f ∷ fs) {k} h n =
     let g = (last-is e f fs h.good).0 in
     record {
       some = omega arith;
-      near = rw h.ends.1 g.cts-near;
+      near = rw h.ends.1 g.cts_near;
       short = omega (arith, h.ends.2, g.short);
-      first = omega (arith, ints, h.ends.0, h.good.0.decode-near);
-      last = omega (arith, ints, h.ends.1, h.ends.2, g.cts-near, g.short);
+      first = omega (arith, ints, h.ends.0, h.good.0.decode_near);
+      last = omega (arith, ints, h.ends.1, h.ends.2, g.cts_near, g.short);
     }
 
 -- for the lengths of what is laid and kept

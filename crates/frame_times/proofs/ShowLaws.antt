@@ -1,4 +1,5 @@
--- Why the test of the end is the test of every start: no kept time is above the end, and none is far from 0. Assumes nothing.
+-- Why the test of the end is the test of every start: no kept time is above the end, and none is far from 0. Assumes
+-- nothing.
 use Rattle.std.specs.Prelude.{Option, None, Some, IfSome, Ok}
 use Rattle.std.specs.List.{list_any, AllByRecursion}
 use Rattle.std.proofs.lemmas.Int.{ints, clamps}
@@ -34,7 +35,8 @@ module _ (o d : ℤ) (times : List ℤ) (i : ℕ) (fo : SFits w64 o) (fd : SFits
   pub start_fits : SFits w64 (read (read (get_or times i (pos 0)) -ℤ read o) +ℤ read d)
   start_fits = omega (arith, ints, at.0, at.1)
 
-  pub place_more : (out₀ out : List ℤ) → length times ≤ length out₀ → out ≡ laid (map (moved_time (read o) (read d)) (take i times)) out₀
+  pub place_more : (out₀ out : List ℤ) → length times ≤ length out₀
+      → out ≡ laid (map (moved_time (read o) (read d)) (take i times)) out₀
       → set out i (read (read (read (get_or times i (pos 0)) -ℤ read o) +ℤ read d)) ≡ laid (map (moved_time (read o) (read d)) (take (i + 1) times)) out₀
   place_more out₀ out k e =
       let f = moved_time (read o) (read d) in
@@ -43,7 +45,8 @@ module _ (o d : ℤ) (times : List ℤ) (i : ℕ) (fo : SFits w64 o) (fd : SFits
       rw (e, q, map_more f times i (pos 0) h) (ap (λ j. set (laid (map f (take i times)) out₀) j (f (get_or times i (pos 0)))) (sym n) ∙ set-laid (map f (take i times)) out₀ _ (omega arith))
 
 -- ---- the answer
-none_out : (o d : ℤ) (l : List ℤ) → AllByRecursion (Movable o d) l → list_any is_outside (map (moved_time o d) l) ≡ false
+none_out : (o d : ℤ) (l : List ℤ) → AllByRecursion (Movable o d) l
+    → list_any is_outside (map (moved_time o d) l) ≡ false
 none_out o d [] h = refl
 none_out o d (x ∷ l) h = rw (not_outside (moved_time o d x) h.0.1.sfits) (none_out o d l h.1)
 
@@ -70,7 +73,8 @@ module _ (times : List ℤ) (first last : ℤ) (e : Edit) where
     pub end_is : read (read cap -ℤ read o) +ℤ read e.empty ≡ end
 
 module _ {times : List ℤ} {first last : ℤ} {e : Edit} {o cap : ℤ} where
-  pub showing : Showable times first last e → 0 < length times → SFits w64 first → SFits w64 last → o ≡ time_origin e (read (get_or times 0 (pos 0))) (read first) → cap ≡ capped e.end (read last)
+  pub showing : Showable times first last e → 0 < length times → SFits w64 first → SFits w64 last
+      → o ≡ time_origin e (read (get_or times 0 (pos 0))) (read first) → cap ≡ capped e.end (read last)
       → Showing times first last e o cap
   showing s some ff lf oe ce =
       let least : Near (get_or times 0 (pos 0)) = (all-at _ times 0 (pos 0) s.near_times some).0 in
@@ -93,7 +97,8 @@ module _ {times : List ℤ} {first last : ℤ} {e : Edit} {o cap : ℤ} where
     pub apart : SFits w64 (read cap -ℤ read o)
     apart = omega (arith, ints, h.o_is, h.near, h.cap_is, h.near_cap)
 
-    pub shown-out : (scale : ℕ) (nominal : ℤ) → ¬ (SFits w64 (end times first last e)) → shown scale nominal e first last times ≡ no_times reason.Outside
+    pub shown-out : (scale : ℕ) (nominal : ℤ) → ¬ (SFits w64 (end times first last e))
+        → shown scale nominal e first last times ≡ no_times reason.Outside
     unfolding shown placed
     shown-out scale nominal n =
         let out : is_outside (end times first last e) ≡ true = decide (is_outside (end times first last e)) (λ t. t) (λ f. absurd (n (record { sfits = inside (end times first last e) f }))) in

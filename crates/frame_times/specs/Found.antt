@@ -1,4 +1,4 @@
--- What goes on from a part of a moov, and from its first video track.
+-- What goes on from a part of a moov, and from its first video track: RULES 8.1 to 8.6, step by step.
 use Rattle.std.specs.Prelude.{ℕ, Bool, List, Result, Ok, Err}
 use Rattle.refusal.specs.declared.Refusal.{Refusal}
 use Rattle.tracks.specs.Tables.{table_entries, durations, offsets}
@@ -10,22 +10,29 @@ use Rattle.frame_times.specs.Frames.{Frame, frames_from, kept}
 
 -- the outcome of what goes on from a part, or of a refusal
 abbrev pub onwards : Result Part Refusal → (ℕ → List ℕ → Outcome) → Outcome
-onwards (Ok p) next = next p.base p.bytes.now
+onwards (Ok part) next = next part.base part.bytes.now
 onwards (Err refusal) next = no_times_at refusal.reason refusal.index
 
 -- the outcome of a track's tables
 abbrev pub times_of_track : Bool → ℕ → Track → Outcome
-times_of_track standard room t = of_durations standard (table_entries t.stts.now) t.most_frames room t.movie t.scale t.edts.now t.ctts.now t.stts.now
+times_of_track standard room track =
+    of_durations standard (table_entries track.stts.now) track.most_frames room track.movie track.scale track.edts.now
+    track.ctts.now track.stts.now
 
 -- the outcome of a track, or of a refusal
 abbrev pub of_found : Bool → ℕ → Result Track Refusal → Outcome
-of_found standard room (Ok t) = times_of_track standard room t
+of_found standard room (Ok track) = times_of_track standard room track
 of_found standard room (Err refusal) = no_times_at refusal.reason refusal.index
 
 -- the frames that are kept
 abbrev pub frames_kept : Timing → List Frame
-frames_kept t = kept t.edit (frames_from 0 (durations t.durations.entries t.durations.payload.now) (offsets t.standard t.offsets.entries t.offsets.payload.now))
+frames_kept timing =
+    kept timing.edit
+    (frames_from 0 (durations timing.durations.entries timing.durations.payload.now)
+    (offsets timing.standard timing.offsets.entries timing.offsets.payload.now))
 
 -- the outcome of a track's timing
 abbrev pub times_of_timing : Timing → ℕ → Outcome
-times_of_timing t scale = of_frames scale t.edit (durations t.durations.entries t.durations.payload.now) (offsets t.standard t.offsets.entries t.offsets.payload.now)
+times_of_timing timing scale =
+    of_frames scale timing.edit (durations timing.durations.entries timing.durations.payload.now)
+    (offsets timing.standard timing.offsets.entries timing.offsets.payload.now)

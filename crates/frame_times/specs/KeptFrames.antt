@@ -1,8 +1,7 @@
 -- What the inner functions promise each other: what the pass over the frames tells, and how far from 0 its numbers lie.
-use Rattle.std.specs.Prelude.{ℕ, ◌+◌, ◌≤◌, ◌<◌, ◌^◌, ◌≡◌, true, List, [], ◌∷◌, length, take, ℤ, nat_abs, ◌-ℤ◌, ◌≤ℤ◌, eqb, if◌then◌else◌, Result, FitsSigned}
+use Rattle.std.specs.Prelude.{ℕ, ◌+◌, ◌≤◌, ◌<◌, ◌^◌, ◌≡◌, true, List, [], ◌∷◌, length, take, ℤ, ◌-ℤ◌, ◌≤ℤ◌, if◌then◌else◌, Result, FitsSigned, ◌==◌, int_le, unsigned_abs}
 use Rattle.std.specs.List.{AllByRecursion}
 use Rattle.std.specs.Int.{w64}
-use Rattle.std.specs.Int.Signed.{le_z}
 use Rattle.slices.specs.Slices.{laid}
 use Rattle.tracks.specs.declared.Edit.{Edit}
 use Rattle.tracks.specs.SoundEdits.{Sound}
@@ -14,49 +13,52 @@ use Rattle.frame_times.specs.Frames.{Frame, in_edit, cts_of, last_of, capped, mo
 
 -- a decode or composition time, and where a frame ends
 abbrev pub Near : ℤ → Type 0
-Near z = nat_abs z ≤ 2 ^ 60
+Near time = unsigned_abs time ≤ 2 ^ 60
 
 abbrev pub Ended : ℤ → Type 0
-Ended z = nat_abs z ≤ 2 ^ 61
+Ended time = unsigned_abs time ≤ 2 ^ 61
 
 -- a frame that an edit keeps, of a track that has at most 2^24 of them
-pub record Good (e : Edit) (f : Frame) : Type 0 where
-  pub decode-near : f.decode ≤ 2 ^ 56
-  pub cts-near : Near f.cts
-  pub short : f.duration < 2 ^ 32
-  pub kept : in_edit e f.cts ≡ true
+pub record Good (edit : Edit) (frame : Frame) : Type 0 where
+  pub decode_near : frame.decode ≤ 2 ^ 56
+  pub cts_near : Near frame.cts
+  pub short : frame.duration < 2 ^ 32
+  pub kept : in_edit edit frame.cts ≡ true
 
 -- one kept frame more
 unfoldable pub kept_with : Kept → ℕ → ℤ → ℕ → Kept
-kept_with k t c d =
-    if eqb k.count 0 then record { count = 1; first = t; last = c; last_duration = d }
-    else if le_z k.last c then record { count = k.count + 1; first = k.first; last = c; last_duration = d }
-    else record { count = k.count + 1; first = k.first; last = k.last; last_duration = k.last_duration }
+kept_with kept decode cts duration =
+    if kept.count == 0 then record { count = 1; first = decode; last = cts; last_duration = duration }
+    else if int_le kept.last cts then
+    record { count = kept.count + 1; first = kept.first; last = cts; last_duration = duration }
+    else record { count = kept.count + 1; first = kept.first; last = kept.last; last_duration = kept.last_duration }
 
--- k tells of kept frames when the first is decoded, and the last one's time and duration
+-- what is told of kept frames: when the first is decoded, and the last one's time and duration
 abbrev pub Ends : List Frame → Kept → Type 0
-Ends [] k = Unit {0}
-Ends (f ∷ fs) k = (k.first ≡ f.decode) × (k.last ≡ (last_of f fs).cts) × (k.last_duration ≡ (last_of f fs).duration)
+Ends [] kept = Unit {0}
+Ends (frame ∷ more) kept =
+    (kept.first ≡ frame.decode) × (kept.last ≡ (last_of frame more).cts)
+    × (kept.last_duration ≡ (last_of frame more).duration)
 
--- the frames that e keeps, their composition times at the front of a slice, and what k tells of them
-pub record Told (e : Edit) (fs : List Frame) (k : Kept) (times : List ℤ) : Type 0 where
-  pub count : k.count ≡ length fs
-  pub front : take k.count times ≡ cts_of fs
-  pub ends : Ends fs k
-  pub good : AllByRecursion (Good e) fs
+-- the frames that an edit keeps, their composition times at the front of a slice, and what is told of them
+pub record Tallied (edit : Edit) (frames : List Frame) (kept : Kept) (times : List ℤ) : Type 0 where
+  pub count : kept.count ≡ length frames
+  pub front : take kept.count times ≡ cts_of frames
+  pub ends : Ends frames kept
+  pub good : AllByRecursion (Good edit) frames
 
 -- a time that can be moved
 abbrev pub Movable : ℤ → ℤ → ℤ → Type 0
-Movable o d z = FitsSigned w64 (z -ℤ o) × FitsSigned w64 (moved_time o d z)
+Movable origin empty time = FitsSigned w64 (time -ℤ origin) × FitsSigned w64 (moved_time origin empty time)
 
 -- kept times, none past the media end or the last one's end, with the first one's decode time
-pub record Showable (times : List ℤ) (first last : ℤ) (e : Edit) : Type 0 where
-  pub sound : Sound e
-  pub near_times : AllByRecursion (λ x. Near x × (x ≤ℤ capped e.end last)) times
+pub record Showable (times : List ℤ) (first last : ℤ) (edit : Edit) : Type 0 where
+  pub sound : Sound edit
+  pub near_times : AllByRecursion (λ time. Near time × (time ≤ℤ capped edit.end last)) times
   pub near_first : Near first
   pub near_last : Ended last
 
--- an outcome was answered: r is its answer, and its starts are laid over what was lent
-pub record OutcomeAnswered (o : Outcome) (r : Result FrameTimes Refusal) (before after : List ℤ) : Type 0 where
-  pub answer : r ≡ o.answer
-  pub starts : after ≡ laid o.starts before
+-- an outcome was answered: what is said is its answer, and its starts are laid over what was lent
+pub record OutcomeAnswered (outcome : Outcome) (said : Result FrameTimes Refusal) (before after : List ℤ) : Type 0 where
+  pub answer : said ≡ outcome.answer
+  pub starts : after ≡ laid outcome.starts before

@@ -1,8 +1,7 @@
--- The frame times of a moov: what is answered, from its bytes down to its frames. With `standard` composition offsets are read by the standard, else by the Rust
--- (`offsets` of tracks/specs/Tables.antt); nothing else goes by it.
-use Rattle.std.specs.Prelude.{ℕ, ◌+◌, min, ◌≡◌, Bool, ◌||◌, List, [], ◌∷◌, map, length, get_or, ℤ, pos, ltb, eqb, if◌then◌else◌, Option, None, Some, Result, Ok, Err}
+-- The frame times of a moov: what is answered, from its bytes down to its frames (RULES 8). With `standard` composition
+-- offsets are read by the standard, else by the Rust (`offsets` of tracks/specs/Tables.antt); nothing else goes by it.
+use Rattle.std.specs.Prelude.{ℕ, ◌+◌, min, ◌≡◌, Bool, ◌||◌, List, [], ◌∷◌, map, length, get_or, ℤ, pos, if◌then◌else◌, Option, None, Some, Result, Ok, Err, ◌==◌, nat_lt, int_le}
 use Rattle.std.specs.List.{list_any}
-use Rattle.std.specs.Int.Signed.{le_z}
 use Rattle.refusal.specs.declared.Reason.{Reason}
 use Rattle.refusal.specs.declared.Reason.TheVariants as reason
 use Rattle.refusal.specs.declared.Refusal.{Refusal}
@@ -61,58 +60,69 @@ no_times why = no_times_at why 0
 unfoldable pub placed : ℕ → ℤ → ℤ → List ℤ → Outcome
 placed scale nominal end starts =
     if list_any is_outside (end ∷ starts) then no_times reason.Outside
-    else record { answer = Ok (record { frames = length starts; scale = scale; nominal = nominal; end = end }); starts = starts }
+    else record {
+      answer = Ok (record { frames = length starts; scale = scale; nominal = nominal; end = end });
+      starts = starts;
+    }
 
 -- the answer of kept frames: the first one's decode time, where the last one ends, and the composition times, ascending
 abbrev pub shown_from : ℕ → ℤ → Edit → ℤ → List ℤ → ℤ → Outcome
-shown_from scale nominal e last times o = placed scale nominal (moved_time o e.empty (capped e.end last)) (map (moved_time o e.empty) times)
+shown_from scale nominal edit last times origin =
+    placed scale nominal (moved_time origin edit.empty (capped edit.end last))
+    (map (moved_time origin edit.empty) times)
 
 unfoldable pub shown : ℕ → ℤ → Edit → ℤ → ℤ → List ℤ → Outcome
-shown scale nominal e first last times = shown_from scale nominal e last times (time_origin e (get_or times 0 (pos 0)) first)
+shown scale nominal edit first last times =
+    shown_from scale nominal edit last times (time_origin edit (get_or times 0 (pos 0)) first)
 
 -- none kept is refused, and so is a nominal duration that isn't above 0
 unfoldable pub of_kept : ℕ → ℤ → Edit → List Frame → Outcome
-of_kept scale nominal e [] = no_times reason.Missing
-of_kept scale nominal e (f ∷ fs) =
-    if le_z nominal (pos 0) then no_times reason.Missing
-    else shown scale nominal e (pos f.decode) (end_of (last_of f fs)) (sorted (cts_of (f ∷ fs)))
+of_kept scale nominal edit [] = no_times reason.Missing
+of_kept scale nominal edit (frame ∷ more) =
+    if int_le nominal (pos 0) then no_times reason.Missing
+    else shown scale nominal edit (pos frame.decode) (end_of (last_of frame more)) (sorted (cts_of (frame ∷ more)))
 
 -- of durations, offsets and an edit; nominal is the most frequent duration of all frames, of several the smallest
 abbrev pub of_frames : ℕ → Edit → List ℕ → List ℤ → Outcome
-of_frames scale e ds os = of_kept scale (mode (map pos ds)) e (kept e (frames_from 0 ds os))
+of_frames scale edit durations offsets =
+    of_kept scale (mode (map pos durations)) edit (kept edit (frames_from 0 durations offsets))
 
 -- of durations, offsets and an edit list that may be refused
 abbrev pub of_edit : Option Edit → ℕ → List ℕ → List ℤ → Outcome
-of_edit None scale ds os = no_times reason.Missing
-of_edit (Some e) scale ds os = of_frames scale e ds os
+of_edit None scale durations offsets = no_times reason.Missing
+of_edit (Some edit) scale durations offsets = of_frames scale edit durations offsets
 
 -- past the room test: of a ctts that may be torn, and then of the edit list
 abbrev pub of_offsets : Bool → Option ℕ → List ℕ → List ℕ → ℕ → ℕ → List ℕ → Outcome
-of_offsets standard None ctts edts scale movie ds = no_times reason.Missing
-of_offsets standard (Some n) ctts edts scale movie ds = of_edit (edit_of edts scale movie) scale ds (offsets standard n ctts)
+of_offsets standard None ctts edts scale movie durations = no_times reason.Missing
+of_offsets standard (Some entries) ctts edts scale movie durations =
+    of_edit (edit_of edts scale movie) scale durations (offsets standard entries ctts)
 
 -- of a stts that may be torn: more frames than the moov has bytes are refused, and then more than there is room for
 abbrev pub of_durations : Bool → Option ℕ → ℕ → ℕ → ℕ → ℕ → List ℕ → List ℕ → List ℕ → Outcome
 of_durations standard None bytes room movie scale edts ctts stts = no_times reason.Missing
-of_durations standard (Some n) bytes room movie scale edts ctts stts =
-    if ltb bytes (entry_total (entries_of n stts)) then no_times reason.Missing
-    else if ltb room (entry_total (entries_of n stts)) then no_times reason.NoRoom
-    else of_offsets standard (optional_entries ctts) ctts edts scale movie (durations n stts)
+of_durations standard (Some entries) bytes room movie scale edts ctts stts =
+    if nat_lt bytes (entry_total (entries_of entries stts)) then no_times reason.Missing
+    else if nat_lt room (entry_total (entries_of entries stts)) then no_times reason.NoRoom
+    else of_offsets standard (optional_entries ctts) ctts edts scale movie (durations entries stts)
 
--- a box that has to be there, in the part that starts at `base` of the moov: its payload goes on, with where that starts in the moov.
--- Where it isn't, 31 after a clean end; after a bad header 36, with the header's offset in the moov
+-- a box that has to be there, in the part that starts at `base` of the moov: its payload goes on, with where that
+-- starts in the moov. Where it isn't, 31 after a clean end; at a broken header 36, with its offset in the moov
 abbrev pub required : ℕ → Walk → List ℕ → (ℕ → List ℕ → Outcome) → Outcome
-required base (Found p) s next = next (base + p.start) (bytes_at s p)
-required base End s next = no_times reason.Missing
-required base (BadAt at) s next = no_times_at reason.Broken (base + at)
+required base (Found place) bytes next = next (base + place.start) (bytes_at bytes place)
+required base End bytes next = no_times reason.Missing
+required base (BadAt at) bytes next = no_times_at reason.Broken (base + at)
 
 -- the same for the first child of a type
 abbrev pub in_child : ℕ → ℕ → List ℕ → (ℕ → List ℕ → Outcome) → Outcome
-in_child kind base s next = required base (first_of kind (boxes_of s)) s next
+in_child kind base bytes next = required base (first_of kind (boxes_of bytes)) bytes next
 
 -- of a stbl, which has the tables: the stts has to be there
 unfoldable pub of_tables : Bool → ℕ → ℕ → ℕ → ℕ → List ℕ → ℕ → List ℕ → Outcome
-of_tables standard bytes room movie scale edts base tables = in_child stts base tables (λ at d. of_durations standard (table_entries d) bytes room movie scale edts (child_of ctts tables) d)
+of_tables standard bytes room movie scale edts base tables =
+    in_child stts base tables
+    (λ at payload.
+    of_durations standard (table_entries payload) bytes room movie scale edts (child_of ctts tables) payload)
 
 -- a timescale that has to be whole
 abbrev pub with_scale : Option ℕ → (ℕ → Outcome) → Outcome
@@ -122,33 +132,41 @@ with_scale (Some scale) next = next scale
 -- of a mdia, which has the timescale and, two boxes below, the stbl; neither timescale may be 0
 abbrev pub of_scale : Bool → ℕ → ℕ → ℕ → ℕ → List ℕ → ℕ → List ℕ → Outcome
 of_scale standard bytes room movie scale edts base media =
-    if eqb scale 0 || eqb movie 0 then no_times reason.Missing
-    else in_child minf base media (λ at i. in_child stbl at i (of_tables standard bytes room movie scale edts))
+    if scale == 0 || movie == 0 then no_times reason.Missing
+    else in_child minf base media (λ at inner. in_child stbl at inner (of_tables standard bytes room movie scale edts))
 
 unfoldable pub of_media : Bool → ℕ → ℕ → ℕ → List ℕ → ℕ → List ℕ → Outcome
-of_media standard bytes room movie edts base media = in_child mdhd base media (λ at h. with_scale (timescale h) (λ scale. of_scale standard bytes room movie scale edts base media))
+of_media standard bytes room movie edts base media =
+    in_child mdhd base media
+    (λ at payload. with_scale (timescale payload) (λ scale. of_scale standard bytes room movie scale edts base media))
 
 -- of a video track, whose edts may be absent
 unfoldable pub of_track : Bool → ℕ → ℕ → ℕ → ℕ → List ℕ → Outcome
-of_track standard bytes room movie base track = in_child mdia base track (of_media standard bytes room movie (child_of edts track))
+of_track standard bytes room movie base track =
+    in_child mdia base track (of_media standard bytes room movie (child_of edts track))
 
--- of a mvhd, which has the movie's timescale; where that isn't whole no track is looked for. That it isn't 0 is tested with the track's own
+-- of a mvhd, which has the movie's timescale; where that isn't whole no track is looked for. That it isn't 0 is tested
+-- with the track's own
 abbrev pub of_movie : Bool → List ℕ → ℕ → List ℕ → Outcome
-of_movie standard moov room h = with_scale (timescale h) (λ movie. required 0 (video_track moov) moov (of_track standard (length moov) room movie))
+of_movie standard moov room payload =
+    with_scale (timescale payload)
+    (λ movie. required 0 (video_track moov) moov (of_track standard (length moov) room movie))
 
 -- of a moov: its mvhd, then its first video track
 unfoldable pub times_of_moov : Bool → List ℕ → ℕ → Outcome
 times_of_moov standard moov room =
-    if ltb most_bytes (length moov) then no_times reason.TooLong
-    else in_child mvhd 0 moov (λ at h. of_movie standard moov room h)
+    if nat_lt most_bytes (length moov) then no_times reason.TooLong
+    else in_child mvhd 0 moov (λ at payload. of_movie standard moov room payload)
 
 -- the room that three slices have
 abbrev pub room : List ℤ → List ℤ → List ℤ → ℕ
-room x y z = min (min (length x) (length y)) (length z)
+room starts first_work second_work = min (min (length starts) (length first_work)) (length second_work)
 
--- what `video_frame_times_of_moov` leaves, of a mode, a moov, starts and two working slices: r is the answer, the starts are laid over what was lent, and both working slices are all zero
-pub record MoovAnswers (standard : Bool) (moov : List ℕ) (lent a b : List ℤ) (r : Result FrameTimes Refusal) (after a' b' : List ℤ) : Type 0 where
-  pub answer : r ≡ (times_of_moov standard moov (room lent a b)).answer
-  pub starts : after ≡ laid (times_of_moov standard moov (room lent a b)).starts lent
-  pub first-clear : a' ≡ zeros a
-  pub second-clear : b' ≡ zeros b
+-- what `video_frame_times_of_moov` leaves, of a mode, a moov, starts and two working slices: what is said is the
+-- answer, the starts are laid over what was lent, and both working slices are all zero
+pub record MoovAnswers (standard : Bool) (moov : List ℕ) (lent first_work second_work : List ℤ)
+    (said : Result FrameTimes Refusal) (after first_work' second_work' : List ℤ) : Type 0 where
+  pub answer : said ≡ (times_of_moov standard moov (room lent first_work second_work)).answer
+  pub starts : after ≡ laid (times_of_moov standard moov (room lent first_work second_work)).starts lent
+  pub first_clear : first_work' ≡ zeros first_work
+  pub second_clear : second_work' ≡ zeros second_work

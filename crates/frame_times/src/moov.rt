@@ -1,4 +1,4 @@
-// From the moov to its first video track, in the order of the Rust.
+// From the moov to its first video track, in the order of the Rust: RULES 8.1 and 8.2.
 ghost use Rattle.std.specs.Prelude.{◌≡◌, ℕ, Bool};
 ghost use Rattle.frame_times.specs.Times.{room, times_of_moov};
 ghost use Rattle.frame_times.specs.Found.{of_found};
@@ -17,7 +17,8 @@ use tracks::tables::timescale;
 // The first video track of a moov.
 #[tactic(auto, using(conditions::proofs::Tests::tests), unfolding(crate::specs::Times::times_of_moov, crate::specs::Times::of_track, crate::specs::Times::of_media, crate::specs::Times::of_tables))]
 fn video_track(moov: &[u8]) -> Result<Track<'_>, Refusal>
-    ensures { (standard : Bool) (room : ℕ) → times_of_moov standard moov.now room ≡ of_found standard room result }
+    ensures { (standard : Bool) (room : ℕ)
+        → times_of_moov standard moov.now room ≡ of_found standard room result }
 {
     let most = moov.len();
     if MOST_BYTES < most {
@@ -54,10 +55,12 @@ pub(crate) fn of_moov(
     moov: &[u8],
     standard: bool,
     starts: &mut [i64],
-    a: &mut [i64],
-    b: &mut [i64],
+    first_work: &mut [i64],
+    second_work: &mut [i64],
 ) -> Result<FrameTimes, Refusal>
-    ensures { OutcomeAnswered (times_of_moov standard moov.now (room starts.old a.old b.old)) result starts.old starts.new }
+    ensures { OutcomeAnswered
+        (times_of_moov standard moov.now (room starts.old first_work.old second_work.old))
+        result starts.old starts.new }
 {
-    video_track(moov)?.times(standard, starts, a, b)
+    video_track(moov)?.times(standard, starts, first_work, second_work)
 }

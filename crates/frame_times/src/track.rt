@@ -1,5 +1,6 @@
 // A video track, and the times of its frames.
 ghost use Rattle.std.specs.Prelude.{◌<◌, ◌≤◌, ◌^◌};
+ghost use Rattle.boxes.specs.Boxes.{most_bytes};
 
 use crate::times::present;
 use refusal::{Reason, Refusal};
@@ -9,8 +10,9 @@ use tracks::edits::edit_of;
 use tracks::entries::Table;
 use tracks::tables::lay;
 
-// A video track: the most frames that it can have, which is the moov's bytes, the movie's timescale, which isn't 0, and its own, and the
-// payloads of its tables. An edts or a ctts that is absent is empty.
+// A video track: the most frames that it can have, which is the moov's bytes; the movie's
+// timescale, which isn't 0, and its own; the payloads of its tables. An edts or a ctts that is
+// absent is empty.
 #[derive(Clone, Copy)]
 pub(crate) struct Track<'a> {
     pub most_frames: usize,
@@ -19,13 +21,15 @@ pub(crate) struct Track<'a> {
     pub edts: &'a [u8],
     pub ctts: &'a [u8],
     pub stts: &'a [u8],
-    ghost few: { most_frames ≤ 16777216 },
+    // A track has no more frames than the moov has bytes.
+    ghost few: { most_frames ≤ most_bytes },
     ghost movie_some: { 0 < movie },
     ghost movie_fits: { movie < 2 ^ 32 },
     ghost scale_fits: { scale < 2 ^ 32 },
 }
 
-// What tells when a track's frames are: their durations and offsets, how the offsets are read, and the edit.
+// What tells when a track's frames are: their durations and offsets, how the offsets are read, and
+// the edit.
 #[derive(Clone, Copy)]
 pub(crate) struct Timing<'a> {
     pub durations: Table<'a>,
@@ -39,23 +43,25 @@ impl Track<'_> {
     ghost use Rattle.frame_times.specs.Found.{times_of_track};
     ghost use Rattle.frame_times.specs.KeptFrames.{OutcomeAnswered};
 
-    // Answers with the tables: as many frames as bytes at most (31), no more than there is room for (32), and then the offsets and the edit (31).
+    // Answers with the tables: the durations are judged, then the offsets and the edit (RULES 8.9).
     #[tactic(auto, using(crate::proofs::KeepLaws::lengths))]
     pub(crate) fn times(
         self,
         standard: bool,
         starts: &mut [i64],
-        a: &mut [i64],
-        b: &mut [i64],
+        first_work: &mut [i64],
+        second_work: &mut [i64],
     ) -> Result<FrameTimes, Refusal>
-        ensures { OutcomeAnswered (times_of_track standard (room starts.old a.old b.old) self.entry) result starts.old starts.new }
+        ensures { OutcomeAnswered
+            (times_of_track standard (room starts.old first_work.old second_work.old) self.entry)
+            result starts.old starts.new }
     {
         let durations = Table::of(self.stts).ok_or(Reason::Missing.at(0))?;
-        let frames = lay(durations, self.most_frames, b);
+        let frames = lay(durations, self.most_frames, second_work);
         if self.most_frames < frames {
             return Err(Reason::Missing.at(0));
         }
-        if starts.len().min(a.len()).min(b.len()) < frames {
+        if starts.len().min(first_work.len()).min(second_work.len()) < frames {
             return Err(Reason::NoRoom.at(0));
         }
         let offsets = Table::of_optional(self.ctts).ok_or(Reason::Missing.at(0))?;
@@ -70,8 +76,8 @@ impl Track<'_> {
             timing,
             self.scale,
             starts,
-            &mut a[..frames],
-            &mut b[..frames],
+            &mut first_work[..frames],
+            &mut second_work[..frames],
         )
     }
 }

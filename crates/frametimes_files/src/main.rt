@@ -1,4 +1,5 @@
-// Prints the frame times of each file that is named, as frametimes prints them, under a line `NAME:`. The stored run is of the files in data/, which args names:
+// Prints the frame times of each file that is named, as frametimes prints them, under a line
+// `NAME:`. The stored run is of the files in data/, which args names:
 //
 // M1: offsets and no edit.
 // data/m1: tools/make-moov durations=10,10,10 offsets=10,30,0

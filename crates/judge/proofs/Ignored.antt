@@ -17,41 +17,48 @@ use Rattle.mcraw.specs.Mcraw.{starts_of, mcraw_times}
 use Rattle.judge.specs.Video.{Shown, constant, timed}
 use Rattle.judge.specs.Judge.{start_refusal, last_segment, video_refusal, validate_of, single, times_refusal, recording_refusal, check_mcraw}
 
-last-stripped : (segs : List Segment) → last_segment (map stripped_segment segs) ≡ stripped_segment (last_segment segs)
-last-stripped segs = ap (λ (n : ℕ). get_or (map stripped_segment segs) (n - 1) no_segment) (length-map segs stripped_segment) ∙ segment-at segs (length segs - 1)
+last-stripped : (segments : List Segment)
+    → last_segment (map stripped_segment segments) ≡ stripped_segment (last_segment segments)
+last-stripped segments = ap (λ (n : ℕ). get_or (map stripped_segment segments) (n - 1) no_segment) (length-map segments stripped_segment) ∙ segment-at segments (length segments - 1)
 
 start-stripped : (v : Shown) (e : Segment) → start_refusal v (stripped_segment e) ≡ start_refusal v e
 unfolding start_refusal stripped_segment
 start-stripped v e = refl
 
-video-stripped : (segs : List Segment) (v : Shown) → video_refusal (map stripped_segment segs) v ≡ video_refusal segs v
+video-stripped : (segments : List Segment) (v : Shown)
+    → video_refusal (map stripped_segment segments) v ≡ video_refusal segments v
 unfolding video_refusal stripped_segment
-video-stripped segs v = rw (last-stripped segs, first-map (start_refusal v) stripped_segment 0 segs (start-stripped v))
+video-stripped segments v = rw (last-stripped segments, first-map (start_refusal v) stripped_segment 0 segments (start-stripped v))
 
 -- the rate of segment 0's source
-source-stripped : (srcs : List Source) (segs : List Segment) → source_of (map stripped_source srcs) (get_or (map stripped_segment segs) 0 no_segment) ≡ stripped_source (source_of srcs (get_or segs 0 no_segment))
+source-stripped : (sources : List Source) (segments : List Segment) → source_of (map stripped_source sources)
+    (get_or (map stripped_segment segments) 0 no_segment)
+    ≡ stripped_source (source_of sources (get_or segments 0 no_segment))
 unfolding stripped_segment
-source-stripped srcs segs = ap (source_of (map stripped_source srcs)) (segment-at segs 0) ∙ source-at srcs (get_or segs 0 no_segment).words.source
+source-stripped sources segments = ap (source_of (map stripped_source sources)) (segment-at segments 0) ∙ source-at sources (get_or segments 0 no_segment).words.source
 
-single-stripped : (srcs : List Source) (segs : List Segment) → single (map stripped_source srcs) (map stripped_segment segs) ≡ single srcs segs
+single-stripped : (sources : List Source) (segments : List Segment)
+    → single (map stripped_source sources) (map stripped_segment segments) ≡ single sources segments
 unfolding single stripped_source
-single-stripped srcs segs = ap (λ (s : Source). constant 1 s.num s.den) (source-stripped srcs segs)
+single-stripped sources segments = ap (λ (s : Source). constant 1 s.numerator s.denominator) (source-stripped sources segments)
 
-times-stripped : (segs : List Segment) (ts : List ℤ) (r : Result FrameTimes Refusal) → times_refusal (map stripped_segment segs) ts r ≡ times_refusal segs ts r
+times-stripped : (segments : List Segment) (timestamps : List ℤ) (r : Result FrameTimes Refusal)
+    → times_refusal (map stripped_segment segments) timestamps r ≡ times_refusal segments timestamps r
 unfolding times_refusal
-times-stripped segs ts (Err refusal) = refl
-times-stripped segs ts (Ok times) = video-stripped segs (timed (starts_of ts) times.scale times.end times.nominal)
+times-stripped segments timestamps (Err refusal) = refl
+times-stripped segments timestamps (Ok times) = video-stripped segments (timed (starts_of timestamps) times.scale times.end times.nominal)
 
-recording-stripped : (srcs : List Source) (segs : List Segment) (ts : List ℤ) (a b : ℕ)
-    → recording_refusal (map stripped_source srcs) (map stripped_segment segs) ts a b ≡ recording_refusal srcs segs ts a b
+recording-stripped : (sources : List Source) (segments : List Segment) (timestamps : List ℤ) (a b : ℕ)
+    → recording_refusal (map stripped_source sources) (map stripped_segment segments) timestamps a b ≡ recording_refusal sources segments timestamps a b
 unfolding recording_refusal
-recording-stripped srcs segs ts a b = rw (single-stripped srcs segs, video-stripped segs (single srcs segs), times-stripped segs ts (mcraw_times ts a b))
+recording-stripped sources segments timestamps a b = rw (single-stripped sources segments, video-stripped segments (single sources segments), times-stripped segments timestamps (mcraw_times timestamps a b))
 
 -- of every table: its answer is that of the stripped one
 pub validate-stripped : (v : Shown) (t : Table) → validate_of t v ≡ validate_of (stripped t) v
 unfolding validate_of stripped
 validate-stripped v t = λ i. result_and (result_and (refusal-stripped t i) (sym (video-stripped t.segments v) i)) (Ok (sym (total-stripped t.segments) i))
 
-pub mcraw-stripped : (ts : List ℤ) (a b : ℕ) (t : Table) → check_mcraw t ts a b ≡ check_mcraw (stripped t) ts a b
+pub mcraw-stripped : (timestamps : List ℤ) (a b : ℕ) (t : Table)
+    → check_mcraw t timestamps a b ≡ check_mcraw (stripped t) timestamps a b
 unfolding check_mcraw stripped
-mcraw-stripped ts a b t = λ i. result_and (result_and (refusal-stripped t i) (sym (recording-stripped t.sources t.segments ts a b) i)) (Ok (sym (total-stripped t.segments) i))
+mcraw-stripped timestamps a b t = λ i. result_and (result_and (refusal-stripped t i) (sym (recording-stripped t.sources t.segments timestamps a b) i)) (Ok (sym (total-stripped t.segments) i))

@@ -1,4 +1,5 @@
--- A table is accepted for a video exactly where it fits it, and for a recording exactly where it is recorded. Nothing else meets the promises. Assumes nothing.
+-- A table is accepted for a video exactly where it fits it, and for a recording exactly where it is recorded. Nothing
+-- else meets the promises. Assumes nothing.
 use mathlib.Core.Path.{◌≡◌, refl, sym, ap, ◌∙◌, subst}
 use Rattle.std.proofs.lemmas.Bool.Decides.{Decides-int_eq}
 use Rattle.std.specs.Ordering.{int_eq}
@@ -14,12 +15,11 @@ use lib.ListN.{length}
 use lib.Signed.{◌≤ℤ◌, le_z_yes}
 use Rattle.std.specs.Prelude.{Result, Ok, Err, Option, Some, None}
 use Rattle.std.specs.Result.{result_and}
-use Rattle.conditions.specs.Conditions.{when}
 use Rattle.conditions.proofs.Tests.{decide, tf}
 use Rattle.refusal.specs.declared.Reason.{Reason}
 use Rattle.refusal.specs.declared.Reason.TheVariants as reason
 use Rattle.refusal.specs.declared.Refusal.{Refusal}
-use Rattle.refusal.proofs.Chains.{when-ok, and-ok, ok-of}
+use Rattle.refusal.proofs.Chains.{if-ok, and-ok, ok-of}
 use Rattle.refusal.proofs.First.{none-refused, refuses-none}
 use Rattle.signed.specs.Signed.{as_i64}
 use Rattle.signed.specs.Rounded.{rounded}
@@ -38,12 +38,12 @@ use Rattle.judge.specs.Means.{Fits, Recorded}
 
 -- a segment that starts at its first frame's time
 starts-right : (h : Option ℤ) (out : ℤ) → starts_at h out ≡ Ok tt → h ≡ Some out
-unfolding starts_at when
+unfolding starts_at
 starts-right None out e = absurd (grind arith)
 starts-right (Some us) out e = decide (int_eq us out) (λ t. ap Some ((Decides-int_eq us out).0 t)) (λ t. let z : ◌≡◌ {A = Result (Unit {0}) Reason} (Err reason.OtherFrameTime) (Ok tt) = sym (rw t) ∙ e in absurd (grind arith))
 
 right-starts : (out : ℤ) → starts_at (Some out) out ≡ Ok tt
-unfolding starts_at when
+unfolding starts_at
 right-starts out = rw ((Decides-int_eq out out).1 refl)
 
 -- a time that is had, in microseconds
@@ -69,7 +69,8 @@ near-so us e m s h = le_z_yes {a = pos (nat_abs (pos 2 *ℤ us *ℤ pos s -ℤ p
     yes true h = tt
     yes false h = tf (sym h)
 
-so-near : (us e m : ℤ) (s : ℕ) → pos (nat_abs (pos 2 *ℤ us *ℤ pos s -ℤ pos 2 *ℤ e *ℤ pos 1000000)) ≤ℤ (pos 2 *ℤ m *ℤ pos 1000000 +ℤ pos s)
+so-near : (us e m : ℤ) (s : ℕ)
+    → pos (nat_abs (pos 2 *ℤ us *ℤ pos s -ℤ pos 2 *ℤ e *ℤ pos 1000000)) ≤ℤ (pos 2 *ℤ m *ℤ pos 1000000 +ℤ pos s)
     → ends_near us e m s ≡ true
 unfolding ends_near
 so-near us e m s h = so (ends_near us e m s) h.le
@@ -79,7 +80,9 @@ so-near us e m s h = so (ends_near us e m s) h.le
     so false h = absurd h
 
 -- a check, and then the rest
-both : (t : Table) (N : ℕ) (rest : Result (Unit {0}) Refusal) → (result_and (result_and (refusal t) rest) (Ok (frame_total t.segments)) ≡ Ok N) ↔ ((check_of t ≡ Ok N) × (rest ≡ Ok tt))
+both : (t : Table) (N : ℕ)
+    (rest : Result (Unit {0}) Refusal) → (result_and (result_and (refusal t) rest) (Ok (frame_total t.segments)) ≡ Ok N)
+    ↔ ((check_of t ≡ Ok N) × (rest ≡ Ok tt))
 unfolding check_of
 both t N rest = (
   λ e. let f = ok-of (result_and (refusal t) rest) _ N e in let o = and-ok (refusal t) rest tt f.0 in (rw o.0 (ap Ok f.1), o.1),
@@ -88,7 +91,7 @@ both t N rest = (
 
 module _ (t : Table) (v : Shown) (N : ℕ) where
   -- of an accepted table
-  start_fits : Accepted t N → (k : ℕ) → k < length t.segments → I64 (segment t k).stamps.outstart
+  start_fits : Accepted t N → (k : ℕ) → k < length t.segments → I64 (segment t k).stamps.out_start
   start_fits g k h =
       let e = (g.segments k h).out-time in
       subst I64 (sym e.start) (omega (arith, e.fits))
@@ -97,18 +100,18 @@ module _ (t : Table) (v : Shown) (N : ℕ) where
   unfolding video_refusal start_refusal ends_near
   fits-video q h =
       let g = accepted t N q in
-      let a = when-ok _ _ _ _ h in
-      let b = when-ok _ _ _ _ a.1 in
-      let c = when-ok _ _ _ _ b.1 in
+      let a = if-ok _ _ _ _ h in
+      let b = if-ok _ _ _ _ a.1 in
+      let c = if-ok _ _ _ _ b.1 in
       let d = and-ok _ _ _ c.1 in
-      let e = when-ok _ _ _ _ d.1 in
+      let e = if-ok _ _ _ _ d.1 in
       let last = eqb-true (out_end (last_segment t.segments)) v.frames (not-false _ c.0) in
-      let had : (k : ℕ) → k < length t.segments → micros_of (v.time (segment t k).words.out) v.scale ≡ Some (segment t k).stamps.outstart
+      let had : (k : ℕ) → k < length t.segments → micros_of (v.time (segment t k).words.out) v.scale ≡ Some (segment t k).stamps.out_start
       = λ k i. starts-right _ _ (none-refused (start_refusal v) 0 t.segments no_segment d.0 k i) in
       record {
         checked = q;
         given = not-false _ a.0;
-        in-limits = b.0;
+        in_limits = b.0;
         first = g.first;
         next = λ k i. (g.follows k i).frame;
         some = λ k i. (g.segments k i).some;
@@ -120,12 +123,12 @@ module _ (t : Table) (v : Shown) (N : ℕ) where
       }
 
   video-fits : Fits t v N → video_refusal t.segments v ≡ Ok tt
-  unfolding video_refusal start_refusal when
+  unfolding video_refusal start_refusal
   video-fits h =
       let g = accepted t N h.checked in
       let right : (k : ℕ) → k < length t.segments → start_refusal v (segment t k) ≡ Ok tt
-      = λ k i. ap (λ (x : Option ℤ). starts_at x (segment t k).stamps.outstart) (had-time _ _ _ h.scaled (start_fits g k i) (h.starts k i)) ∙ right-starts _ in
-      simp (h.given, h.in-limits, eq-eqb _ _ h.last, refuses-none (start_refusal v) 0 t.segments no_segment right, so-near (out_end_us (last_segment t.segments)) v.end v.nominal v.scale h.near)
+      = λ k i. ap (λ (x : Option ℤ). starts_at x (segment t k).stamps.out_start) (had-time _ _ _ h.scaled (start_fits g k i) (h.starts k i)) ∙ right-starts _ in
+      simp (h.given, h.in_limits, eq-eqb _ _ h.last, refuses-none (start_refusal v) 0 t.segments no_segment right, so-near (out_end_us (last_segment t.segments)) v.end v.nominal v.scale h.near)
 
   pub validated : (validate_of t v ≡ Ok N) ↔ Fits t v N
   unfolding validate_of
@@ -135,32 +138,35 @@ module _ (t : Table) (v : Shown) (N : ℕ) where
   )
 
 -- a recording's times that leave nothing refused
-module _ (t : Table) (ts : List ℤ) (a b N : ℕ) where
-  times-fit : (r : Result FrameTimes Refusal) → mcraw_times ts a b ≡ r → check_of t ≡ Ok N → times_refusal t.segments ts r ≡ Ok tt
-      → (refusal_of ts a b ≡ Ok tt) × Fits t (timed (starts_of ts) nanoseconds (end ts) (nominal ts)) N
+module _ (t : Table) (timestamps : List ℤ) (a b N : ℕ) where
+  times-fit : (r : Result FrameTimes Refusal) → mcraw_times timestamps a b ≡ r → check_of t ≡ Ok N
+      → times_refusal t.segments timestamps r ≡ Ok tt
+      → (refusal_of timestamps a b ≡ Ok tt) × Fits t (timed (starts_of timestamps) nanoseconds (end timestamps) (nominal timestamps)) N
   unfolding times_refusal mcraw_times times_of
   times-fit (Err refusal) e q h = absurd (grind arith)
   times-fit (Ok times) e q h =
-      let o = ok-of (refusal_of ts a b) (times_of ts) times e in
-      (o.0, subst (λ (x : FrameTimes). Fits t (timed (starts_of ts) x.scale x.end x.nominal) N) (sym o.1) (fits-video t (timed (starts_of ts) times.scale times.end times.nominal) N q h))
+      let o = ok-of (refusal_of timestamps a b) (times_of timestamps) times e in
+      (o.0, subst (λ (x : FrameTimes). Fits t (timed (starts_of timestamps) x.scale x.end x.nominal) N) (sym o.1) (fits-video t (timed (starts_of timestamps) times.scale times.end times.nominal) N q h))
 
-  fits-recording : check_of t ≡ Ok N → recording_refusal t.sources t.segments ts a b ≡ Ok tt → Recorded t ts a b N
-  unfolding recording_refusal when
+  fits-recording : check_of t ≡ Ok N → recording_refusal t.sources t.segments timestamps a b ≡ Ok tt
+      → Recorded t timestamps a b N
+  unfolding recording_refusal
   fits-recording q h =
-      decide (eqb (length ts) 1)
-      (λ y. inl (eqb-true (length ts) 1 y, fits-video t (single t.sources t.segments) N q (sym (rw y) ∙ h)))
-      (λ y. inr (let f = times-fit (mcraw_times ts a b) refl q (sym (rw y) ∙ h) in (eqb-false (length ts) 1 y, f.0, f.1)))
+      decide (eqb (length timestamps) 1)
+      (λ y. inl (eqb-true (length timestamps) 1 y, fits-video t (single t.sources t.segments) N q (sym (rw y) ∙ h)))
+      (λ y. inr (let f = times-fit (mcraw_times timestamps a b) refl q (sym (rw y) ∙ h) in (eqb-false (length timestamps) 1 y, f.0, f.1)))
 
-  recording-fits : Recorded t ts a b N → (check_of t ≡ Ok N) × (recording_refusal t.sources t.segments ts a b ≡ Ok tt)
-  unfolding recording_refusal times_refusal mcraw_times times_of when
+  recording-fits : Recorded t timestamps a b N
+      → (check_of t ≡ Ok N) × (recording_refusal t.sources t.segments timestamps a b ≡ Ok tt)
+  unfolding recording_refusal times_refusal mcraw_times times_of
   recording-fits =
       ⊎_elim
-      (λ h. (h.1.checked, rw (eq-eqb (length ts) 1 h.0) (video-fits t (single t.sources t.segments) N h.1)))
-      (λ h. (h.2.checked, rw (ne_eqb (length ts) 1 h.0, h.1) (video-fits t (timed (starts_of ts) nanoseconds (end ts) (nominal ts)) N h.2)))
+      (λ h. (h.1.checked, rw (eq-eqb (length timestamps) 1 h.0) (video-fits t (single t.sources t.segments) N h.1)))
+      (λ h. (h.2.checked, rw (ne_eqb (length timestamps) 1 h.0, h.1) (video-fits t (timed (starts_of timestamps) nanoseconds (end timestamps) (nominal timestamps)) N h.2)))
 
-  pub recorded : (check_mcraw t ts a b ≡ Ok N) ↔ Recorded t ts a b N
+  pub recorded : (check_mcraw t timestamps a b ≡ Ok N) ↔ Recorded t timestamps a b N
   unfolding check_mcraw
   recorded = (
-    (λ e. let c = (both t N (recording_refusal t.sources t.segments ts a b)).0 e in fits-recording c.0 c.1),
-    (λ h. (both t N (recording_refusal t.sources t.segments ts a b)).1 (recording-fits h)),
+    (λ e. let c = (both t N (recording_refusal t.sources t.segments timestamps a b)).0 e in fits-recording c.0 c.1),
+    (λ h. (both t N (recording_refusal t.sources t.segments timestamps a b)).1 (recording-fits h)),
   )

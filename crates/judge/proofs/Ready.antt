@@ -12,8 +12,8 @@ use Rattle.judge.specs.Judge.{last_segment}
 use Rattle.judge.specs.Ready.{Ready}
 
 -- the end time of the last segment of an accepted table
-end_fits : (t : Table) (N : ℕ) → Accepted t N → I64 (out_end_us (last_segment t.segments))
-end_fits t N g =
+end-fits : (t : Table) (N : ℕ) → Accepted t N → I64 (out_end_us (last_segment t.segments))
+end-fits t N g =
     let e = (g.segments (length t.segments - 1) (omega (arith, g.some-segments))).out-time in
     subst I64 (sym e.sum) (omega (arith, e.fits))
 
@@ -25,5 +25,5 @@ ready t {N} e =
       some = g.some-segments;
       named = (g.segments 0 g.some-segments).named;
       frames = g.last;
-      end = end_fits t N g;
+      end = end-fits t N g;
     }

@@ -1,6 +1,6 @@
 pub mod Video
 pub mod Judge
 pub mod Means
-pub mod Paper
+pub mod Grounds
 pub mod Ready
 pub mod Examples

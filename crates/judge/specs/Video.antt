@@ -1,5 +1,5 @@
--- A video, as a table is judged by it, and the ways in which one is lent (document 01, "Time of a frame").
-use Rattle.std.specs.Prelude.{ℕ, ◌*◌, Bool, true, false, ◌||◌, List, ltb, ℤ, pos, negsuc, length, get_or}
+-- RULES 6.1: a video, as a table is judged by it, and the ways in which one is lent.
+use Rattle.std.specs.Prelude.{ℕ, ◌*◌, Bool, true, false, ◌||◌, List, ℤ, pos, negsuc, length, get_or, nat_lt}
 use Rattle.ticks.specs.Ticks.{largest_scale}
 use Rattle.judge.specs.declared.Video.{Video}
 use Rattle.judge.specs.declared.Video.TheVariants.{Nothing, Constant, Times}
@@ -20,23 +20,23 @@ pub record Shown : Type 0 where
   pub end : ℤ
   pub nominal : ℤ
 
--- constant: frame k lies at k × den ticks of scale num, and the nominal duration is den
+-- constant: frame k lies at k × denominator ticks of scale numerator, and the nominal duration is denominator
 abbrev pub constant : ℕ → ℕ → ℕ → Shown
-constant frames num den = record {
+constant frames numerator denominator = record {
   given = true;
-  over = ltb largest_scale num || ltb largest_scale den;
+  over = nat_lt largest_scale numerator || nat_lt largest_scale denominator;
   frames = frames;
-  scale = num;
-  time = λ k. pos (k * den);
-  end = pos (frames * den);
-  nominal = pos den;
+  scale = numerator;
+  time = λ k. pos (k * denominator);
+  end = pos (frames * denominator);
+  nominal = pos denominator;
 }
 
 -- times: frame k lies at its start; index = length gives the end, and so do larger ones, which no answer rests on
 abbrev pub timed : List ℤ → ℕ → ℤ → ℤ → Shown
 timed starts scale end nominal = record {
   given = true;
-  over = ltb largest_scale scale || ltb most_starts (length starts);
+  over = nat_lt largest_scale scale || nat_lt most_starts (length starts);
   frames = length starts;
   scale = scale;
   time = λ k. get_or starts k end;
@@ -46,10 +46,18 @@ timed starts scale end nominal = record {
 
 -- no video, and no answer rests on its numbers
 abbrev pub nothing : Shown
-nothing = record { given = false; over = false; frames = 0; scale = 0; time = λ k. pos 0; end = pos 0; nominal = negsuc 0 }
+nothing = record {
+  given = false;
+  over = false;
+  frames = 0;
+  scale = 0;
+  time = λ k. pos 0;
+  end = pos 0;
+  nominal = negsuc 0;
+}
 
 -- the video that is lent, its starts beside it
 unfoldable pub shown_by : Video → List ℤ → Shown
 shown_by Nothing starts = nothing
-shown_by (Constant frames num den) starts = constant frames num den
+shown_by (Constant frames numerator denominator) starts = constant frames numerator denominator
 shown_by (Times scale end nominal) starts = timed starts scale end nominal

@@ -34,7 +34,7 @@ module _ (t : Table) {N : ℕ} (e : check_of t ≡ Ok N) where
     sum = λ k h. (given.segments k h).out-time.sum;
     chained = λ k h.
         let z : k + 1 ≡ suc k = omega arith in
-        ap (λ (j : ℕ). nat_abs (segment t j).stamps.outstart) z ∙ ap nat_abs ((given.follows k (omega arith)).time ∙ (given.segments k (omega arith)).out-time.sum);
+        ap (λ (j : ℕ). nat_abs (segment t j).stamps.out_start) z ∙ ap nat_abs ((given.follows k (omega arith)).time ∙ (given.segments k (omega arith)).out-time.sum);
   }
 
   pub source_sum : (k : ℕ) → k < length t.segments → (segment t k).words.first + (segment t k).words.count ≤ max_u64

@@ -1,5 +1,5 @@
--- Of segments each of which begins where the one before it ends, the last that has begun, or the first, is the one that is looked up: as many have ended as
--- come before it, or it is the last. So for frames and for times. Assumes nothing.
+-- Of segments each of which begins where the one before it ends, the last that has begun, or the first, is the one that
+-- is looked up: as many have ended as come before it, or it is the last. So for frames and for times. Assumes nothing.
 use Prim.Native.Nat.{ℕ, suc, ◌+◌, ◌-◌, ◌≤◌, ◌<◌}
 use native.Mathlib.Omega.{arith}
 use mathlib.Core.Path.{◌≡◌, sym, ap, ◌∙◌}
@@ -20,7 +20,8 @@ use Rattle.rules.specs.Lookups.{ended, over_by, over_by_us}
 use Rattle.rules.specs.Walks.{Ordered}
 use Rattle.lookup.specs.Searchable.{Chained, Timed, start_us, end_us}
 
--- which have begun, and which have ended: one that isn't the first begins as the one before it ends, and those that have ended come first
+-- which have begun, and which have ended: one that isn't the first begins as the one before it ends, and those that
+-- have ended come first
 pub record InTurn (has : ℕ → Bool) (over : Segment → Bool) (l : List Segment) : Type 0 where
   pub next : (k : ℕ) → k + 1 < length l → has (k + 1) ≡ over (nth l k)
   pub ended-first : (i j : ℕ) → i ≤ j → j < length l → over (nth l j) ≡ true → over (nth l i) ≡ true
@@ -37,7 +38,8 @@ module _ {has : ℕ → Bool} {over : Segment → Bool} {l : List Segment} (o : 
   after r e k h b = decide (over (nth l k)) (λ t. tf (sym (o.ended-first r k h b t) ∙ e)) (λ f. f)
 
   -- the last that has begun is the one that is looked up
-  pub last-ended : {gives : ℕ → Bool → Type 0} {r : ℕ} → LastThat gives (length l) r → ((k : ℕ) (b : Bool) → k < length l → gives k b → b ≡ has k) → r ≡ ended over l
+  pub last-ended : {gives : ℕ → Bool → Type 0} {r : ℕ} → LastThat gives (length l) r
+      → ((k : ℕ) (b : Bool) → k < length l → gives k b → b ≡ has k) → r ≡ ended over l
   unfolding ended
   last-ended {gives} {r} h says =
       decide (over (nth l r))
@@ -53,20 +55,23 @@ module _ {has : ℕ → Bool} {over : Segment → Bool} {l : List Segment} (o : 
       omega (arith, h.within))
 
 module _ {t : Table} where
-  pub frames-in-turn : Chained t → (frame : ℕ) → InTurn (λ k. leb (segment t k).words.out frame) (over_by frame) t.segments
+  pub frames-in-turn : Chained t → (frame : ℕ)
+      → InTurn (λ k. leb (segment t k).words.out frame) (over_by frame) t.segments
   frames-in-turn o frame = record {
     next = λ k b. ap (λ (x : ℕ). leb x frame) (o.chained k b);
     ended-first = λ i j h b e. let r = o.ends.rising i j h b in grind arith;
   }
 
-  pub times-in-turn : Timed t → (time : ℤ) → InTurn (λ k. le_z (segment t k).stamps.outstart time) (over_by_us time) t.segments
+  pub times-in-turn : Timed t → (time : ℤ)
+      → InTurn (λ k. le_z (segment t k).stamps.out_start time) (over_by_us time) t.segments
   times-in-turn o time = record {
     next = λ k b. ap (λ (x : ℤ). le_z x time) (o.plain (k + 1) b ∙ ap pos (o.chained k b) ∙ sym (o.sum k (omega arith)));
     ended-first = λ i j h b e. let x = o.sum i (omega arith) in let y = o.sum j b in let r = o.ends.rising i j h b in grind (arith, ints);
   }
 
 -- b is where they begin, e where they end
-rise : (b e : ℕ → ℕ) {n top : ℕ} → Ordered e n top → ((k : ℕ) → k + 1 < n → b (k + 1) ≡ e k) → ((k : ℕ) → b k ≤ e k) → (i j : ℕ) → i ≤ j → j < n → b i ≤ b j
+rise : (b e : ℕ → ℕ) {n top : ℕ} → Ordered e n top → ((k : ℕ) → k + 1 < n → b (k + 1) ≡ e k) → ((k : ℕ) → b k ≤ e k)
+    → (i j : ℕ) → i ≤ j → j < n → b i ≤ b j
 rise b e o c f i j h l =
     ⊎_elim
     (λ (z : suc i ≤ j).
@@ -76,10 +81,12 @@ rise b e o c f i j h l =
     (le-or-lt (suc i) j)
 
 module _ (t : Table) where
-  pub outs_rise : Chained t → (i j : ℕ) → i ≤ j → j < length t.segments → (segment t i).words.out ≤ (segment t j).words.out
-  outs_rise o = rise (λ k. (segment t k).words.out) (λ k. out_end (segment t k)) o.ends o.chained (λ k. omega arith)
+  pub outs-rise : Chained t → (i j : ℕ) → i ≤ j → j < length t.segments
+      → (segment t i).words.out ≤ (segment t j).words.out
+  outs-rise o = rise (λ k. (segment t k).words.out) (λ k. out_end (segment t k)) o.ends o.chained (λ k. omega arith)
 
-  pub starts_rise : Timed t → (i j : ℕ) → i ≤ j → j < length t.segments → (segment t i).stamps.outstart ≤ℤ (segment t j).stamps.outstart
+  pub starts_rise : Timed t → (i j : ℕ) → i ≤ j → j < length t.segments
+      → (segment t i).stamps.out_start ≤ℤ (segment t j).stamps.out_start
   starts_rise o i j h b =
       let x = o.plain i (omega arith) in
       let y = o.plain j b in

@@ -1,4 +1,4 @@
--- The lookups in T of document 01, and which of its segments continue. They are the contract of `worked_examples_hold`.
+-- RULES 4.7: lookups in T, and which segments continue. They are the contract of `worked_examples_hold`.
 use Rattle.std.specs.Prelude.{true, false, List, [], ◌∷◌, ◌++◌, ℤ, pos, neg_ℤ, ℕ, Bool, Result, Ok}
 use Rattle.examples.specs.Worked.{Worked, is, AllRight}
 use Rattle.refusal.specs.declared.Refusal.{Refusal}
@@ -21,7 +21,8 @@ lookups =
 abbrev pub halves : ℤ → Table
 halves shift =
     table_of (source 100 0 0 1 1 0) (words 0 10 30 0 1 ++ words 0 40 20 30 1)
-    (pos 0 ∷ pos 0 ∷ pos 3 ∷ pos 0 ∷ pos 0 ∷ pos 0 ∷ pos 5 ∷ pos 0 ∷ pos 3 ∷ pos 4 ∷ pos 0 ∷ pos 0 ∷ pos 0 ∷ shift ∷ []) false []
+    (pos 0 ∷ pos 0 ∷ pos 3 ∷ pos 0 ∷ pos 0 ∷ pos 0 ∷ pos 5
+    ∷ pos 0 ∷ pos 3 ∷ pos 4 ∷ pos 0 ∷ pos 0 ∷ pos 0 ∷ shift ∷ []) false []
 
 abbrev pub follows : List (Worked (Result Bool Refusal))
 follows =

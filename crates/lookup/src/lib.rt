@@ -1,5 +1,6 @@
-// Which segment of a lent table has a frame, which presents a time, and whether one continues the one before it: as
-// methods of a table in any layout, and as calls on words. The table is checked first.
+// Which segment of a lent table has a frame, which presents a time, and whether one continues the
+// one before it: as methods of a table in any layout, and as calls on words. The table is checked
+// first. RULES 4.1 to 4.3, 4.5.
 #![tactic(auto)]
 
 ghost use Rattle.std.specs.Prelude.{◌≡◌, ◌+◌, ◌≤◌};
@@ -15,8 +16,8 @@ use rules::Segment;
 use table::layout::Segments;
 use table::{SegmentTable, Tabled};
 
-// The segment that has a frame, of a table that was checked; past the last frame, the last segment. Each begins where the one before it ends, so one word
-// says which have ended.
+// The segment that has a frame, of a table that was checked; past the last frame, the last segment.
+// Each begins where the one before it ends, so one word says which have ended.
 pub fn index_of_frame<S: Segments>(table: &SegmentTable<'_, S>, frame: u64) -> usize
     requires { Chained table.now }
     ensures { result ≡ ended (over_by frame) table.now.segments }
@@ -33,7 +34,7 @@ fn index_of_time<S: Segments>(table: &SegmentTable<'_, S>, time: i64) -> usize
     ensures { result ≡ ended (over_by_us time) table.now.segments }
 {
     halving::last_that(table.segment_count(), |k| {
-        table.segment(k).stamps.outstart <= time
+        table.segment(k).stamps.out_start <= time
     })
 }
 
@@ -44,16 +45,23 @@ fn same_shift(flag: u64, shift: i64, other: u64, second: i64) -> bool
     (flag == other) & ((flag == 0) | (shift == second))
 }
 
-// Whether segment e continues segment p.
-fn runs_on(p: Segment, e: Segment) -> bool
-    requires { p.words.first + p.words.count ≤ max_u64 }
-    ensures { result ≡ segment_runs_on p e }
+// Whether a segment continues the previous one.
+fn runs_on(previous: Segment, segment: Segment) -> bool
+    requires { previous.words.first + previous.words.count ≤ max_u64 }
+    ensures { result ≡ segment_runs_on previous segment }
 {
-    let shifts = same_shift(p.words.flag, p.stamps.shift, e.words.flag, e.stamps.shift);
-    ((p.words.source == e.words.source) & (p.words.first + p.words.count == e.words.first)) & shifts
+    let shifts = same_shift(
+        previous.words.flag,
+        previous.stamps.shift,
+        segment.words.flag,
+        segment.stamps.shift,
+    );
+    ((previous.words.source == segment.words.source)
+        & (previous.words.first + previous.words.count == segment.words.first))
+        & shifts
 }
 
-// What is looked up in a table. The Rust's segment_of_frame, segment_of_time_us and continues.
+// What is looked up in a table.
 pub trait Lookups: Tabled {
     // The segment that has a frame; past the last frame, the last segment.
     fn segment_of_frame(&self, frame: u64) -> Result<usize, Refusal>
@@ -63,9 +71,9 @@ pub trait Lookups: Tabled {
     fn segment_of_time_us(&self, time: i64) -> Result<usize, Refusal>
         ensures { result ≡ segment_of_time (Self.table self.now) time };
 
-    // Whether segment r continues the one before it in their source, as one run of it.
-    fn continues(&self, r: usize) -> Result<bool, Refusal>
-        ensures { result ≡ continues_at (Self.table self.now) r };
+    // Whether a segment continues the one before it in their source, as one run of it.
+    fn continues(&self, number: usize) -> Result<bool, Refusal>
+        ensures { result ≡ continues_at (Self.table self.now) number };
 }
 
 impl<S: Segments> Lookups for SegmentTable<'_, S> {
@@ -82,56 +90,59 @@ impl<S: Segments> Lookups for SegmentTable<'_, S> {
     }
 
     #[tactic(auto, using(crate::proofs::Found::chained, crate::proofs::Found::source_sum), unfolding(rules::specs::Lookups::continues_at))]
-    fn continues(&self, r: usize) -> Result<bool, Refusal> {
+    fn continues(&self, number: usize) -> Result<bool, Refusal> {
         self.check()?;
-        if r < 1 {
+        if number < 1 {
             return Ok(false);
         }
-        if r >= self.segment_count() {
+        if number >= self.segment_count() {
             return Ok(false);
         }
-        Ok(runs_on(self.segment(r - 1), self.segment(r)))
+        Ok(runs_on(self.segment(number - 1), self.segment(number)))
     }
 }
 
 // The same of a table that is lent as words.
 pub fn segment_of_frame(
     sources: &[u64],
-    u: &[u64],
-    t: &[i64],
+    words: &[u64],
+    stamps: &[i64],
     log: bool,
     text: &[u8],
     frame: u64,
 ) -> Result<usize, Refusal>
-    ensures { result ≡ segment_of_frame (table_of sources.now u.now t.now log text.now) frame }
+    ensures { result ≡
+        segment_of_frame (table_of sources.now words.now stamps.now log text.now) frame }
 {
-    SegmentTable::of_words(sources, u, t, log, text).segment_of_frame(frame)
+    SegmentTable::of_words(sources, words, stamps, log, text).segment_of_frame(frame)
 }
 
 pub fn segment_of_time_us(
     sources: &[u64],
-    u: &[u64],
-    t: &[i64],
+    words: &[u64],
+    stamps: &[i64],
     log: bool,
     text: &[u8],
     time: i64,
 ) -> Result<usize, Refusal>
-    ensures { result ≡ segment_of_time (table_of sources.now u.now t.now log text.now) time }
+    ensures { result ≡
+        segment_of_time (table_of sources.now words.now stamps.now log text.now) time }
 {
-    SegmentTable::of_words(sources, u, t, log, text).segment_of_time_us(time)
+    SegmentTable::of_words(sources, words, stamps, log, text).segment_of_time_us(time)
 }
 
 pub fn continues(
     sources: &[u64],
-    u: &[u64],
-    t: &[i64],
+    words: &[u64],
+    stamps: &[i64],
     log: bool,
     text: &[u8],
-    r: usize,
+    number: usize,
 ) -> Result<bool, Refusal>
-    ensures { result ≡ continues_at (table_of sources.now u.now t.now log text.now) r }
+    ensures { result ≡
+        continues_at (table_of sources.now words.now stamps.now log text.now) number }
 {
-    SegmentTable::of_words(sources, u, t, log, text).continues(r)
+    SegmentTable::of_words(sources, words, stamps, log, text).continues(number)
 }
 
 // The definitions give the numbers of specs/Examples.antt.

@@ -4,9 +4,8 @@ use mathlib.Core.Path.{◌≡◌, ◌∙◌, ap}
 use mathlib.Core.List.{List, map}
 use lib.ListN.{length}
 use lib.Dec.{ltb}
-use Rattle.std.specs.Prelude.{Result, Ok}
+use Rattle.std.specs.Prelude.{Result, Ok, if◌then◌else◌}
 use Rattle.std.specs.Result.{result_and}
-use Rattle.conditions.specs.Conditions.{when}
 use Rattle.refusal.specs.declared.Refusal.{Refusal}
 use Rattle.refusal.specs.declared.Reason.TheVariants as reason
 use Rattle.refusal.specs.Refusals.{refused}
@@ -22,10 +21,11 @@ indices-stripped frames t = λ i. map (λ k. over-stripped k t i) frames
 
 room-stripped : (n room : ℕ) (t : Table) → indices_refusal t n room ≡ indices_refusal (stripped t) n room
 unfolding indices_refusal
-room-stripped n room t = λ i. result_and (refusal-stripped t i) (when (ltb room n) (refused reason.NoRoom 0) (Ok tt))
+room-stripped n room t = λ i. result_and (refusal-stripped t i) (if ltb room n then refused reason.NoRoom 0 else Ok tt)
 
 -- what segments_of_frames may answer and leave of one of two tables that are stripped alike, it may of the other
-pub indices-alike : (a b : Table) → stripped a ≡ stripped b → (frames out out' : List ℕ) (r : Result ℕ Refusal) → Indexing a frames out r out' → Indexing b frames out r out'
+pub indices-alike : (a b : Table) → stripped a ≡ stripped b → (frames out out' : List ℕ) (r : Result ℕ Refusal)
+    → Indexing a frames out r out' → Indexing b frames out r out'
 indices-alike a b e frames out out' r p =
     let refusals = alike (λ t. indices_refusal t (length frames) (length out)) (room-stripped (length frames) (length out)) a b e in
     let indices = alike (λ t. indices_of t frames) (indices-stripped frames) a b e in

@@ -9,12 +9,11 @@ use lib.ListN.{length, get_or, drop, length-map, length-append, length-drop, get
 use lib.Seq.{drop_at}
 use lib.Dec.{ltb}
 use borrow.Author.Tests.{lt-ltb, le-ltb, ltb-false}
-use Rattle.std.specs.Prelude.{Result, Ok, Err}
-use Rattle.conditions.specs.Conditions.{when}
+use Rattle.std.specs.Prelude.{Result, Ok, Err, if◌then◌else◌}
 use Rattle.refusal.specs.declared.Refusal.{Refusal}
 use Rattle.refusal.specs.declared.Reason.TheVariants as reason
 use Rattle.refusal.specs.Refusals.{refused}
-use Rattle.refusal.proofs.Chains.{when-ok, and-ok, ok-of, err-of}
+use Rattle.refusal.proofs.Chains.{if-ok, and-ok, ok-of, err-of}
 use Rattle.slices.specs.Slices.{laid, after}
 use Rattle.rules.specs.Records.{Table}
 use Rattle.rules.specs.Rules.{refusal, check_of}
@@ -29,7 +28,8 @@ module _ (t : Table) (frames out : List ℕ) where
   unfolding indices_refusal
   refused-first e = check-first _ _ e
 
-  then-room : {N : ℕ} {b : Bool} → check_of t ≡ Ok N → ltb (length out) (length frames) ≡ b → indices_refusal t (length frames) (length out) ≡ when b (refused reason.NoRoom 0) (Ok tt)
+  then-room : {N : ℕ} {b : Bool} → check_of t ≡ Ok N → ltb (length out) (length frames) ≡ b
+      → indices_refusal t (length frames) (length out) ≡ (if b then refused reason.NoRoom 0 else Ok tt)
   unfolding indices_refusal
   then-room e h = then-rest _ _ e ∙ rw h
 
@@ -40,11 +40,11 @@ module _ (t : Table) (frames out : List ℕ) where
 
   module _ {N : ℕ} (e : check_of t ≡ Ok N) where
     pub list-short : length out < length frames → Indexing t frames out (refused reason.NoRoom 0) out
-    unfolding when
     list-short h = let q = then-room t frames out e (lt-ltb _ _ h) in record { answer = rw q; indices = rw q }
 
-    pub list_written : {out' : List ℕ} → length frames ≤ length out → out' ≡ laid (map (index_in t) frames) out → Indexing t frames out (Ok (length frames)) out'
-    unfolding when indices_of
+    pub list_written : {out' : List ℕ} → length frames ≤ length out → out' ≡ laid (map (index_in t) frames) out
+        → Indexing t frames out (Ok (length frames)) out'
+    unfolding indices_of
     list_written {out'} h w = let q = then-room t frames out e (le-ltb _ _ h) in record { answer = rw q; indices = rw q w }
 
 -- ---- what the promise says, of any table
@@ -55,11 +55,9 @@ module _ (t : Table) (frames out : List ℕ) where
     answer-refused e = p.answer ∙ rw (refused-first t frames out e)
 
     pub answer-short : {N : ℕ} → check_of t ≡ Ok N → length out < length frames → r ≡ refused reason.NoRoom 0
-    unfolding when
     answer-short e h = p.answer ∙ rw (then-room t frames out e (lt-ltb _ _ h))
 
     pub answer-all : {N : ℕ} → check_of t ≡ Ok N → length frames ≤ length out → r ≡ Ok (length frames)
-    unfolding when
     answer-all e h = p.answer ∙ rw (then-room t frames out e (le-ltb _ _ h))
 
   -- what was written
@@ -79,7 +77,7 @@ module _ (t : Table) (frames out : List ℕ) where
 
     accepted : (refusal t ≡ Ok tt) × (length frames ≤ length out)
     unfolding indices_refusal
-    accepted = let a = and-ok _ _ _ none in (a.0, ltb-false _ _ (when-ok _ _ _ _ a.1).0)
+    accepted = let a = and-ok _ _ _ none in (a.0, ltb-false _ _ (if-ok _ _ _ _ a.1).0)
 
     long-written : length out' ≡ length out
     long-written =

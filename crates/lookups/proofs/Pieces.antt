@@ -7,7 +7,6 @@ use mathlib.Core.Bool.{true, ◌&&◌}
 use lib.Dec.{leb, ltb}
 use lib.ListN.{length}
 use borrow.Author.Tests.{ne_eqb, le-leb, lt-leb, leb-true, ltb-true}
-use Rattle.conditions.specs.Conditions.{when}
 use Rattle.rows.specs.Halving.{LastThat}
 use Rattle.rules.specs.Lookups.{ended}
 use Rattle.rules.specs.Records.{Table, segment}
@@ -20,7 +19,6 @@ module _ (t : Table) (s : Chained t) where
   module _ (k : ℕ) (h : k < length t.segments) (frame : ℕ) (from : (segment t k).words.out ≤ frame) (before : frame < piece_end t k) where
     -- where another segment follows, it begins where the frames of this one end
     ends : k + 1 < length t.segments → frame < (segment t (k + 1)).words.out
-    unfolding when
     ends l = rw (ne_eqb (k + 1) (length t.segments) (λ e. omega arith)) at before
 
     index_is : index_in t frame ≡ k
@@ -38,7 +36,8 @@ module _ (t : Table) (s : Chained t) where
   index-known frame = omega (arith, s.some)
 
 -- a frame that a piece has
-pub hit : (t : Table) (p : Piece) (frame : ℕ) → Covers t p → leb p.from frame && ltb frame p.end ≡ true → p.index ≡ index_in t frame
+pub hit : (t : Table) (p : Piece) (frame : ℕ) → Covers t p → leb p.from frame && ltb frame p.end ≡ true
+    → p.index ≡ index_in t frame
 hit t p frame c e =
     let a = leb p.from frame in
     let b = ltb frame p.end in

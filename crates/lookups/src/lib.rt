@@ -1,8 +1,9 @@
-// The segments of a list of frames, of a table that is checked once. The list may have any order; a frame in the segment of the one before it,
-// or in the next one, need not be searched for.
+// The segments of a list of frames, of a table that is checked once (RULES 4.4). The list may have
+// any order; a frame in the segment of the one before it, or in the next one, need not be searched
+// for.
 #![tactic(auto)]
 
-ghost use Rattle.std.specs.Prelude.{◌≡◌, ◌&&◌, map, ◌≤◌, ◌<◌, leb, ltb, length};
+ghost use Rattle.std.specs.Prelude.{◌≡◌, ◌&&◌, map, ◌≤◌, ◌<◌, length, nat_lt, nat_le};
 ghost use Rattle.slices.specs.Slices.{laid};
 ghost use Rattle.table.specs.Layout.{table_of};
 ghost use Rattle.lookup.specs.Searchable.{Chained};
@@ -22,14 +23,14 @@ pub struct Piece {
 }
 
 // Where the frames of segment k end. All frames past the table go to the last segment.
-#[tactic(auto, unfolding(conditions::specs::Conditions::when))]
+#[tactic(auto)]
 fn piece_end<S: Segments>(table: &SegmentTable<'_, S>, k: usize) -> u64
     requires chained { Chained table.now }
     requires inside { k < length table.now.segments }
     ensures { result ≡ piece_end table.now k }
 {
-    let m = table.segment_count();
-    if k + 1 == m {
+    let count = table.segment_count();
+    if k + 1 == count {
         return u64::MAX;
     }
     table.segment(k + 1).words.out
@@ -49,20 +50,21 @@ fn piece_at<S: Segments>(table: &SegmentTable<'_, S>, k: usize) -> Piece
 }
 
 // Whether a frame is one of the piece's.
-fn has(p: Piece, frame: u64) -> bool
-    ensures { result ≡ (leb p.from frame && ltb frame p.end) }
+fn has(piece: Piece, frame: u64) -> bool
+    ensures { result ≡ (nat_le piece.from frame && nat_lt frame piece.end) }
 {
-    (p.from <= frame) & (frame < p.end)
+    (piece.from <= frame) & (frame < piece.end)
 }
 
-// A frame's segment, where the frame before it in the list lay in segment k and this one doesn't: mostly the next one.
+// A frame's segment, where the frame before it in the list lay in segment k and this one doesn't:
+// mostly the next one.
 fn piece_after<S: Segments>(table: &SegmentTable<'_, S>, frame: u64, k: usize) -> Piece
     requires chained { Chained table.now }
     requires inside { k < length table.now.segments }
     ensures { Covers table.now result × (result.index ≡ index_in table.now frame) }
 {
-    let m = table.segment_count();
-    if k + 1 < m {
+    let count = table.segment_count();
+    if k + 1 < count {
         let next = piece_at(table, k + 1);
         if has(next, frame) {
             return next;
@@ -71,16 +73,16 @@ fn piece_after<S: Segments>(table: &SegmentTable<'_, S>, frame: u64, k: usize) -
     piece_at(table, lookup::index_of_frame(table, frame))
 }
 
-// A frame's segment, where the frame before it lay in p: mostly that one again.
-fn piece_of<S: Segments>(table: &SegmentTable<'_, S>, frame: u64, p: Piece) -> Piece
+// A frame's segment, where the frame before it lay in `last`: mostly that one again.
+fn piece_of<S: Segments>(table: &SegmentTable<'_, S>, frame: u64, last: Piece) -> Piece
     requires chained { Chained table.now }
-    requires covers { Covers table.now p }
+    requires covers { Covers table.now last }
     ensures { Covers table.now result × (result.index ≡ index_in table.now frame) }
 {
-    if has(p, frame) {
-        return p;
+    if has(last, frame) {
+        return last;
     }
-    piece_after(table, frame, p.index)
+    piece_after(table, frame, last.index)
 }
 
 // The segment of each frame.
@@ -89,16 +91,17 @@ fn write_indices<S: Segments>(table: &SegmentTable<'_, S>, frames: &[u64], out: 
     requires room { length frames.now ≤ length out.old }
     ensures { out.new ≡ laid (map (index_in table.now) frames.now) out.old }
 {
-    let mut p = piece_at(table, 0);
+    let mut piece = piece_at(table, 0);
     for k in 0..frames.len() {
-        p = piece_of(table, frames[k], p);
-        out[k] = p.index as u64;
+        piece = piece_of(table, frames[k], piece);
+        out[k] = piece.index as u64;
     }
 }
 
 // What is looked up in a table for a list of frames.
 pub trait ListLookup: Tabled {
-    // The segment of each frame, into lent room: each index is what `segment_of_frame` answers. Answers how many there are.
+    // The segment of each frame, as `segment_of_frame` answers it, into lent room. Answers how
+    // many there are.
     fn segments_of_frames(&self, frames: &[u64], out: &mut [u64]) -> Result<usize, Refusal>
         ensures { Indexing (Self.table self.now) frames.now out.old result out.new };
 }
@@ -118,14 +121,15 @@ impl<S: Segments> ListLookup for SegmentTable<'_, S> {
 // The same of a table that is lent as words.
 pub fn segments_of_frames(
     sources: &[u64],
-    u: &[u64],
-    t: &[i64],
+    words: &[u64],
+    stamps: &[i64],
     log: bool,
     text: &[u8],
     frames: &[u64],
     out: &mut [u64],
 ) -> Result<usize, Refusal>
-    ensures { Indexing (table_of sources.now u.now t.now log text.now) frames.now out.old result out.new }
+    ensures { Indexing (table_of sources.now words.now stamps.now log text.now)
+        frames.now out.old result out.new }
 {
-    SegmentTable::of_words(sources, u, t, log, text).segments_of_frames(frames, out)
+    SegmentTable::of_words(sources, words, stamps, log, text).segments_of_frames(frames, out)
 }

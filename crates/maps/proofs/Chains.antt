@@ -5,11 +5,11 @@ use Rattle.std.proofs.lemmas.List.FromFn.{length-map-range_with_len}
 use borrow.Author.Tests.{lt-leb, not-false}
 use Rattle.std.specs.Prelude.{Ok}
 use Rattle.std.specs.Result.{result_and}
-use Rattle.conditions.specs.Conditions.{when, past, max_u64}
+use Rattle.conditions.specs.Conditions.{past, max_u64}
 use Rattle.conditions.proofs.Sums.{past-not, not-past}
 use Rattle.refusal.specs.declared.Reason.TheVariants as reason
 use Rattle.refusal.specs.Refusals.{refused}
-use Rattle.refusal.proofs.Chains.{when-ok, and-ok, ok-of}
+use Rattle.refusal.proofs.Chains.{if-ok, and-ok, ok-of}
 use Rattle.rows.specs.declared.Row.{Row}
 use Rattle.rows.specs.Rows.{total, ok_row, WellFrom, cut, join, merge}
 use Rattle.rows.proofs.Demanded.{demanded}
@@ -21,17 +21,17 @@ use Rattle.maps.specs.Spans.{Sound}
 first-well : (m : List Row) (p i : ℕ) → first_bad p i m ≡ Ok tt → WellFrom p m
 unfolding first_bad
 first-well [] p i e = tt
-first-well (r ∷ m) p i e = let o = when-ok _ _ _ tt e in (not-false (ok_row p r) o.0, first-well m (p + r.count) (suc i) o.1)
+first-well (r ∷ m) p i e = let o = if-ok _ _ _ tt e in (not-false (ok_row p r) o.0, first-well m (p + r.count) (suc i) o.1)
 
 well-first : (m : List Row) (p i : ℕ) → WellFrom p m → first_bad p i m ≡ Ok tt
-unfolding first_bad when
+unfolding first_bad
 well-first [] p i w = refl
 well-first (r ∷ m) p i w = rw w.0 (well-first m (p + r.count) (suc i) w.1)
 
 pub sound : (u : List ℕ) (s : List ℤ) → map_refusal u s ≡ Ok tt → Sound u s
 unfolding map_refusal
 sound u s e =
-    let o = when-ok _ _ _ tt e in
+    let o = if-ok _ _ _ tt e in
     let z = not-false (sized (length u) (length s)) o.0 in
     record {
       some = ltb-true 0 (length s) (and_parts (ltb 0 (length s)) (eqb (length u) (5 * length s)) z).0;
@@ -45,7 +45,7 @@ pub accepted-frames : (u : List ℕ) (s : List ℤ) {d : ℕ} → Ok d ≡ resul
 accepted-frames u s {d} e = let o = ok-of (map_refusal u s) (total (rows u s)) d (sym e) in (sound u s o.0, o.0, o.1)
 
 pub sound-map : (u : List ℕ) (s : List ℤ) → Sound u s → map_refusal u s ≡ Ok tt
-unfolding map_refusal when
+unfolding map_refusal
 sound-map u s o =
     let z : sized (length u) (length s) ≡ true = rw (lt-ltb 0 (length s) o.some) (eq-eqb (length u) (5 * length s) o.sizes) in
     rw z (well-first (rows u s) 0 0 o.well)
@@ -76,24 +76,25 @@ too_many k nu ns h = rw (lt-leb k most_rows h)
 
 pub room-unrefused : (k nu ns : ℕ) → room_refusal k nu ns ≡ Ok tt → Fits k nu ns
 unfolding room_refusal
-room-unrefused k nu ns e = fits-facts k nu ns (not-false (fits k nu ns) (when-ok _ _ _ tt e).0)
+room-unrefused k nu ns e = fits-facts k nu ns (not-false (fits k nu ns) (if-ok _ _ _ tt e).0)
 
 pub room-on : (k nu ns : ℕ) → fits k nu ns ≡ false → room_refusal k nu ns ≡ refused reason.RowsDontFit 0
-unfolding room_refusal when
+unfolding room_refusal
 room-on k nu ns e = rw e
 
 pub room-off : (k nu ns : ℕ) → fits k nu ns ≡ true → room_refusal k nu ns ≡ Ok tt
-unfolding room_refusal when
+unfolding room_refusal
 room-off k nu ns e = rw e
 
 -- the chain of a cut
 module _ (u : List ℕ) (s : List ℤ) (a b nu ns : ℕ) (e : map_refusal u s ≡ Ok tt) (few : length s ≤ most_rows) where
   pub cut-empty : b ≤ a → cut_refusal u s a b nu ns ≡ refused reason.BadRange 0
-  unfolding cut_refusal when
+  unfolding cut_refusal
   cut-empty h = rw (e, le-ltb most_rows (length s) few, le-leb b a h)
 
-  pub cut-room : a < b → b ≤ total (rows u s) → cut_refusal u s a b nu ns ≡ room_refusal (length (cut a b (rows u s))) nu ns
-  unfolding cut_refusal when
+  pub cut-room : a < b → b ≤ total (rows u s)
+      → cut_refusal u s a b nu ns ≡ room_refusal (length (cut a b (rows u s))) nu ns
+  unfolding cut_refusal
   cut-room h l = rw (e, le-ltb most_rows (length s) few, lt-leb b a h, le-ltb (total (rows u s)) b l)
 
 -- a cut that isn't refused
@@ -104,13 +105,14 @@ pub record Cuttable (u : List ℕ) (s : List ℤ) (a b nu ns : ℕ) : Type 0 whe
   pub inside : b ≤ total (rows u s)
   pub room : Fits (length (cut a b (rows u s))) nu ns
 
-pub cut-unrefused : (u : List ℕ) (s : List ℤ) (a b nu ns : ℕ) → cut_refusal u s a b nu ns ≡ Ok tt → Cuttable u s a b nu ns
+pub cut-unrefused : (u : List ℕ) (s : List ℤ) (a b nu ns : ℕ) → cut_refusal u s a b nu ns ≡ Ok tt
+    → Cuttable u s a b nu ns
 unfolding cut_refusal
 cut-unrefused u s a b nu ns e =
     let e₀ = and-ok _ _ tt e in
-    let e₁ = when-ok _ _ _ tt e₀.1 in
-    let e₂ = when-ok _ _ _ tt e₁.1 in
-    let e₃ = when-ok _ _ _ tt e₂.1 in
+    let e₁ = if-ok _ _ _ tt e₀.1 in
+    let e₂ = if-ok _ _ _ tt e₁.1 in
+    let e₃ = if-ok _ _ _ tt e₂.1 in
     record {
       sound = sound u s e₀.0;
       few = ltb-false most_rows (length s) e₁.0;
@@ -119,7 +121,8 @@ cut-unrefused u s a b nu ns e =
       room = room-unrefused (length (cut a b (rows u s))) nu ns e₃.1;
     }
 
-pub cut-accepted : (u : List ℕ) (s : List ℤ) (a b nu ns : ℕ) → Cuttable u s a b nu ns → cut_refusal u s a b nu ns ≡ Ok tt
+pub cut-accepted : (u : List ℕ) (s : List ℤ) (a b nu ns : ℕ) → Cuttable u s a b nu ns
+    → cut_refusal u s a b nu ns ≡ Ok tt
 cut-accepted u s a b nu ns o =
     cut-room u s a b nu ns (sound-map u s o.sound) o.few o.some o.inside
     ∙ room-off (length (cut a b (rows u s))) nu ns (facts-fit (length (cut a b (rows u s))) nu ns o.room)
@@ -127,14 +130,14 @@ cut-accepted u s a b nu ns o =
 -- the chain of a merge
 module _ (u : List ℕ) (s : List ℤ) (nu ns : ℕ) (e : map_refusal u s ≡ Ok tt) (few : length s ≤ most_rows) where
   pub merge-room : merge_refusal u s nu ns ≡ room_refusal (length (merge (rows u s))) nu ns
-  unfolding merge_refusal when
+  unfolding merge_refusal
   merge-room = rw (e, le-ltb most_rows (length s) few)
 
   -- room for all of the map's rows is room for the merged ones
   pub merge-roomy : fits (length s) nu ns ≡ true → merge_refusal u s nu ns ≡ Ok tt
   merge-roomy h =
       let f = fits-facts (length s) nu ns h in
-      let l = demanded.merge-rows (rows u s) in
+      let l = demanded.merge_rows (rows u s) in
       let n = length-map-range_with_len (row_at u s) 0 (length s) in
       let k = length (merge (rows u s)) in
       merge-room ∙ room-off k nu ns (facts-fit k nu ns (record { few = omega (arith, f.few); words = omega (arith, f.words); shifts = omega (arith, f.shifts) }))
@@ -148,7 +151,7 @@ pub merge-unrefused : (u : List ℕ) (s : List ℤ) (nu ns : ℕ) → merge_refu
 unfolding merge_refusal
 merge-unrefused u s nu ns e =
     let e₀ = and-ok _ _ tt e in
-    let e₁ = when-ok _ _ _ tt e₀.1 in
+    let e₁ = if-ok _ _ _ tt e₀.1 in
     record { sound = sound u s e₀.0; few = ltb-false most_rows (length s) e₁.0; room = room-unrefused (length (merge (rows u s))) nu ns e₁.1 }
 
 pub merge-accepted : (u : List ℕ) (s : List ℤ) (nu ns : ℕ) → Mergeable u s nu ns → merge_refusal u s nu ns ≡ Ok tt
@@ -157,9 +160,10 @@ merge-accepted u s nu ns o =
 
 -- the chain of a join
 module _ (u : List ℕ) (s : List ℤ) (v : List ℕ) (t : List ℤ) (nu ns : ℕ) where
-  pub join-room : map_refusal u s ≡ Ok tt → map_refusal v t ≡ Ok tt → length s ≤ most_rows → length t ≤ most_rows → past (total (rows u s)) (total (rows v t)) max_u64 ≡ false
+  pub join-room : map_refusal u s ≡ Ok tt → map_refusal v t ≡ Ok tt → length s ≤ most_rows → length t ≤ most_rows
+      → past (total (rows u s)) (total (rows v t)) max_u64 ≡ false
       → join_refusal u s v t nu ns ≡ room_refusal (length (join (rows u s) (rows v t))) nu ns
-  unfolding join_refusal when
+  unfolding join_refusal
   join-room e f few few-second h = rw (e, f, le-ltb most_rows (length s) few, le-ltb most_rows (length t) few-second, h)
 
 pub record Joinable (u : List ℕ) (s : List ℤ) (v : List ℕ) (t : List ℤ) (nu ns : ℕ) : Type 0 where
@@ -170,14 +174,15 @@ pub record Joinable (u : List ℕ) (s : List ℤ) (v : List ℕ) (t : List ℤ) 
   pub short : total (rows u s) + total (rows v t) ≤ max_u64
   pub room : Fits (length (join (rows u s) (rows v t))) nu ns
 
-pub join-unrefused : (u : List ℕ) (s : List ℤ) (v : List ℕ) (t : List ℤ) (nu ns : ℕ) → join_refusal u s v t nu ns ≡ Ok tt → Joinable u s v t nu ns
+pub join-unrefused : (u : List ℕ) (s : List ℤ) (v : List ℕ) (t : List ℤ) (nu ns : ℕ)
+    → join_refusal u s v t nu ns ≡ Ok tt → Joinable u s v t nu ns
 unfolding join_refusal
 join-unrefused u s v t nu ns e =
     let e₀ = and-ok _ _ tt e in
     let e₁ = and-ok _ _ tt e₀.1 in
-    let e₂ = when-ok _ _ _ tt e₁.1 in
-    let e₃ = when-ok _ _ _ tt e₂.1 in
-    let e₄ = when-ok _ _ _ tt e₃.1 in
+    let e₂ = if-ok _ _ _ tt e₁.1 in
+    let e₃ = if-ok _ _ _ tt e₂.1 in
+    let e₄ = if-ok _ _ _ tt e₃.1 in
     record {
       first = sound u s e₀.0;
       second = sound v t e₁.0;
@@ -187,7 +192,8 @@ join-unrefused u s v t nu ns e =
       room = room-unrefused (length (join (rows u s) (rows v t))) nu ns e₄.1;
     }
 
-pub join-accepted : (u : List ℕ) (s : List ℤ) (v : List ℕ) (t : List ℤ) (nu ns : ℕ) → Joinable u s v t nu ns → join_refusal u s v t nu ns ≡ Ok tt
+pub join-accepted : (u : List ℕ) (s : List ℤ) (v : List ℕ) (t : List ℤ) (nu ns : ℕ) → Joinable u s v t nu ns
+    → join_refusal u s v t nu ns ≡ Ok tt
 join-accepted u s v t nu ns o =
     join-room u s v t nu ns (sound-map u s o.first) (sound-map v t o.second) o.few o.few-second (not-past (total (rows u s)) (total (rows v t)) max_u64 o.short)
     ∙ room-off (length (join (rows u s) (rows v t))) nu ns (facts-fit (length (join (rows u s) (rows v t))) nu ns o.room)
@@ -195,9 +201,9 @@ join-accepted u s v t nu ns o =
 -- the chain of an origin
 module _ (u : List ℕ) (s : List ℤ) (k : ℕ) (e : map_refusal u s ≡ Ok tt) (few : length s ≤ most_rows) where
   pub origin-beyond : total (rows u s) ≤ k → origin_refusal u s k ≡ refused reason.PastMap 0
-  unfolding origin_refusal when
+  unfolding origin_refusal
   origin-beyond h = rw (e, le-ltb most_rows (length s) few, le-leb (total (rows u s)) k h)
 
   pub origin-accepted : k < total (rows u s) → origin_refusal u s k ≡ Ok tt
-  unfolding origin_refusal when
+  unfolding origin_refusal
   origin-accepted h = rw (e, le-ltb most_rows (length s) few, lt-leb (total (rows u s)) k h)

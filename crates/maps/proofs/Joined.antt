@@ -1,4 +1,5 @@
--- Joining: the first map's rows are laid over what is lent, and then the second's, moved, over what lies after them. Assumes nothing.
+-- Joining: the first map's rows are laid over what is lent, and then the second's, moved, over what lies after them.
+-- Assumes nothing.
 use Rattle.std.proofs.Common.{◌≡◌, ℕ, ◌+◌, ◌-◌, ◌*◌, ◌≤◌, List, [], ◌∷◌, ◌++◌, map, length, get_or, take, drop, ℤ, pos, sym, refl, ap, ◌∙◌, arith, length-append}
 use Rattle.std.proofs.lemmas.List.FromFn.{length-map-range_with_len}
 use Rattle.slices.proofs.Ranges.{run}
@@ -42,7 +43,8 @@ shifts-moved d (r ∷ m) = ap (λ (l : List ℤ). r.shift ∷ l) (shifts-moved d
 pub length-rows : (u : List ℕ) (s : List ℤ) → length (rows u s) ≡ length s
 length-rows u s = length-map-range_with_len (row_at u s) 0 (length s)
 
-pub length-join : (u : List ℕ) (s : List ℤ) (v : List ℕ) (t : List ℤ) → length (join (rows u s) (rows v t)) ≡ length s + length t
+pub length-join : (u : List ℕ) (s : List ℤ) (v : List ℕ) (t : List ℤ)
+    → length (join (rows u s) (rows v t)) ≡ length s + length t
 length-join u s v t =
     let e = length-append (rows u s) (map (moved (total (rows u s))) (rows v t)) in
     omega (arith, length-map (rows v t) (moved (total (rows u s))), length-rows u s, length-rows v t)
@@ -79,7 +81,8 @@ module _ (u : List ℕ) (s : List ℤ) (v : List ℕ) (t : List ℤ) (ou : List 
       second-n : length (map (moved (total (rows u s))) (rows v t)) ≡ length t
       second-n = length-map (rows v t) (moved (total (rows u s))) ∙ length-rows v t
 
-      pub join-words : (l₂ : List ℕ) → l₂ ≡ laid (words_of (later v t d)) (take (length l₁ - 5 * length s) (drop (5 * length s) l₁))
+      pub join-words : (l₂ : List ℕ)
+          → l₂ ≡ laid (words_of (later v t d)) (take (length l₁ - 5 * length s) (drop (5 * length s) l₁))
           → take (5 * length s) l₁ ++ (l₂ ++ drop (length l₁ - 5 * length s) (drop (5 * length s) l₁)) ≡ laid (words_of (join (rows u s) (rows v t))) ou
       join-words l₂ g =
           let q = map (moved (total (rows u s))) (rows v t) in

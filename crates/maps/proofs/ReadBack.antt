@@ -1,4 +1,5 @@
--- Rows that are written read back as they are, and what an accepted call wrote is a map that can be lent. Assumes nothing.
+-- Rows that are written read back as they are, and what an accepted call wrote is a map that can be lent. Assumes
+-- nothing.
 use Rattle.std.proofs.Common.{◌≡◌, ℕ, ◌*◌, ◌<◌, ◌≤◌, List, [], ◌∷◌, ◌++◌, length, take, drop, ℤ, sym, ap, ◌∙◌, ap₂, arith, take_at, drop_at}
 use Rattle.std.specs.Prelude.{Result, Ok, Err}
 use Rattle.refusal.specs.declared.Refusal.{Refusal}
@@ -38,8 +39,8 @@ module _ {x : Result (Unit {0}) Refusal} {m : List Row} {ou : List ℕ} {os : Li
   pub shifts-are : take k os' ≡ shifts_of m
   shifts-are = ap (take k) the-shifts ∙ take_at (shifts_of m) (drop (length (shifts_of m)) os) k shifts-n
 
-  pub read_back : rows (take (5 * k) ou') (take k os') ≡ m
-  read_back = ap₂ rows words_are shifts-are ∙ rows-flat m
+  pub read-back : rows (take (5 * k) ou') (take k os') ≡ m
+  read-back = ap₂ rows words_are shifts-are ∙ rows-flat m
 
   pub past_words : drop (5 * k) ou' ≡ drop (5 * k) ou
   past_words = ap (drop (5 * k)) the-words ∙ drop_at (words_of m) (drop (length (words_of m)) ou) (5 * k) words-n ∙ ap (λ (n : ℕ). drop n ou) words-n
@@ -52,11 +53,12 @@ module _ {x : Result (Unit {0}) Refusal} {m : List Row} {ou : List ℕ} {os : Li
       let nu = ap length words_are ∙ length-words m in
       let ns = ap length shifts-are ∙ length-shifts m in
       record {
-        lent = record { some = omega arith; sizes = omega arith; well = rw read_back well; few = omega arith };
-        is = read_back;
+        lent = record { some = omega arith; sizes = omega arith; well = rw read-back well; few = omega arith };
+        is = read-back;
       }
 
-pub as_lent : {x : Result (Unit {0}) Refusal} {m : List Row} {ou : List ℕ} {os : List ℤ} (r : Result ℕ Refusal) {ou' : List ℕ} {os' : List ℤ} → Placed x m ou os r ou' os' → AsLent r ou os ou' os'
+pub as_lent : {x : Result (Unit {0}) Refusal} {m : List Row} {ou : List ℕ} {os : List ℤ} (r : Result ℕ Refusal) {ou' : List ℕ} {os' : List ℤ}
+    → Placed x m ou os r ou' os' → AsLent r ou os ou' os'
 as_lent (Ok k) p = (past_words p, past-shifts p)
 as_lent {x} {m} (Err e) p = let f = err-of x (length m) e (sym p.answer) in (rw f at p.words, rw f at p.shifts)
 

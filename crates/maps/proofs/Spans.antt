@@ -1,4 +1,5 @@
--- Runs of rows: where each row of a sound map lies, the row that holds a frame, and the rows that a cut takes. Assumes nothing.
+-- Runs of rows: where each row of a sound map lies, the row that holds a frame, and the rows that a cut takes. Assumes
+-- nothing.
 use Rattle.std.proofs.Common.{◌≡◌, ℕ, zero, suc, ◌+◌, ◌-◌, ◌<◌, ◌≤◌, min, max, true, false, List, [], ◌∷◌, ◌++◌, length, get_or, ℤ, sym, refl, ap, ◌∙◌, subst, ⊎_elim, append-nil, le_of_suc-le-suc, not-suc-le-zero, add-zero, arith, ltb-true, le-ltb, lt-ltb}
 use Rattle.std.proofs.lemmas.List.FromFn.{length-map-range_with_len, get_or-map-range_with_len, map-range_with_len_more}
 use Rattle.slices.proofs.Ranges.{run}
@@ -78,7 +79,8 @@ module _ (f : ℕ → Row) where
     cut-none-run zero i h = refl
     cut-none-run (suc n) i h = rw (h i (omega arith) (omega arith)) (cut-none-run n (i + 1) (λ j l u. h j (omega arith) (omega arith)))
 
-    cut-all-run : (n i x : ℕ) → ((j : ℕ) → x ≤ j → j < x + n → overlaps a b (f (i + j)) ≡ true) → cut a b (run f (i + x) n) ≡ run (λ j. clip a b (f (i + j))) x n
+    cut-all-run : (n i x : ℕ) → ((j : ℕ) → x ≤ j → j < x + n → overlaps a b (f (i + j)) ≡ true)
+        → cut a b (run f (i + x) n) ≡ run (λ j. clip a b (f (i + j))) x n
     cut-all-run zero i x h = refl
     cut-all-run (suc n) i x h =
         let e : i + x + 1 ≡ i + (x + 1) = omega arith in
@@ -89,7 +91,8 @@ cut-append : (x y : List Row) (a b : ℕ) → cut a b (x ++ y) ≡ cut a b x ++ 
 cut-append [] y a b = refl
 cut-append (r ∷ x) y a b = go (test (overlaps a b r)) (cut-append x y a b)
   where
-    go : Test (overlaps a b r) → cut a b (x ++ y) ≡ cut a b x ++ cut a b y → cut a b (r ∷ x ++ y) ≡ cut a b (r ∷ x) ++ cut a b y
+    go : Test (overlaps a b r) → cut a b (x ++ y) ≡ cut a b x ++ cut a b y
+        → cut a b (r ∷ x ++ y) ≡ cut a b (r ∷ x) ++ cut a b y
     go (was e) ih = rw (e, ih)
     go (wasnt e) ih = rw (e, ih)
 
@@ -146,7 +149,8 @@ module _ {u : List ℕ} {s : List ℤ} (m : Sound u s) where
         let z : row_end (row_at u s k) ≤ a = omega (arith, p.begins, q.ends, start-rises (row_at u s) (suc k) i (omega arith), x.low) in
         le-ltb (max a (row_at u s k).out) (min b (row_end (row_at u s k))) (omega arith)
 
-    after_none : (k : ℕ) → i + (j - i + 1) ≤ k → k < i + (j - i + 1) + (length s - (i + (j - i + 1))) → overlaps a b (row_at u s k) ≡ false
+    after_none : (k : ℕ) → i + (j - i + 1) ≤ k → k < i + (j - i + 1) + (length s - (i + (j - i + 1)))
+        → overlaps a b (row_at u s k) ≡ false
     after_none k l t =
         let r = holders-rise in
         let p = row_lies j y.within in
@@ -190,7 +194,8 @@ pub span-length : {u : List ℕ} {s : List ℤ} {a b i k : ℕ} → Span u s a b
 span-length {u} {s} {a} {b} {i} {k} x = ap length x.is ∙ length-map-range_with_len (λ j. clip a b (row_at u s (i + j))) 0 k
 
 -- what a cut asks of each row that it takes
-pub span-clips : {u : List ℕ} {s : List ℤ} {a b i k : ℕ} → Sound u s → Span u s a b i k → (w : ℕ) → w < k → (r : Row) → r ≡ row_at u s (i + w)
+pub span-clips : {u : List ℕ} {s : List ℤ} {a b i k : ℕ} → Sound u s → Span u s a b i k → (w : ℕ) → w < k → (r : Row)
+    → r ≡ row_at u s (i + w)
     → (max a r.out < min b (row_end r)) × (row_end r ≤ max_u64) × (r.first + r.count ≤ max_u64)
 span-clips {u} {s} {a} {b} {i} m x w h r e =
     let l : i + w < length s = omega (arith, x.within) in
@@ -210,7 +215,8 @@ module _ {u : List ℕ} {s : List ℤ} (m : Sound u s) where
   row_is : (j : ℕ) → j < length s → get_or (rows u s) j no_row ≡ row_at u s j
   row_is j h = let z : 0 + j ≡ j = omega arith in get_or-map-range_with_len (row_at u s) 0 (length s) j _ no_row h refl ∙ ap (row_at u s) z
 
-  holds_row : (k j : ℕ) → j < length s → (row_at u s j).out ≤ k → k < row_end (row_at u s j) → holds (get_or (rows u s) j no_row) k ≡ true
+  holds_row : (k j : ℕ) → j < length s → (row_at u s j).out ≤ k → k < row_end (row_at u s j)
+      → holds (get_or (rows u s) j no_row) k ≡ true
   holds_row k j h l t = ap (λ (r : Row). holds r k) (row_is j h) ∙ holds-in (row_at u s j) k l t
 
   -- the row that was found gives the frame's origin
@@ -218,7 +224,7 @@ module _ {u : List ℕ} {s : List ℤ} (m : Sound u s) where
   origin-held k i x =
       let l = row_lies m i x.within in
       let n = length-map-range_with_len (row_at u s) 0 (length s) in
-      let o = demanded.one-row (rows u s) k m.well (omega (arith, l.ends, start-rises (row_at u s) (suc i) (length s) (omega (arith, x.within)), x.high)) in
+      let o = demanded.one_row (rows u s) k m.well (omega (arith, l.ends, start-rises (row_at u s) (suc i) (length s) (omega (arith, x.within)), x.high)) in
       let same : i ≡ o.index = o.only i (omega (arith, x.within)) (holds_row k i x.within x.low x.high) in
       o.gives ∙ ap (λ (j : ℕ). Some (origin_in (get_or (rows u s) j no_row) k)) (sym same) ∙ ap (λ (r : Row). Some (origin_in r k)) (row_is i x.within)
 
@@ -226,7 +232,7 @@ module _ {u : List ℕ} {s : List ℤ} (m : Sound u s) where
   pub row-holder : (k : ℕ) → k < total (rows u s) → OneHolder u s k
   row-holder k h =
       let n = length-map-range_with_len (row_at u s) 0 (length s) in
-      let o = demanded.one-row (rows u s) k m.well h in
+      let o = demanded.one_row (rows u s) k m.well h in
       let w : o.index < length s = omega (arith, o.within) in
       let e = ap (λ (r : Row). holds r k) (sym (row_is o.index w)) ∙ o.here in
       record {
@@ -243,8 +249,10 @@ module _ {u : List ℕ} {s : List ℤ} (m : Sound u s) {k i : ℕ} (x : Holder u
   pub held_fits : r.first + (k - r.out) ≤ max_u64
   held_fits = let h : k < row_end r = rw e x.high in omega (arith, held_low, row-source m i r e x.within)
 
-  pub held-traced : {o : Origin} → origin_refusal u s k ≡ Ok tt → o ≡ origin_in r k → Ok o ≡ result_and (origin_refusal u s k) (traced_as (origin (rows u s) k))
+  pub held-traced : {o : Origin} → origin_refusal u s k ≡ Ok tt → o ≡ origin_in r k
+      → Ok o ≡ result_and (origin_refusal u s k) (traced_as (origin (rows u s) k))
   held-traced a f = rw (a, origin-held m k i x, f, e)
 
-pub taken-room : {u : List ℕ} {s : List ℤ} {a b i k : ℕ} {ou : List ℕ} {os : List ℤ} → Cuttable u s a b (length ou) (length os) → Span u s a b i k → Room k ou os
+pub taken-room : {u : List ℕ} {s : List ℤ} {a b i k : ℕ} {ou : List ℕ} {os : List ℤ}
+    → Cuttable u s a b (length ou) (length os) → Span u s a b i k → Room k ou os
 taken-room o x = let e = span-length x in record { words = omega (arith, o.room.words); shifts = omega (arith, o.room.shifts) }

@@ -5,7 +5,7 @@ use Rattle.slices.proofs.Ranges.{run, run-cons, run-nil}
 use lib.Seq.{sets}
 use Rattle.std.specs.Prelude.{Result, Ok}
 use Rattle.std.specs.Result.{result_and}
-use Rattle.conditions.specs.Conditions.{when, max_u64}
+use Rattle.conditions.specs.Conditions.{max_u64}
 use Rattle.refusal.specs.declared.Refusal.{Refusal}
 use Rattle.refusal.specs.declared.Reason.TheVariants as reason
 use Rattle.refusal.specs.Refusals.{refused}
@@ -15,7 +15,7 @@ use Rattle.rows.specs.declared.Row.{Row}
 use Rattle.rows.specs.Rows.{total, ok_row, runs_on, glue, merge_into, merge}
 use Rattle.rows.proofs.Merging.{runs_on-true}
 use Rattle.rows.proofs.Well.{ok-facts}
-use Rattle.rows.specs.Lent.{row_at, rows, words, words_of, shifts_of}
+use Rattle.rows.specs.Lent.{row_at, rows, row_words, words_of, shifts_of}
 use Rattle.rows.proofs.Flat.{words_append, shifts-append, length-words, length-shifts}
 use Rattle.maps.specs.Answers.{first_bad}
 use Rattle.maps.specs.Spans.{Room}
@@ -28,15 +28,16 @@ read f i n r e h = run-cons f i n h ∙ ap (λ (x : Row). x ∷ run f (i + 1) (n
 -- judging
 module _ (f : ℕ → Row) (p i n : ℕ) where
   module _ (r : Row) (e : r ≡ f i) (h : i < n) where
-    pub judge-bad : {A : Type 0} (t : Result A Refusal) → ok_row p r ≡ false → result_and (first_bad p i (run f i (n - i))) t ≡ refused reason.BadRows i
-    unfolding first_bad when
+    pub judge-bad : {A : Type 0} (t : Result A Refusal) → ok_row p r ≡ false
+        → result_and (first_bad p i (run f i (n - i))) t ≡ refused reason.BadRows i
+    unfolding first_bad
     judge-bad t b = rw (read f i n r e h, b)
 
     -- the next frame is told by a sum that might have wrapped
     pub judge-ok : ok_row p r ≡ true
         → result_and (first_bad p i (run f i (n - i))) (Ok (p + total (run f i (n - i))))
         ≡ result_and (first_bad ((p + r.count) % 2 ^ 64) (i + 1) (run f (i + 1) (n - (i + 1)))) (Ok ((p + r.count) % 2 ^ 64 + total (run f (i + 1) (n - (i + 1)))))
-    unfolding first_bad when
+    unfolding first_bad
     judge-ok b =
         let o = ok-facts p r b in
         let w : (p + r.count) % 2 ^ 64 ≡ p + r.count = omega (arith, o.out, o.last) in
@@ -52,16 +53,18 @@ pub ruleset judged = (judge-bad, judge-ok, judge-end)
 
 -- row x is laid after w others
 module _ (m : List Row) (x : Row) (w : ℕ) (long : length m ≡ w) where
-  words-put : (ou₀ ou : List ℕ) → ou ≡ laid (words_of m) ou₀ → 5 * w + 5 ≤ length ou₀ → sets ou (5 * w) (words x) ≡ laid (words_of (m ++ x ∷ [])) ou₀
+  words-put : (ou₀ ou : List ℕ) → ou ≡ laid (words_of m) ou₀ → 5 * w + 5 ≤ length ou₀
+      → sets ou (5 * w) (row_words x) ≡ laid (words_of (m ++ x ∷ [])) ou₀
   words-put ou₀ ou e h =
       let n = length-words m in
       let k : 5 * w ≡ length (words_of m) = omega (arith, long) in
-      ap (λ (l : List ℕ). sets l (5 * w) (words x)) e
-      ∙ ap (λ (j : ℕ). sets (laid (words_of m) ou₀) j (words x)) k
-      ∙ sets-laid (words x) (words_of m) ou₀ (omega arith)
+      ap (λ (l : List ℕ). sets l (5 * w) (row_words x)) e
+      ∙ ap (λ (j : ℕ). sets (laid (words_of m) ou₀) j (row_words x)) k
+      ∙ sets-laid (row_words x) (words_of m) ou₀ (omega arith)
       ∙ ap (λ (l : List ℕ). laid l ou₀) (sym (words_append m (x ∷ [])))
 
-  shifts-put : (os₀ os : List ℤ) → os ≡ laid (shifts_of m) os₀ → w < length os₀ → set os w x.shift ≡ laid (shifts_of (m ++ x ∷ [])) os₀
+  shifts-put : (os₀ os : List ℤ) → os ≡ laid (shifts_of m) os₀ → w < length os₀
+      → set os w x.shift ≡ laid (shifts_of (m ++ x ∷ [])) os₀
   shifts-put os₀ os e h =
       let n = length-shifts m in
       let k : w ≡ length (shifts_of m) = omega (arith, long) in
@@ -75,11 +78,13 @@ module _ (f : ℕ → Row) (i : ℕ) (x : Row) (e : x ≡ f i) where
   more : run f 0 i ++ x ∷ [] ≡ run f 0 (i + 1)
   more = ap (λ (y : Row). run f 0 i ++ y ∷ []) e ∙ sym (map-range_with_len_more f 0 i i (zero-add i))
 
-  pub words-step : (ou₀ ou ou' : List ℕ) → ou ≡ laid (words_of (run f 0 i)) ou₀ → ou' ≡ sets ou (5 * i) (words x) → 5 * i + 5 ≤ length ou₀ → ou' ≡ laid (words_of (run f 0 (i + 1))) ou₀
+  pub words-step : (ou₀ ou ou' : List ℕ) → ou ≡ laid (words_of (run f 0 i)) ou₀ → ou' ≡ sets ou (5 * i) (row_words x)
+      → 5 * i + 5 ≤ length ou₀ → ou' ≡ laid (words_of (run f 0 (i + 1))) ou₀
   words-step ou₀ ou ou' d p h =
       p ∙ words-put (run f 0 i) x i (length-map-range_with_len f 0 i) ou₀ ou d h ∙ ap (λ (l : List Row). laid (words_of l) ou₀) more
 
-  pub shifts-step : (os₀ os os' : List ℤ) → os ≡ laid (shifts_of (run f 0 i)) os₀ → os' ≡ set os i x.shift → i < length os₀ → os' ≡ laid (shifts_of (run f 0 (i + 1))) os₀
+  pub shifts-step : (os₀ os os' : List ℤ) → os ≡ laid (shifts_of (run f 0 i)) os₀ → os' ≡ set os i x.shift
+      → i < length os₀ → os' ≡ laid (shifts_of (run f 0 (i + 1))) os₀
   shifts-step os₀ os os' d p h =
       p ∙ shifts-put (run f 0 i) x i (length-map-range_with_len f 0 i) os₀ os d h ∙ ap (λ (l : List Row). laid (shifts_of l) os₀) more
 
@@ -112,7 +117,8 @@ module _ {C rest : List Row} {ou₀ : List ℕ} {os₀ : List ℤ} {ou : List �
       let e = length-shifts d.done in
       ap length d.shifts ∙ length-laid (shifts_of d.done) os₀ (omega (arith, rows_all, room.shifts, d.count))
 
-pub written_all : {C rest : List Row} {ou₀ : List ℕ} {os₀ : List ℤ} {ou : List ℕ} {os : List ℤ} {w : ℕ} → Written C rest ou₀ os₀ ou os w → rest ≡ []
+pub written_all : {C rest : List Row} {ou₀ : List ℕ} {os₀ : List ℤ} {ou : List ℕ} {os : List ℤ} {w : ℕ}
+    → Written C rest ou₀ os₀ ou os w → rest ≡ []
     → (ou ≡ laid (words_of C) ou₀) × (os ≡ laid (shifts_of C) os₀)
 written_all {C} {rest} {ou₀} {os₀} d z =
     let e : d.done ≡ C = sym (append-nil d.done) ∙ ap (λ (x : List Row). d.done ++ x) (sym z) ∙ d.so_far in
@@ -120,7 +126,7 @@ written_all {C} {rest} {ou₀} {os₀} d z =
 
 written-put : {C : List Row} {x : Row} {rest : List Row} {ou₀ : List ℕ} {os₀ : List ℤ} {ou : List ℕ} {os : List ℤ} {w : ℕ}
     → Room (length C) ou₀ os₀ → Written C (x ∷ rest) ou₀ os₀ ou os w
-    → Written C rest ou₀ os₀ (sets ou (5 * w) (words x)) (set os w x.shift) (w + 1)
+    → Written C rest ou₀ os₀ (sets ou (5 * w) (row_words x)) (set os w x.shift) (w + 1)
 written-put {C} {x} {rest} {ou₀} {os₀} {ou} {os} {w} room d =
     let n = rows_all room d in
     record {
@@ -136,26 +142,31 @@ module _ {C rest₀ rest : List Row} {y : Row} {ou₀ : List ℕ} {os₀ : List 
   pub put-room : (5 * w + 5 ≤ length ou) × (w < length os)
   put-room = omega (arith, ap length e, rows_all room d, words-length room d, shifts-length room d, room.words, room.shifts)
 
-  pub put_step : (ou' : List ℕ) (os' : List ℤ) → ou' ≡ sets ou (5 * w) (words y) → os' ≡ set os w y.shift → Written C rest ou₀ os₀ ou' os' (w + 1)
+  pub put_step : (ou' : List ℕ) (os' : List ℤ) → ou' ≡ sets ou (5 * w) (row_words y) → os' ≡ set os w y.shift
+      → Written C rest ou₀ os₀ ou' os' (w + 1)
   put_step ou' os' eu es = rw (eu, es) (written-put room (rw e at d))
 
 -- merging: c is the row that grows, and r row i as it was read
-pub merge-start : (u : List ℕ) (s : List ℤ) (r : Row) → r ≡ row_at u s 0 → 0 < length s → merge_into r (run (row_at u s) 1 (length s - 1)) ≡ merge (rows u s)
+pub merge-start : (u : List ℕ) (s : List ℤ) (r : Row) → r ≡ row_at u s 0 → 0 < length s
+    → merge_into r (run (row_at u s) 1 (length s - 1)) ≡ merge (rows u s)
 merge-start u s r e h = let g : length s - 0 ≡ length s = omega arith in ap merge (sym (read (row_at u s) 0 (length s) r e h) ∙ ap (run (row_at u s) 0) g)
 
 module _ (f : ℕ → Row) (i n : ℕ) (c : Row) where
   module _ (r : Row) (e : r ≡ f i) (h : i < n) where
-    pub merge-glues : runs_on c r ≡ true → merge_into c (run f i (n - i)) ≡ merge_into (glue c r) (run f (i + 1) (n - (i + 1)))
+    pub merge-glues : runs_on c r ≡ true
+        → merge_into c (run f i (n - i)) ≡ merge_into (glue c r) (run f (i + 1) (n - (i + 1)))
     merge-glues b = rw (read f i n r e h, b)
 
-    pub merge-parts : runs_on c r ≡ false → merge_into c (run f i (n - i)) ≡ c ∷ merge_into r (run f (i + 1) (n - (i + 1)))
+    pub merge-parts : runs_on c r ≡ false
+        → merge_into c (run f i (n - i)) ≡ c ∷ merge_into r (run f (i + 1) (n - (i + 1)))
     merge-parts b = rw (read f i n r e h, b)
 
   pub merge-end : n ≤ i → merge_into c (run f i (n - i)) ≡ c ∷ []
   merge-end h = rw (run-nil f i n h)
 
 -- row c with row r after it still fits
-pub glue-fits : (c r : Row) → runs_on c r ≡ true → r.first + r.count ≤ max_u64 → (c.count + r.count ≤ max_u64) × (c.first + (c.count + r.count) ≤ max_u64)
+pub glue-fits : (c r : Row) → runs_on c r ≡ true → r.first + r.count ≤ max_u64
+    → (c.count + r.count ≤ max_u64) × (c.first + (c.count + r.count) ≤ max_u64)
 glue-fits c r b h = let o = runs_on-true c r b in omega (arith, o.first)
 
 -- for the loops that merge

@@ -1,5 +1,6 @@
-// The calls on lent frame maps: cut, join, merge, and the origin of a frame. A map is lent as its words u and its shifts s, a second one as v
-// and t; ou and os are lent for the rows out, nu words and ns shifts.
+// The calls on lent frame maps (RULES 10): cut, join, merge, and the origin of a frame.
+// A map is lent as its words and shifts, five words and one shift a row. The rows of the answer are
+// written over the first of out_words and out_shifts; word_room and shift_room are their lengths.
 #![tactic(auto)]
 
 ghost use Rattle.std.specs.Prelude.{◌≡◌, ◌+◌, ◌-◌, ◌*◌, ◌%◌, ◌^◌, ◌<◌, ◌≤◌, min, max, length, slice_set, Ok, map};
@@ -9,7 +10,7 @@ ghost use Rattle.std.proofs.lemmas.List.Edits.{sets};
 ghost use Rattle.conditions.specs.Conditions.{max_u64};
 ghost use Rattle.slices.specs.Slices.{laid};
 ghost use Rattle.rows.specs.Rows.{row_end, total, ok_shift, ok_row, clip, cut, moved, join, runs_on, glue, merge};
-ghost use Rattle.rows.specs.Lent.{row_at, rows, words, words_of, shifts_of};
+ghost use Rattle.rows.specs.Lent.{row_at, rows, row_words, words_of, shifts_of};
 ghost use Rattle.maps.specs.Answers.{sized, fits, first_bad, map_refusal, join_refusal, merge_refusal, Cut, Join, Merge, Trace};
 ghost use Rattle.maps.specs.Spans.{Sound, Room, Holder, Span, Planned};
 ghost use Rattle.maps.specs.Laws.{Laws};
@@ -28,161 +29,168 @@ pub struct Taken {
 }
 
 // Row i of a lent map.
-fn row_at(u: &[u64], s: &[i64], i: usize) -> Row
-    requires { (5 * i + 5 ≤ length u.now) × (i < length s.now) }
-    ensures { result ≡ row_at u.now s.now i }
+fn row_at(words: &[u64], shifts: &[i64], i: usize) -> Row
+    requires { (5 * i + 5 ≤ length words.now) × (i < length shifts.now) }
+    ensures { result ≡ row_at words.now shifts.now i }
 {
     let j = ROW_WORDS * i;
     Row {
-        source: u[j],
-        first: u[j + 1],
-        count: u[j + 2],
-        out: u[j + 3],
-        flag: u[j + 4],
-        shift: s[i],
+        source: words[j],
+        first: words[j + 1],
+        count: words[j + 2],
+        out: words[j + 3],
+        flag: words[j + 4],
+        shift: shifts[i],
     }
 }
 
-// The words of row r stored as those of row w.
-fn put_words(u: &mut [u64], w: usize, r: Row)
-    requires { 5 * w + 5 ≤ length u.old }
-    ensures { u.new ≡ sets u.old (5 * w) (words r) }
+// A row stored as row `at` of what is lent.
+fn put_row(out_words: &mut [u64], out_shifts: &mut [i64], at: usize, row: Row)
+    requires { (5 * at + 5 ≤ length out_words.old) × (at < length out_shifts.old) }
+    ensures { (out_words.new ≡ sets out_words.old (5 * at) (row_words row))
+        × (out_shifts.new ≡ slice_set out_shifts.old at row.shift) }
 {
-    let j = ROW_WORDS * w;
-    u[j] = r.source;
-    u[j + 1] = r.first;
-    u[j + 2] = r.count;
-    u[j + 3] = r.out;
-    u[j + 4] = r.flag;
-}
-
-// Row r stored as row w.
-fn put_row(u: &mut [u64], s: &mut [i64], w: usize, r: Row)
-    requires { (5 * w + 5 ≤ length u.old) × (w < length s.old) }
-    ensures { (u.new ≡ sets u.old (5 * w) (words r)) × (s.new ≡ slice_set s.old w r.shift) }
-{
-    put_words(u, w, r);
-    s[w] = r.shift;
+    rows::put_words(out_words, at, row);
+    out_shifts[at] = row.shift;
 }
 
 // Whether a row's flag is 0 or 1, and its shift 0 where the flag is 0.
-fn ok_shift(r: Row) -> bool
-    ensures { result ≡ ok_shift r }
+fn ok_shift(row: Row) -> bool
+    ensures { result ≡ ok_shift row }
 {
-    (r.flag == 1) | ((r.flag == 0) & (r.shift == 0))
+    (row.flag == 1) | ((row.flag == 0) & (row.shift == 0))
 }
 
-// Whether row r is well formed where output frame p is next; end is next after it, where that doesn't wrap. A sum that wraps is less
-// than what was added to, so that one test of the source's end finds both that and a count of 0.
+// Whether a row is well formed where output frame `next` is next; `end` is next after it, where
+// that doesn't wrap. A sum that wraps is less than what was added to, so that one test of the
+// source's end finds both that and a count of 0.
 #[tactic(auto, using(crate::proofs::Tested::tested))]
-fn ok_row(p: u64, end: u64, r: Row) -> bool
-    requires { end ≡ (p + r.count) % 2 ^ 64 }
-    ensures { result ≡ ok_row p r }
+fn ok_row(next: u64, end: u64, row: Row) -> bool
+    requires { end ≡ (next + row.count) % 2 ^ 64 }
+    ensures { result ≡ ok_row next row }
 {
-    let source_end = r.first.wrapping_add(r.count);
-    if source_end <= r.first {
+    let source_end = row.first.wrapping_add(row.count);
+    if source_end <= row.first {
         return false;
     }
-    if end < p {
+    if end < next {
         return false;
     }
-    if r.out != p {
+    if row.out != next {
         return false;
     }
-    ok_shift(r)
+    ok_shift(row)
 }
 
-// Whether two lent slices have the lengths of a map of some rows; a shift has eight bytes, so that five times their number fits.
-fn is_sized(u: &[u64], s: &[i64]) -> bool
-    ensures { result ≡ sized (length u.now) (length s.now) }
+// Whether two lent slices have the lengths of a map of some rows. A shift has eight bytes, so that
+// five times their number fits.
+fn is_sized(words: &[u64], shifts: &[i64]) -> bool
+    ensures { result ≡ sized (length words.now) (length shifts.now) }
 {
-    (0 < s.len()) & (u.len() == ROW_WORDS * s.len())
+    (0 < shifts.len()) & (words.len() == ROW_WORDS * shifts.len())
 }
 
 // The frames of a map, or 51 at its first row that isn't well formed.
 #[tactic(auto, using(crate::proofs::Written::judged))]
-fn judge(u: &[u64], s: &[i64]) -> Result<u64, Refusal>
-    requires { length u.now ≡ 5 * length s.now }
-    ensures { result ≡ result_and (first_bad 0 0 (rows u.now s.now)) (Ok (total (rows u.now s.now))) }
+fn judge(words: &[u64], shifts: &[i64]) -> Result<u64, Refusal>
+    requires { length words.now ≡ 5 * length shifts.now }
+    ensures { result
+        ≡ result_and
+        (first_bad 0 0 (rows words.now shifts.now))
+        (Ok (total (rows words.now shifts.now))) }
 {
-    let mut p: u64 = 0;
-    for i in 0..s.len() {
-        let r = row_at(u, s, i);
-        let end = p.wrapping_add(r.count);
-        if !ok_row(p, end, r) {
+    let mut next: u64 = 0;
+    for i in 0..shifts.len() {
+        let row = row_at(words, shifts, i);
+        let end = next.wrapping_add(row.count);
+        if !ok_row(next, end, row) {
             return Err(Reason::BadRows.at(i));
         }
-        p = end;
+        next = end;
     }
-    Ok(p)
+    Ok(next)
 }
 
 // The frames of a lent map, or 51.
-#[tactic(auto, unfolding(conditions::specs::Conditions::when, crate::specs::Answers::map_refusal))]
-pub fn frames_of(u: &[u64], s: &[i64]) -> Result<u64, Refusal>
-    ensures { result ≡ result_and (map_refusal u.now s.now) (Ok (total (rows u.now s.now))) }
+#[tactic(auto, unfolding(crate::specs::Answers::map_refusal))]
+pub fn frames_of(words: &[u64], shifts: &[i64]) -> Result<u64, Refusal>
+    ensures { result
+        ≡ result_and
+        (map_refusal words.now shifts.now)
+        (Ok (total (rows words.now shifts.now))) }
 {
-    if !is_sized(u, s) {
+    if !is_sized(words, shifts) {
         return Err(Reason::BadRows.at(0));
     }
-    judge(u, s)
+    judge(words, shifts)
 }
 
 // The row that holds a frame.
-fn row_of(u: &[u64], s: &[i64], frame: u64) -> usize
-    requires { Sound u.now s.now × (frame < total (rows u.now s.now)) }
-    ensures { Holder u.now s.now frame result }
+fn row_of(words: &[u64], shifts: &[i64], frame: u64) -> usize
+    requires { Sound words.now shifts.now × (frame < total (rows words.now shifts.now)) }
+    ensures { Holder words.now shifts.now frame result }
 {
-    rows::last_begun(u, s.len(), frame)
+    rows::last_begun(words, shifts.len(), frame)
 }
 
-// The rows that the cut a..b takes.
-pub fn part_of(u: &[u64], s: &[i64], a: u64, b: u64) -> Taken
-    requires { Sound u.now s.now × (a < b) × (b ≤ total (rows u.now s.now)) }
-    ensures { Span u.now s.now a b result.first result.count }
+// The rows that the cut start..end takes.
+pub fn part_of(words: &[u64], shifts: &[i64], start: u64, end: u64) -> Taken
+    requires { Sound words.now shifts.now
+        × (start < end)
+        × (end ≤ total (rows words.now shifts.now)) }
+    ensures { Span words.now shifts.now start end result.first result.count }
 {
-    let i = row_of(u, s, a);
-    let k = row_of(u, s, b - 1) - i + 1;
-    Taken { first: i, count: k }
+    let first = row_of(words, shifts, start);
+    let count = row_of(words, shifts, end - 1) - first + 1;
+    Taken { first, count }
 }
 
-// Whether k rows are no more than a map may have, nor than nu words and ns shifts hold.
-fn has_room(k: usize, nu: usize, ns: usize) -> bool
-    ensures { result ≡ fits k nu ns }
+// Whether so many rows are no more than a map may have, nor than there is room for.
+fn has_room(count: usize, word_room: usize, shift_room: usize) -> bool
+    ensures { result ≡ fits count word_room shift_room }
 {
-    k <= MOST_ROWS && ROW_WORDS * k <= nu && k <= ns
+    count <= MOST_ROWS && ROW_WORDS * count <= word_room && count <= shift_room
 }
 
-// A row's overlap with a..b, counted from a.
-fn clipped(r: Row, a: u64, b: u64) -> Row
-    requires { (max a r.out < min b (row_end r)) × (row_end r ≤ max_u64) × (r.first + r.count ≤ max_u64) }
-    ensures { result ≡ clip a b r }
+// A row's overlap with start..end, counted from start.
+fn clipped(row: Row, start: u64, end: u64) -> Row
+    requires { (max start row.out < min end (row_end row))
+        × (row_end row ≤ max_u64)
+        × (row.first + row.count ≤ max_u64) }
+    ensures { result ≡ clip start end row }
 {
     Row {
-        first: r.first + a.saturating_sub(r.out),
-        count: b.min(r.out + r.count) - a.max(r.out),
-        out: r.out.saturating_sub(a),
-        ..r
+        first: row.first + start.saturating_sub(row.out),
+        count: end.min(row.out + row.count) - start.max(row.out),
+        out: row.out.saturating_sub(start),
+        ..row
     }
 }
 
-// The rows that a cut takes, where nu words and ns shifts are lent for them; or its refusal.
-#[tactic(auto, using(crate::proofs::Planned::planned), unfolding(conditions::specs::Conditions::when, crate::specs::Answers::cut_refusal, crate::specs::Answers::room_refusal))]
-fn plan_cut(u: &[u64], s: &[i64], a: u64, b: u64, nu: usize, ns: usize) -> Result<Taken, Refusal>
-    ensures { Planned u.now s.now a b nu ns result }
+// The rows that a cut takes, or its refusal.
+#[tactic(auto, using(crate::proofs::Planned::planned), unfolding(crate::specs::Answers::cut_refusal, crate::specs::Answers::room_refusal))]
+fn plan_cut(
+    words: &[u64],
+    shifts: &[i64],
+    start: u64,
+    end: u64,
+    word_room: usize,
+    shift_room: usize,
+) -> Result<Taken, Refusal>
+    ensures { Planned words.now shifts.now start end word_room shift_room result }
 {
-    let frames = frames_of(u, s)?;
-    if MOST_ROWS < s.len() {
+    let frames = frames_of(words, shifts)?;
+    if MOST_ROWS < shifts.len() {
         return Err(Reason::RowsDontFit.at(0));
     }
-    if b <= a {
+    if end <= start {
         return Err(Reason::BadRange.at(0));
     }
-    if frames < b {
+    if frames < end {
         return Err(Reason::BadRange.at(0));
     }
-    let part = part_of(u, s, a, b);
-    if !has_room(part.count, nu, ns) {
+    let part = part_of(words, shifts, start, end);
+    if !has_room(part.count, word_room, shift_room) {
         return Err(Reason::RowsDontFit.at(0));
     }
     Ok(part)
@@ -190,231 +198,319 @@ fn plan_cut(u: &[u64], s: &[i64], a: u64, b: u64, nu: usize, ns: usize) -> Resul
 
 // The overlaps of the rows that a cut takes, written over the first rows of what is lent.
 #[tactic(auto, using(crate::proofs::Written::writing))]
-pub fn write_cut(u: &[u64], s: &[i64], a: u64, b: u64, part: Taken, ou: &mut [u64], os: &mut [i64])
-    requires { Sound u.now s.now × Span u.now s.now a b part.first part.count × Room part.count ou.old os.old }
-    ensures { (ou.new ≡ laid (words_of (cut a b (rows u.now s.now))) ou.old) × (os.new ≡ laid (shifts_of (cut a b (rows u.now s.now))) os.old) }
+pub fn write_cut(
+    words: &[u64],
+    shifts: &[i64],
+    start: u64,
+    end: u64,
+    part: Taken,
+    out_words: &mut [u64],
+    out_shifts: &mut [i64],
+)
+    requires { Sound words.now shifts.now
+        × Span words.now shifts.now start end part.first part.count
+        × Room part.count out_words.old out_shifts.old }
+    ensures { (out_words.new
+        ≡ laid (words_of (cut start end (rows words.now shifts.now))) out_words.old)
+        × (out_shifts.new
+        ≡ laid (shifts_of (cut start end (rows words.now shifts.now))) out_shifts.old) }
 {
     let i = part.first;
     let k = part.count;
-    for w in 0..k {
-        let r = row_at(u, s, i + w);
-        let c = clipped(r, a, b);
-        put_row(ou, os, w, c);
+    for j in 0..k {
+        let row = row_at(words, shifts, i + j);
+        let kept = clipped(row, start, end);
+        put_row(out_words, out_shifts, j, kept);
     }
 }
 
-// Cut a..b of a map into what is lent: each row's overlap, counted from a.
+// Cut start..end of a map into what is lent: each row's overlap, counted from start.
 #[tactic(auto, using(crate::proofs::Planned::planned))]
 pub fn cut(
-    u: &[u64],
-    s: &[i64],
-    a: u64,
-    b: u64,
-    ou: &mut [u64],
-    os: &mut [i64],
+    words: &[u64],
+    shifts: &[i64],
+    start: u64,
+    end: u64,
+    out_words: &mut [u64],
+    out_shifts: &mut [i64],
 ) -> Result<usize, Refusal>
-    ensures { Cut u.now s.now a b ou.old os.old result ou.new os.new }
+    ensures { Cut words.now shifts.now start end
+        out_words.old out_shifts.old result out_words.new out_shifts.new }
 {
-    let part = plan_cut(u, s, a, b, ou.len(), os.len())?;
-    write_cut(u, s, a, b, part, ou, os);
+    let part = plan_cut(words, shifts, start, end, out_words.len(), out_shifts.len())?;
+    write_cut(words, shifts, start, end, part, out_words, out_shifts);
     Ok(part.count)
 }
 
-// Whether row r continues row c.
-fn runs_on(c: Row, r: Row) -> bool
-    requires { c.first + c.count ≤ max_u64 }
-    ensures { result ≡ runs_on c r }
+// Whether a row continues the one that grows.
+fn runs_on(current: Row, row: Row) -> bool
+    requires { current.first + current.count ≤ max_u64 }
+    ensures { result ≡ runs_on current row }
 {
-    (c.source == r.source)
-        & (c.first + c.count == r.first)
-        & (c.flag == r.flag)
-        & (c.shift == r.shift)
+    (current.source == row.source)
+        & (current.first + current.count == row.first)
+        & (current.flag == row.flag)
+        & (current.shift == row.shift)
 }
 
-// Row c with the frames of row r after its own.
-fn glued(c: Row, r: Row) -> Row
-    requires { c.count + r.count ≤ max_u64 }
-    ensures { result ≡ glue c r }
+// The row that grows, with the frames of the row that continues it.
+fn glued(current: Row, row: Row) -> Row
+    requires { current.count + row.count ≤ max_u64 }
+    ensures { result ≡ glue current row }
 {
     Row {
-        count: c.count + r.count,
-        ..c
+        count: current.count + row.count,
+        ..current
     }
 }
 
 // How many rows a merge has.
 #[tactic(auto, using(crate::proofs::Written::merging))]
-fn count_merge(u: &[u64], s: &[i64]) -> usize
-    requires { Sound u.now s.now }
-    ensures { result ≡ length (merge (rows u.now s.now)) }
+fn count_merge(words: &[u64], shifts: &[i64]) -> usize
+    requires { Sound words.now shifts.now }
+    ensures { result ≡ length (merge (rows words.now shifts.now)) }
 {
-    let mut c = row_at(u, s, 0);
-    let mut w: usize = 0;
-    for i in 1..s.len() {
-        let r = row_at(u, s, i);
-        if runs_on(c, r) {
-            c = glued(c, r);
+    let mut current = row_at(words, shifts, 0);
+    let mut done: usize = 0;
+    for i in 1..shifts.len() {
+        let row = row_at(words, shifts, i);
+        if runs_on(current, row) {
+            current = glued(current, row);
             continue;
         }
-        w += 1;
-        c = r;
+        done += 1;
+        current = row;
     }
-    w + 1
+    done + 1
 }
 
-// The refusal of a merge, where nu words and ns shifts are lent. Its rows are counted only where all of the map's rows have no room.
-#[tactic(auto, using(crate::proofs::Planned::planned), unfolding(conditions::specs::Conditions::when, crate::specs::Answers::merge_refusal, crate::specs::Answers::room_refusal))]
-fn refuse_merge(u: &[u64], s: &[i64], nu: usize, ns: usize) -> Result<(), Refusal>
-    ensures { result ≡ merge_refusal u.now s.now nu ns }
+// The refusal of a merge. Its rows are counted only where all of the map's rows have no room.
+#[tactic(auto, using(crate::proofs::Planned::planned), unfolding(crate::specs::Answers::merge_refusal, crate::specs::Answers::room_refusal))]
+fn refuse_merge(
+    words: &[u64],
+    shifts: &[i64],
+    word_room: usize,
+    shift_room: usize,
+) -> Result<(), Refusal>
+    ensures { result ≡ merge_refusal words.now shifts.now word_room shift_room }
 {
-    frames_of(u, s)?;
-    if MOST_ROWS < s.len() {
+    frames_of(words, shifts)?;
+    if MOST_ROWS < shifts.len() {
         return Err(Reason::RowsDontFit.at(0));
     }
-    if has_room(s.len(), nu, ns) {
+    if has_room(shifts.len(), word_room, shift_room) {
         return Ok(());
     }
-    if has_room(count_merge(u, s), nu, ns) {
+    if has_room(count_merge(words, shifts), word_room, shift_room) {
         return Ok(());
     }
     Err(Reason::RowsDontFit.at(0))
 }
 
 // The merged rows, written over the first rows of what is lent: how many.
-fn write_merge(u: &[u64], s: &[i64], ou: &mut [u64], os: &mut [i64]) -> usize
-    requires { Sound u.now s.now × Room (length (merge (rows u.now s.now))) ou.old os.old }
-    ensures { (result ≡ length (merge (rows u.now s.now))) × (ou.new ≡ laid (words_of (merge (rows u.now s.now))) ou.old) × (os.new ≡ laid (shifts_of (merge (rows u.now s.now))) os.old) }
+fn write_merge(
+    words: &[u64],
+    shifts: &[i64],
+    out_words: &mut [u64],
+    out_shifts: &mut [i64],
+) -> usize
+    requires { Sound words.now shifts.now
+        × Room (length (merge (rows words.now shifts.now))) out_words.old out_shifts.old }
+    ensures { (result ≡ length (merge (rows words.now shifts.now)))
+        × (out_words.new ≡ laid (words_of (merge (rows words.now shifts.now))) out_words.old)
+        × (out_shifts.new ≡ laid (shifts_of (merge (rows words.now shifts.now))) out_shifts.old) }
 {
-    let mut c = row_at(u, s, 0);
-    let mut w: usize = 0;
-    for i in 1..s.len() {
-        let r = row_at(u, s, i);
-        if runs_on(c, r) {
-            c = glued(c, r);
+    let mut current = row_at(words, shifts, 0);
+    let mut done: usize = 0;
+    for i in 1..shifts.len() {
+        let row = row_at(words, shifts, i);
+        if runs_on(current, row) {
+            current = glued(current, row);
             continue;
         }
-        put_row(ou, os, w, c);
-        w += 1;
-        c = r;
+        put_row(out_words, out_shifts, done, current);
+        done += 1;
+        current = row;
     }
-    put_row(ou, os, w, c);
-    w + 1
+    put_row(out_words, out_shifts, done, current);
+    done + 1
 }
 
 // A map into what is lent, with one row of neighbours that continue.
 #[tactic(auto, using(crate::proofs::Planned::planned))]
-pub fn merge(u: &[u64], s: &[i64], ou: &mut [u64], os: &mut [i64]) -> Result<usize, Refusal>
-    ensures { Merge u.now s.now ou.old os.old result ou.new os.new }
+pub fn merge(
+    words: &[u64],
+    shifts: &[i64],
+    out_words: &mut [u64],
+    out_shifts: &mut [i64],
+) -> Result<usize, Refusal>
+    ensures { Merge words.now shifts.now
+        out_words.old out_shifts.old result out_words.new out_shifts.new }
 {
-    refuse_merge(u, s, ou.len(), os.len())?;
-    Ok(write_merge(u, s, ou, os))
+    refuse_merge(words, shifts, out_words.len(), out_shifts.len())?;
+    Ok(write_merge(words, shifts, out_words, out_shifts))
 }
 
-// Row r, d output frames later.
-fn later(r: Row, d: u64) -> Row
-    requires { d + r.out ≤ max_u64 }
-    ensures { result ≡ moved d r }
+// A row, so many output frames later.
+fn later(row: Row, later_by: u64) -> Row
+    requires { later_by + row.out ≤ max_u64 }
+    ensures { result ≡ moved later_by row }
 {
     Row {
-        out: d + r.out,
-        ..r
+        out: later_by + row.out,
+        ..row
     }
 }
 
-// The words of a map's rows, d output frames later, written over the first of what is lent.
+// The words of a map's rows, so many output frames later, written over the first of what is lent.
 #[tactic(auto, using(crate::proofs::Written::writing))]
-fn write_moved(u: &[u64], s: &[i64], d: u64, ou: &mut [u64])
-    requires { Sound u.now s.now × (d + total (rows u.now s.now) ≤ max_u64) × (5 * length s.now ≤ length ou.old) }
-    ensures { ou.new ≡ laid (words_of (map (λ j. moved d (row_at u.now s.now j)) (range_with_len 0 (length s.now)))) ou.old }
+fn write_moved(words: &[u64], shifts: &[i64], later_by: u64, out_words: &mut [u64])
+    requires { Sound words.now shifts.now
+        × (later_by + total (rows words.now shifts.now) ≤ max_u64)
+        × (5 * length shifts.now ≤ length out_words.old) }
+    ensures { out_words.new
+        ≡ laid
+        (words_of
+        (map
+        (λ j. moved later_by (row_at words.now shifts.now j))
+        (range_with_len 0 (length shifts.now))))
+        out_words.old }
 {
-    for i in 0..s.len() {
-        let r = row_at(u, s, i);
-        put_words(ou, i, later(r, d));
+    for i in 0..shifts.len() {
+        let row = row_at(words, shifts, i);
+        rows::put_words(out_words, i, later(row, later_by));
     }
 }
 
 // The first map's frames, where a join is accepted; or its refusal.
-#[tactic(auto, using(crate::proofs::Planned::planned), unfolding(conditions::specs::Conditions::when, crate::specs::Answers::join_refusal, crate::specs::Answers::room_refusal))]
+#[tactic(auto, using(crate::proofs::Planned::planned), unfolding(crate::specs::Answers::join_refusal, crate::specs::Answers::room_refusal))]
 fn plan_join(
-    u: &[u64],
-    s: &[i64],
-    v: &[u64],
-    t: &[i64],
-    nu: usize,
-    ns: usize,
+    words: &[u64],
+    shifts: &[i64],
+    second_words: &[u64],
+    second_shifts: &[i64],
+    word_room: usize,
+    shift_room: usize,
 ) -> Result<u64, Refusal>
-    ensures { result ≡ result_and (join_refusal u.now s.now v.now t.now nu ns) (Ok (total (rows u.now s.now))) }
+    ensures { result
+        ≡ result_and
+        (join_refusal
+        words.now shifts.now second_words.now second_shifts.now word_room shift_room)
+        (Ok (total (rows words.now shifts.now))) }
 {
-    let first = frames_of(u, s)?;
-    let second = frames_of(v, t)?;
-    if MOST_ROWS < s.len() {
+    let first = frames_of(words, shifts)?;
+    let second = frames_of(second_words, second_shifts)?;
+    if MOST_ROWS < shifts.len() {
         return Err(Reason::RowsDontFit.at(0));
     }
-    if MOST_ROWS < t.len() {
+    if MOST_ROWS < second_shifts.len() {
         return Err(Reason::RowsDontFit.at(0));
     }
     if conditions::is_past(first, second, u64::MAX) {
         return Err(Reason::JoinWraps.at(0));
     }
-    if !has_room(s.len() + t.len(), nu, ns) {
+    if !has_room(shifts.len() + second_shifts.len(), word_room, shift_room) {
         return Err(Reason::RowsDontFit.at(0));
     }
     Ok(first)
 }
 
-// Two maps, the first of d frames, written over the first rows of what is lent. What isn't moved is copied as it lies, a slice at a time.
-fn write_join(u: &[u64], s: &[i64], d: u64, v: &[u64], t: &[i64], ou: &mut [u64], os: &mut [i64])
-    requires { Sound u.now s.now × Sound v.now t.now × (d ≡ total (rows u.now s.now)) × (d + total (rows v.now t.now) ≤ max_u64) × Room (length s.now + length t.now) ou.old os.old }
-    ensures { (ou.new ≡ laid (words_of (join (rows u.now s.now) (rows v.now t.now))) ou.old) × (os.new ≡ laid (shifts_of (join (rows u.now s.now) (rows v.now t.now))) os.old) }
+// Two maps, the second later by the first one's frames, written over the first rows of what is
+// lent. What isn't moved is copied as it lies, a slice at a time.
+fn write_join(
+    words: &[u64],
+    shifts: &[i64],
+    later_by: u64,
+    second_words: &[u64],
+    second_shifts: &[i64],
+    out_words: &mut [u64],
+    out_shifts: &mut [i64],
+)
+    requires { Sound words.now shifts.now
+        × Sound second_words.now second_shifts.now
+        × (later_by ≡ total (rows words.now shifts.now))
+        × (later_by + total (rows second_words.now second_shifts.now) ≤ max_u64)
+        × Room (length shifts.now + length second_shifts.now) out_words.old out_shifts.old }
+    ensures { (out_words.new
+        ≡ laid
+        (words_of
+        (join (rows words.now shifts.now) (rows second_words.now second_shifts.now)))
+        out_words.old)
+        × (out_shifts.new
+        ≡ laid
+        (shifts_of
+        (join (rows words.now shifts.now) (rows second_words.now second_shifts.now)))
+        out_shifts.old) }
 {
-    slices::copy(u, ou);
-    slices::copy(s, os);
-    let n = s.len();
-    let m = ROW_WORDS * n;
-    write_moved(v, t, d, &mut ou[m..]);
-    slices::copy(t, &mut os[n..]);
+    slices::copy(words, out_words);
+    slices::copy(shifts, out_shifts);
+    let n = shifts.len();
+    let word_count = ROW_WORDS * n;
+    write_moved(
+        second_words,
+        second_shifts,
+        later_by,
+        &mut out_words[word_count..],
+    );
+    slices::copy(second_shifts, &mut out_shifts[n..]);
 }
 
 // Two maps into what is lent, the second after the first, its out firsts moved.
 #[tactic(auto, using(crate::proofs::Planned::planned))]
 pub fn join(
-    u: &[u64],
-    s: &[i64],
-    v: &[u64],
-    t: &[i64],
-    ou: &mut [u64],
-    os: &mut [i64],
+    words: &[u64],
+    shifts: &[i64],
+    second_words: &[u64],
+    second_shifts: &[i64],
+    out_words: &mut [u64],
+    out_shifts: &mut [i64],
 ) -> Result<usize, Refusal>
-    ensures { Join u.now s.now v.now t.now ou.old os.old result ou.new os.new }
+    ensures { Join words.now shifts.now second_words.now second_shifts.now
+        out_words.old out_shifts.old result out_words.new out_shifts.new }
 {
-    let first = plan_join(u, s, v, t, ou.len(), os.len())?;
-    write_join(u, s, first, v, t, ou, os);
-    Ok(s.len() + t.len())
+    let first = plan_join(
+        words,
+        shifts,
+        second_words,
+        second_shifts,
+        out_words.len(),
+        out_shifts.len(),
+    )?;
+    write_join(
+        words,
+        shifts,
+        first,
+        second_words,
+        second_shifts,
+        out_words,
+        out_shifts,
+    );
+    Ok(shifts.len() + second_shifts.len())
 }
 
 // Where a frame comes from.
-#[tactic(auto, using(crate::proofs::Planned::planned), unfolding(conditions::specs::Conditions::when, crate::specs::Answers::origin_refusal))]
-pub fn origin(u: &[u64], s: &[i64], frame: u64) -> Result<Origin, Refusal>
-    ensures { Trace u.now s.now frame result }
+#[tactic(auto, using(crate::proofs::Planned::planned), unfolding(crate::specs::Answers::origin_refusal))]
+pub fn origin(words: &[u64], shifts: &[i64], frame: u64) -> Result<Origin, Refusal>
+    ensures { Trace words.now shifts.now frame result }
 {
-    let frames = frames_of(u, s)?;
-    if MOST_ROWS < s.len() {
+    let frames = frames_of(words, shifts)?;
+    if MOST_ROWS < shifts.len() {
         return Err(Reason::RowsDontFit.at(0));
     }
     if frames <= frame {
         return Err(Reason::PastMap.at(0));
     }
-    let r = row_at(u, s, row_of(u, s, frame));
+    let row = row_at(words, shifts, row_of(words, shifts, frame));
     Ok(Origin {
-        source: r.source,
-        frame: r.first + (frame - r.out),
-        flag: r.flag,
-        shift: r.shift,
+        source: row.source,
+        frame: row.first + (frame - row.out),
+        flag: row.flag,
+        shift: row.shift,
     })
 }
 
-// What the calls give together: when they accept, that what they write is a map again, with the origins that it must have, and what they
-// leave as lent.
+// What the calls give together: when they accept, that what they write is a map again, with the
+// origins that it must have, and what they leave as lent.
 #[tactic(auto, using(crate::proofs::Lawful::lawful))]
 pub fn calls_keep_origins()
     ensures { Laws Cut Join Merge Trace }

@@ -13,7 +13,6 @@ use lib.ListN.{length, get_or, drop, drop_of_length-le}
 use lib.Seq.{drop-cons}
 use lib.Signed.{le_z, lt_z}
 use Rattle.std.specs.Prelude.{Result, Ok}
-use Rattle.conditions.specs.Conditions.{when}
 use Rattle.refusal.specs.declared.Reason.TheVariants as reason
 use Rattle.refusal.specs.declared.Refusal.{Refusal}
 use Rattle.refusal.specs.Refusals.{refused, first_refused}
@@ -31,7 +30,8 @@ length-gaps [] = omega arith
 length-gaps (x ∷ []) = omega arith
 length-gaps (x ∷ (y ∷ l)) = ap suc (length-gaps (y ∷ l)) ∙ omega arith
 
-gap-suc : (l : List ℤ) (i : ℕ) → suc i < length l → get_or (gaps l) i (pos 0) ≡ get_or l (suc i) (pos 0) -ℤ get_or l i (pos 0)
+gap-suc : (l : List ℤ) (i : ℕ) → suc i < length l
+    → get_or (gaps l) i (pos 0) ≡ get_or l (suc i) (pos 0) -ℤ get_or l i (pos 0)
 unfolding gaps
 gap-suc [] i h = absurd (not-suc-le-zero h)
 gap-suc (x ∷ []) i h = absurd (not-suc-le-zero (le_of_suc-le-suc h))
@@ -39,7 +39,8 @@ gap-suc (x ∷ (y ∷ l)) zero h = refl
 gap-suc (x ∷ (y ∷ l)) (suc i) h = gap-suc (y ∷ l) i (le_of_suc-le-suc h)
 
 -- the interval before timestamp i
-pub gap_at : (l : List ℤ) (i : ℕ) → 0 < i → i < length l → get_or (gaps l) (i - 1) (pos 0) ≡ get_or l i (pos 0) -ℤ get_or l (i - 1) (pos 0)
+pub gap_at : (l : List ℤ) (i : ℕ) → 0 < i → i < length l
+    → get_or (gaps l) (i - 1) (pos 0) ≡ get_or l i (pos 0) -ℤ get_or l (i - 1) (pos 0)
 gap_at l i from h =
     let e : suc (i - 1) ≡ i = omega arith in
     gap-suc l (i - 1) (omega arith) ∙ ap (λ n. get_or l n (pos 0) -ℤ get_or l (i - 1) (pos 0)) e
@@ -69,37 +70,39 @@ less-below (negsuc a) (negsuc b) = sign (ltb (suc b) (suc a)) ∙ leb-suc-suc (s
 below-read : (y x : ℤ) (v : Bool) → I64 y → I64 x → lt_z (read y) (read x) ≡ v → lt_z (y -ℤ x) (pos 0) ≡ v
 below-read y x v p q t = less-below y x ∙ lt-read y x p q v t
 
--- ---- a loop over the timestamps: `first_refused falls i (drop (i - 1) (gaps ts)) ≡ r`, with r the whole answer
-module _ (ts : List ℤ) (i : ℕ) (r : Result (Unit {0}) Refusal) where
-  pub fall-end : length ts ≤ i → first_refused falls i (drop (i - 1) (gaps ts)) ≡ r → Ok tt ≡ r
+-- ---- a loop over the timestamps: `first_refused falls i (drop (i - 1) (gaps timestamps)) ≡ r`, with r the whole answer
+module _ (timestamps : List ℤ) (i : ℕ) (r : Result (Unit {0}) Refusal) where
+  pub fall-end : length timestamps ≤ i → first_refused falls i (drop (i - 1) (gaps timestamps)) ≡ r → Ok tt ≡ r
   unfolding first_refused
-  fall-end h e = sym (ap (first_refused falls i) (drop_of_length-le (gaps ts) {i = i - 1} (omega (arith, length-gaps ts)))) ∙ e
+  fall-end h e = sym (ap (first_refused falls i) (drop_of_length-le (gaps timestamps) {i = i - 1} (omega (arith, length-gaps timestamps)))) ∙ e
 
-  module _ (from : 0 < i) (inside : i < length ts) where
-    rest : first_refused falls i (drop (i - 1) (gaps ts))
-        ≡ first_refused falls i ((get_or ts i (pos 0) -ℤ get_or ts (i - 1) (pos 0)) ∷ drop (i + 1 - 1) (gaps ts))
+  module _ (from : 0 < i) (inside : i < length timestamps) where
+    rest : first_refused falls i (drop (i - 1) (gaps timestamps))
+        ≡ first_refused falls i ((get_or timestamps i (pos 0) -ℤ get_or timestamps (i - 1) (pos 0)) ∷ drop (i + 1 - 1) (gaps timestamps))
     rest =
         let e : suc (i - 1) ≡ i + 1 - 1 = omega arith in
-        ap (first_refused falls i) (drop-cons (gaps ts) (i - 1) (pos 0) (omega (arith, length-gaps ts)))
-        ∙ ap (λ g. first_refused falls i (g ∷ drop (suc (i - 1)) (gaps ts))) (gap_at ts i from inside)
-        ∙ ap (λ n. first_refused falls i ((get_or ts i (pos 0) -ℤ get_or ts (i - 1) (pos 0)) ∷ drop n (gaps ts))) e
+        ap (first_refused falls i) (drop-cons (gaps timestamps) (i - 1) (pos 0) (omega (arith, length-gaps timestamps)))
+        ∙ ap (λ g. first_refused falls i (g ∷ drop (suc (i - 1)) (gaps timestamps))) (gap_at timestamps i from inside)
+        ∙ ap (λ n. first_refused falls i ((get_or timestamps i (pos 0) -ℤ get_or timestamps (i - 1) (pos 0)) ∷ drop n (gaps timestamps))) e
 
-    module _ (fits : I64 (get_or ts i (pos 0))) (fits-before : I64 (get_or ts (i - 1) (pos 0))) where
-      pub fall-turn : lt_z (read (get_or ts i (pos 0))) (read (get_or ts (i - 1) (pos 0))) ≡ false → first_refused falls i (drop (i - 1) (gaps ts)) ≡ r
-          → first_refused falls (i + 1) (drop (i + 1 - 1) (gaps ts)) ≡ r
-      unfolding first_refused when
+    module _ (fits : I64 (get_or timestamps i (pos 0))) (fits-before : I64 (get_or timestamps (i - 1) (pos 0))) where
+      pub fall-turn : lt_z (read (get_or timestamps i (pos 0))) (read (get_or timestamps (i - 1) (pos 0))) ≡ false
+          → first_refused falls i (drop (i - 1) (gaps timestamps)) ≡ r
+          → first_refused falls (i + 1) (drop (i + 1 - 1) (gaps timestamps)) ≡ r
+      unfolding first_refused
       fall-turn t e =
-          ap (λ n. first_refused falls n (drop (i + 1 - 1) (gaps ts))) (add-one i)
-          ∙ sym (rest ∙ rw (below-read (get_or ts i (pos 0)) (get_or ts (i - 1) (pos 0)) false fits fits-before t)) ∙ e
+          ap (λ n. first_refused falls n (drop (i + 1 - 1) (gaps timestamps))) (add-one i)
+          ∙ sym (rest ∙ rw (below-read (get_or timestamps i (pos 0)) (get_or timestamps (i - 1) (pos 0)) false fits fits-before t)) ∙ e
 
-      pub fall-hit : lt_z (read (get_or ts i (pos 0))) (read (get_or ts (i - 1) (pos 0))) ≡ true → first_refused falls i (drop (i - 1) (gaps ts)) ≡ r
+      pub fall-hit : lt_z (read (get_or timestamps i (pos 0))) (read (get_or timestamps (i - 1) (pos 0))) ≡ true
+          → first_refused falls i (drop (i - 1) (gaps timestamps)) ≡ r
           → refused reason.Falling i ≡ r
-      unfolding first_refused when
-      fall-hit t e = sym (rest ∙ rw (below-read (get_or ts i (pos 0)) (get_or ts (i - 1) (pos 0)) true fits fits-before t)) ∙ e
+      unfolding first_refused
+      fall-hit t e = sym (rest ∙ rw (below-read (get_or timestamps i (pos 0)) (get_or timestamps (i - 1) (pos 0)) true fits fits-before t)) ∙ e
 
 -- timestamps of which none falls ascend
-pub no-fall : (ts : List ℤ) (i : ℕ) → first_refused falls i (gaps ts) ≡ Ok tt → Asc ts
-unfolding gaps first_refused when
+pub no-fall : (timestamps : List ℤ) (i : ℕ) → first_refused falls i (gaps timestamps) ≡ Ok tt → Asc timestamps
+unfolding gaps first_refused
 no-fall [] i e = tt
 no-fall (x ∷ []) i e = (tt, tt)
 no-fall (x ∷ (y ∷ l)) i e =

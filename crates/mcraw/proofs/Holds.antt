@@ -16,21 +16,25 @@ use Rattle.signed.proofs.Ranges.{checked_is, held, lost}
 use Rattle.mcraw.specs.Mcraw.{first, last, span, nominal, end}
 
 -- the span, the test of the nominal and the end, as the code makes them of numbers that are read back
-pub span-held : (ts : List ℤ) (r : Option ℤ) (y : ℤ) → I64 (last ts) → I64 (first ts) → SomeIff r (SFits w64 (read (last ts) -ℤ read (first ts))) (read (last ts) -ℤ read (first ts)) → r ≡ Some y
-    → (is_outside (span ts) ≡ false) × (y ≡ span ts)
+pub span-held : (timestamps : List ℤ) (r : Option ℤ) (y : ℤ) → I64 (last timestamps) → I64 (first timestamps)
+    → SomeIff r (SFits w64 (read (last timestamps) -ℤ read (first timestamps)))
+    (read (last timestamps) -ℤ read (first timestamps))
+    → r ≡ Some y
+    → (is_outside (span timestamps) ≡ false) × (y ≡ span timestamps)
 unfolding span
-span-held ts r y p q e g = held (span ts) y (sym (rw (back (last ts) p, back (first ts) q) at (checked_is r _ e)) ∙ g)
+span-held timestamps r y p q e g = held (span timestamps) y (sym (rw (back (last timestamps) p, back (first timestamps) q) at (checked_is r _ e)) ∙ g)
 
-pub moves : (ts : List ℤ) (m : ℤ) → m ≡ nominal ts → (of_z w64 m ≡ 0 → ⊥) → int_eq (nominal ts) (pos 0) ≡ false
-moves ts m b e = int_eq-no (nominal ts) (pos 0) (λ z. e (ap (of_z w64) (b ∙ z)))
+pub moves : (timestamps : List ℤ) (m : ℤ) → m ≡ nominal timestamps → (of_z w64 m ≡ 0 → ⊥)
+    → int_eq (nominal timestamps) (pos 0) ≡ false
+moves timestamps m b e = int_eq-no (nominal timestamps) (pos 0) (λ z. e (ap (of_z w64) (b ∙ z)))
 
-module _ (ts : List ℤ) (s m : ℤ) (f : SFits w64 s) (g : SFits w64 m) (a : s ≡ span ts) (b : m ≡ nominal ts) (r : Option ℤ) (e : SomeIff r (SFits w64 (read s +ℤ read m)) (read s +ℤ read m)) where
-  is-end : r ≡ as_i64 (end ts)
+module _ (timestamps : List ℤ) (s m : ℤ) (f : SFits w64 s) (g : SFits w64 m) (a : s ≡ span timestamps) (b : m ≡ nominal timestamps) (r : Option ℤ) (e : SomeIff r (SFits w64 (read s +ℤ read m)) (read s +ℤ read m)) where
+  is-end : r ≡ as_i64 (end timestamps)
   unfolding end
   is-end = checked_is r _ e ∙ (λ i. as_i64 ((reads f ∙ a) i +ℤ (reads g ∙ b) i))
 
-  pub end-held : (y : ℤ) → r ≡ Some y → (is_outside (end ts) ≡ false) × (y ≡ end ts)
-  end-held y k = held (end ts) y (sym is-end ∙ k)
+  pub end-held : (y : ℤ) → r ≡ Some y → (is_outside (end timestamps) ≡ false) × (y ≡ end timestamps)
+  end-held y k = held (end timestamps) y (sym is-end ∙ k)
 
-  pub end-lost : r ≡ None → is_outside (end ts) ≡ true
-  end-lost k = lost (end ts) (sym is-end ∙ k)
+  pub end-lost : r ≡ None → is_outside (end timestamps) ≡ true
+  end-lost k = lost (end timestamps) (sym is-end ∙ k)

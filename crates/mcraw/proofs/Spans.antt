@@ -1,4 +1,5 @@
--- Timestamps that ascend, and whose span an i64 holds: so it holds every interval and every start. Over ℤ, whatever the timestamps. Assumes nothing.
+-- Timestamps that ascend, and whose span an i64 holds: so it holds every interval and every start. Over ℤ, whatever the
+-- timestamps. Assumes nothing.
 use mathlib.Core.Path.{◌≡◌, refl, sym, ap, ◌∙◌, subst}
 use Rattle.std.proofs.lemmas.List.{get_or-map}
 use Rattle.std.specs.List.{AllByRecursion}
@@ -44,34 +45,36 @@ inner a b c d x y z h =
     let f : n + (m + k) < 2 ^ 63 = subst I64 e h in
     subst I64 (sym (later b c y)) (omega arith)
 
-pub length-starts : (ts : List ℤ) → length (starts_of ts) ≡ length ts
+pub length-starts : (timestamps : List ℤ) → length (starts_of timestamps) ≡ length timestamps
 unfolding starts_of
-length-starts ts = length-map ts (λ t. t -ℤ first ts)
+length-starts timestamps = length-map timestamps (λ t. t -ℤ first timestamps)
 
-pub start-at : (ts : List ℤ) (i : ℕ) → i < length ts → get_or (starts_of ts) i (pos 0) ≡ get_or ts i (pos 0) -ℤ first ts
+pub start-at : (timestamps : List ℤ) (i : ℕ) → i < length timestamps
+    → get_or (starts_of timestamps) i (pos 0) ≡ get_or timestamps i (pos 0) -ℤ first timestamps
 unfolding starts_of
-start-at ts i h = get_or-map (λ t. t -ℤ first ts) ts i (pos 0) (pos 0) h
+start-at timestamps i h = get_or-map (λ t. t -ℤ first timestamps) timestamps i (pos 0) (pos 0) h
 
-pub start_fits : (ts : List ℤ) (i : ℕ) → i < length ts → AllByRecursion I64 (starts_of ts) → I64 (get_or ts i (pos 0) -ℤ first ts)
-start_fits ts i h all = rw (start-at ts i h) at (all-at I64 (starts_of ts) i (pos 0) all (omega (arith, length-starts ts)))
+pub start_fits : (timestamps : List ℤ) (i : ℕ) → i < length timestamps → AllByRecursion I64 (starts_of timestamps)
+    → I64 (get_or timestamps i (pos 0) -ℤ first timestamps)
+start_fits timestamps i h all = rw (start-at timestamps i h) at (all-at I64 (starts_of timestamps) i (pos 0) all (omega (arith, length-starts timestamps)))
 
-module _ (ts : List ℤ) (asc : Asc ts) (h : I64 (span ts)) where
+module _ (timestamps : List ℤ) (asc : Asc timestamps) (h : I64 (span timestamps)) where
   -- from a timestamp to a later one
-  between : (i j : ℕ) → i ≤ j → j < length ts → I64 (get_or ts j (pos 0) -ℤ get_or ts i (pos 0))
+  between : (i j : ℕ) → i ≤ j → j < length timestamps → I64 (get_or timestamps j (pos 0) -ℤ get_or timestamps i (pos 0))
   unfolding span
   between i j le b =
-      inner (first ts) (get_or ts i (pos 0)) (get_or ts j (pos 0)) (last ts)
-      (asc-le ts 0 i (pos 0) asc (omega arith) (omega arith)) (asc-le ts i j (pos 0) asc le b) (asc-le ts j (length ts - 1) (pos 0) asc (omega arith) (omega arith)) h
+      inner (first timestamps) (get_or timestamps i (pos 0)) (get_or timestamps j (pos 0)) (last timestamps)
+      (asc-le timestamps 0 i (pos 0) asc (omega arith) (omega arith)) (asc-le timestamps i j (pos 0) asc le b) (asc-le timestamps j (length timestamps - 1) (pos 0) asc (omega arith) (omega arith)) h
 
-  pub gaps-fit : AllByRecursion I64 (gaps ts)
-  gaps-fit = all_of I64 (gaps ts) (pos 0) (λ k b.
-      let n = length-gaps ts in
+  pub gaps-fit : AllByRecursion I64 (gaps timestamps)
+  gaps-fit = all_of I64 (gaps timestamps) (pos 0) (λ k b.
+      let n = length-gaps timestamps in
       let e : k + 1 - 1 ≡ k = omega arith in
-      let g : get_or (gaps ts) k (pos 0) ≡ get_or ts (k + 1) (pos 0) -ℤ get_or ts k (pos 0) = rw e at (gap_at ts (k + 1) (omega arith) (omega arith)) in
+      let g : get_or (gaps timestamps) k (pos 0) ≡ get_or timestamps (k + 1) (pos 0) -ℤ get_or timestamps k (pos 0) = rw e at (gap_at timestamps (k + 1) (omega arith) (omega arith)) in
       rw g (between k (k + 1) (omega arith) (omega arith)))
 
-  pub starts_fit : AllByRecursion I64 (starts_of ts)
-  starts_fit = all_of I64 (starts_of ts) (pos 0) (λ k b.
-      let n = length-starts ts in
-      let inside : k < length ts = omega arith in
-      rw (start-at ts k inside) (between 0 k (omega arith) inside))
+  pub starts_fit : AllByRecursion I64 (starts_of timestamps)
+  starts_fit = all_of I64 (starts_of timestamps) (pos 0) (λ k b.
+      let n = length-starts timestamps in
+      let inside : k < length timestamps = omega arith in
+      rw (start-at timestamps k inside) (between 0 k (omega arith) inside))

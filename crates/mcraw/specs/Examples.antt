@@ -1,4 +1,4 @@
--- Document 01's numbers on a recording, and some beside them. They are the contract of `worked_examples_hold`.
+-- The example of RULES 9.3, and some beside it. They are the contract of `worked_examples_hold`.
 use Rattle.std.specs.Prelude.{ℕ, List, [], ◌∷◌, ℤ, pos, neg_ℤ, Result, Ok}
 use Rattle.examples.specs.Worked.{Worked, is, AllRight}
 use Rattle.refusal.specs.declared.Reason.TheVariants as reason
@@ -9,7 +9,8 @@ use Rattle.mcraw.specs.Mcraw.{mcraw_times, starts_written}
 
 -- of timestamps, with room for so many in both slices: the answer, and the starts
 abbrev pub answered : List ℤ → ℕ → Result FrameTimes Refusal × List ℤ
-answered timestamps room = (mcraw_times timestamps room room, starts_written (mcraw_times timestamps room room) timestamps)
+answered timestamps room =
+    (mcraw_times timestamps room room, starts_written (mcraw_times timestamps room room) timestamps)
 
 -- so many frames, the nominal interval and the end, in nanoseconds
 abbrev pub timed : ℕ → ℤ → ℤ → Result FrameTimes Refusal
@@ -21,7 +22,8 @@ recordings =
     is (answered (pos 1000 ∷ pos 1010 ∷ pos 1025 ∷ []) 3) (timed 3 (pos 10) (pos 35), pos 0 ∷ pos 10 ∷ pos 25 ∷ [])
     -- the lower middle of two intervals, below 0 too, and the middle of three
     ∷ is (answered (neg_ℤ (pos 20) ∷ pos 10 ∷ pos 20 ∷ []) 3) (timed 3 (pos 10) (pos 50), pos 0 ∷ pos 30 ∷ pos 40 ∷ [])
-    ∷ is (answered (pos 0 ∷ pos 9 ∷ pos 10 ∷ pos 15 ∷ []) 5) (timed 4 (pos 5) (pos 20), pos 0 ∷ pos 9 ∷ pos 10 ∷ pos 15 ∷ [])
+    ∷ is (answered (pos 0 ∷ pos 9 ∷ pos 10 ∷ pos 15 ∷ []) 5)
+    (timed 4 (pos 5) (pos 20), pos 0 ∷ pos 9 ∷ pos 10 ∷ pos 15 ∷ [])
     -- one timestamp, and none
     ∷ is (answered (pos 7 ∷ []) 3) (refused reason.Missing 0, [])
     ∷ is (answered [] 3) (refused reason.Missing 0, [])

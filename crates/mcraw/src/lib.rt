@@ -1,4 +1,4 @@
-// The frame times of a MotionCam recording, of its frames' timestamps in nanoseconds.
+// The frame times of a MotionCam recording, of its frames' timestamps in nanoseconds: RULES 9.
 #![tactic(auto)]
 
 ghost use Rattle.std.specs.Prelude.{◌≡◌, ◌-◌, ◌≤◌, length};
@@ -18,11 +18,11 @@ pub const NANOSECONDS: u64 = 1_000_000_000;
 
 // The first timestamp that lies below the one before it.
 #[tactic(auto, using(crate::proofs::Gaps::falling), unfolding(crate::specs::Mcraw::fall_of))]
-fn first_fall(ts: &[i64]) -> Result<(), Refusal>
-    ensures { result ≡ fall_of ts.now }
+fn first_fall(timestamps: &[i64]) -> Result<(), Refusal>
+    ensures { result ≡ fall_of timestamps.now }
 {
-    for i in 1..ts.len() {
-        if ts[i] < ts[i - 1] {
+    for i in 1..timestamps.len() {
+        if timestamps[i] < timestamps[i - 1] {
             return Err(Reason::Falling.at(i));
         }
     }
@@ -30,55 +30,58 @@ fn first_fall(ts: &[i64]) -> Result<(), Refusal>
 }
 
 // Writes each timestamp less the one before it.
-fn write_intervals(ts: &[i64], out: &mut [i64])
-    requires { (length out.old ≡ length ts.now - 1) × AllByRecursion I64 (gaps ts.now) }
-    ensures { out.new ≡ gaps ts.now }
+fn write_intervals(timestamps: &[i64], out: &mut [i64])
+    requires { (length out.old ≡ length timestamps.now - 1)
+        × AllByRecursion I64 (gaps timestamps.now) }
+    ensures { out.new ≡ gaps timestamps.now }
 {
-    for i in 1..ts.len() {
-        out[i - 1] = ts[i] - ts[i - 1];
+    for i in 1..timestamps.len() {
+        out[i - 1] = timestamps[i] - timestamps[i - 1];
     }
 }
 
 // The lower middle one of the intervals, which are moved about in out.
 #[tactic(auto, using(signed::proofs::Bits::back), unfolding(crate::specs::Mcraw::nominal))]
-fn middle_interval(ts: &[i64], out: &mut [i64]) -> i64
-    requires { (2 ≤ length ts.now) × (length out.old ≡ length ts.now - 1) × AllByRecursion I64 (gaps ts.now) }
-    ensures { result ≡ nominal ts.now }
+fn middle_interval(timestamps: &[i64], out: &mut [i64]) -> i64
+    requires { (2 ≤ length timestamps.now) × (length out.old ≡ length timestamps.now - 1)
+        × AllByRecursion I64 (gaps timestamps.now) }
+    ensures { result ≡ nominal timestamps.now }
 {
-    write_intervals(ts, out);
-    selection::select(out, (ts.len() - 2) / 2)
+    write_intervals(timestamps, out);
+    selection::select(out, (timestamps.len() - 2) / 2)
 }
 
 // Writes each timestamp less the first over the start of starts.
-fn write_starts(ts: &[i64], starts: &mut [i64])
-    requires { (length ts.now ≤ length starts.old) × AllByRecursion I64 (starts_of ts.now) }
-    ensures { starts.new ≡ laid (starts_of ts.now) starts.old }
+fn write_starts(timestamps: &[i64], starts: &mut [i64])
+    requires { (length timestamps.now ≤ length starts.old)
+        × AllByRecursion I64 (starts_of timestamps.now) }
+    ensures { starts.new ≡ laid (starts_of timestamps.now) starts.old }
 {
-    for i in 0..ts.len() {
-        starts[i] = ts[i] - ts[0];
+    for i in 0..timestamps.len() {
+        starts[i] = timestamps[i] - timestamps[0];
     }
 }
 
 // Answers with so much room in starts. What work holds afterwards isn't said.
-#[tactic(auto, unfolding(crate::specs::Mcraw::mcraw_times, crate::specs::Mcraw::refusal_of, crate::specs::Mcraw::times_of, crate::specs::Mcraw::span, crate::specs::Mcraw::end, conditions::specs::Conditions::when))]
-fn times_of(ts: &[i64], room: usize, work: &mut [i64]) -> Result<FrameTimes, Refusal>
-    ensures { result ≡ mcraw_times ts.now room (length work.old) }
+#[tactic(auto, unfolding(crate::specs::Mcraw::mcraw_times, crate::specs::Mcraw::refusal_of, crate::specs::Mcraw::times_of, crate::specs::Mcraw::span, crate::specs::Mcraw::end))]
+fn times_of(timestamps: &[i64], room: usize, work: &mut [i64]) -> Result<FrameTimes, Refusal>
+    ensures { result ≡ mcraw_times timestamps.now room (length work.old) }
 {
-    let n = ts.len();
+    let n = timestamps.len();
     if MOST_TIMESTAMPS < n {
         return Err(Reason::TooLong.at(0));
     }
     if n < 2 {
         return Err(Reason::Missing.at(0));
     }
-    first_fall(ts)?;
-    let Some(span) = ts[n - 1].checked_sub(ts[0]) else {
+    first_fall(timestamps)?;
+    let Some(span) = timestamps[n - 1].checked_sub(timestamps[0]) else {
         return Err(Reason::Outside.at(0));
     };
     if (room < n) | (work.len() < n) {
         return Err(Reason::NoRoom.at(0));
     }
-    let nominal = middle_interval(ts, &mut work[..n - 1]);
+    let nominal = middle_interval(timestamps, &mut work[..n - 1]);
     if nominal == 0 {
         return Err(Reason::Missing.at(0));
     }
@@ -95,16 +98,21 @@ fn times_of(ts: &[i64], room: usize, work: &mut [i64]) -> Result<FrameTimes, Ref
 
 // The same, with the starts written where nothing is refused.
 #[tactic(auto, unfolding(crate::specs::Mcraw::mcraw_times, crate::specs::Mcraw::starts_written))]
-fn write_times(ts: &[i64], starts: &mut [i64], work: &mut [i64]) -> Result<FrameTimes, Refusal>
-    ensures { (result ≡ mcraw_times ts.now (length starts.old) (length work.old)) × (starts.new ≡ laid (starts_written result ts.now) starts.old) }
+fn write_times(
+    timestamps: &[i64],
+    starts: &mut [i64],
+    work: &mut [i64],
+) -> Result<FrameTimes, Refusal>
+    ensures { (result ≡ mcraw_times timestamps.now (length starts.old) (length work.old))
+        × (starts.new ≡ laid (starts_written result timestamps.now) starts.old) }
 {
-    let times = times_of(ts, starts.len(), work)?;
-    write_starts(ts, starts);
+    let times = times_of(timestamps, starts.len(), work)?;
+    write_starts(timestamps, starts);
     Ok(times)
 }
 
-// The times of a recording's frames, from `mcraw_times` of the Rust: over starts where each frame starts, counted from
-// the first. The working slice is all zero afterwards.
+// The times of a recording's frames, from `mcraw_times` of the Rust: over starts where each frame
+// starts, counted from the first. The working slice is all zero afterwards.
 pub fn mcraw_times(
     timestamps: &[i64],
     starts: &mut [i64],
@@ -118,7 +126,7 @@ pub fn mcraw_times(
 }
 
 // The definitions give the numbers of specs/Examples.antt.
-#[tactic(auto, unfolding(crate::specs::Mcraw::mcraw_times, crate::specs::Mcraw::refusal_of, crate::specs::Mcraw::times_of, crate::specs::Mcraw::fall_of, crate::specs::Mcraw::gaps, crate::specs::Mcraw::span, crate::specs::Mcraw::nominal, crate::specs::Mcraw::end, crate::specs::Mcraw::starts_of, crate::specs::Mcraw::starts_written, conditions::specs::Conditions::when, refusal::specs::Refusals::first_refused, order::specs::Order::sorted, order::specs::Order::insert))]
+#[tactic(auto, unfolding(crate::specs::Mcraw::mcraw_times, crate::specs::Mcraw::refusal_of, crate::specs::Mcraw::times_of, crate::specs::Mcraw::fall_of, crate::specs::Mcraw::gaps, crate::specs::Mcraw::span, crate::specs::Mcraw::nominal, crate::specs::Mcraw::end, crate::specs::Mcraw::starts_of, crate::specs::Mcraw::starts_written, refusal::specs::Refusals::first_refused, order::specs::Order::sorted, order::specs::Order::insert))]
 pub fn worked_examples_hold()
     ensures { WorkedExamples }
 {}

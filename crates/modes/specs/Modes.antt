@@ -1,4 +1,4 @@
--- Where the standard's reading of composition offsets and the Rust's are the same (document 02, d).
+-- Where the standard's reading of composition offsets and the Rust's are the same (RULES 8.4).
 use Rattle.std.specs.Prelude.{ℕ, ◌<◌, ◌^◌, ◌≡◌, List, get_or, Some}
 use Rattle.std.specs.List.{AllByRecursion}
 use Rattle.boxes.specs.Bytes.{mdia}
@@ -10,12 +10,16 @@ use Rattle.frame_times.specs.Times.{minf, stbl, ctts}
 
 -- the ctts of a moov's first video track; empty where there is none
 abbrev pub ctts_of : List ℕ → List ℕ
-ctts_of moov = child_of ctts (child_of stbl (child_of minf (child_of mdia (part_of moov (found_place (video_track moov))))))
+ctts_of moov =
+    child_of ctts (child_of stbl (child_of minf (child_of mdia (part_of moov (found_place (video_track moov))))))
 
 -- four bytes whose top bit isn't set
 abbrev pub TopClear : ℕ → Type 0
-TopClear x = x < 2 ^ 31
+TopClear word = word < 2 ^ 31
 
--- no entry of a whole ctts of version 0 has an offset with its top bit set: those for no frames, and those past the last frame, count too
+-- no entry of a whole ctts of version 0 has an offset with its top bit set: those for no frames, and those past the
+-- last frame, count too
 abbrev pub NoTopBit : List ℕ → Type 0
-NoTopBit c = (n : ℕ) → optional_entries c ≡ Some n → get_or c 0 0 ≡ 0 → AllByRecursion (λ (e : Run). TopClear e.value) (entries_of n c)
+NoTopBit payload =
+    (n : ℕ) → optional_entries payload ≡ Some n → get_or payload 0 0 ≡ 0
+    → AllByRecursion (λ (run : Run). TopClear run.value) (entries_of n payload)

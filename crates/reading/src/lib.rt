@@ -1,5 +1,5 @@
-// What the programs read. Which bytes the system gives no contract can say; these say how many bytes of the room are held, and of a reader whose
-// bytes are known, that those are its next ones.
+// What the programs read. Which bytes the system gives no contract can say; these say how many
+// bytes of the room are held, and of a reader whose bytes are known, that those are its next ones.
 #![tactic(auto)]
 
 ghost use Rattle.std.specs.Prelude.{◌≡◌, ◌<◌, length, take, IfSome};
@@ -32,11 +32,14 @@ pub struct HeldInput {
     pub end: Ending,
 }
 
-// Reads until the room is full, the input ends, or a read fails. `read_exact` does the same, but doesn't tell how many bytes came before the end.
+// Reads until the room is full, the input ends, or a read fails. `read_exact` does the same, but
+// doesn't tell how many bytes came before the end.
 fn fill<R: Read>(input: &mut R, room: &mut [u8]) -> Progress
     ensures held { IsPrefixLen result.held room.new }
-    ensures bytes { Consumes (R.remaining input.old) (R.remaining input.new) (take result.held room.new) }
-    ensures end { IsNone result.error → result.held < length room.new → IsAtEnd (R.remaining input.new) }
+    ensures bytes { Consumes (R.remaining input.old) (R.remaining input.new)
+        (take result.held room.new) }
+    ensures end { IsNone result.error → result.held < length room.new
+        → IsAtEnd (R.remaining input.new) }
 {
     let mut held = 0;
     while held < room.len() {
@@ -73,7 +76,8 @@ fn after_full<R: Read>(input: &mut R) -> Ending
 #[tactic(auto, using(crate::proofs::Known::all_held))]
 pub fn read_input<R: Read>(input: &mut R, room: &mut [u8]) -> HeldInput
     ensures held { IsPrefixLen result.held room.new }
-    ensures whole { result.end ≡ Within → IfSome (R.remaining input.old) (λ xs. take result.held room.new ≡ xs) }
+    ensures whole { result.end ≡ Within
+        → IfSome (R.remaining input.old) (λ xs. take result.held room.new ≡ xs) }
 {
     let Progress { held, error } = fill(input, room);
     let end = match error {

@@ -13,12 +13,10 @@ abbrev at : List TrimSegment → ℕ → Segment
 at rs = segment_at (all_unsigned rs) (all_signed rs)
 
 length-unsigned : (rs : List TrimSegment) → length (all_unsigned rs) ≡ length rs * 5
-unfolding all_unsigned
 length-unsigned [] = refl
 length-unsigned (r ∷ rs) = let e = length-unsigned rs in omega arith
 
 length-signed : (rs : List TrimSegment) → length (all_signed rs) ≡ length rs * 7
-unfolding all_signed
 length-signed [] = refl
 length-signed (r ∷ rs) = let e = length-signed rs in omega arith
 
@@ -34,7 +32,6 @@ even rs =
 module _ (r : TrimSegment) (rs : List TrimSegment) where
   -- behind the first segment are those of the other records
   next : (k : ℕ) → at (r ∷ rs) (k + 1) ≡ at rs k
-  unfolding all_unsigned all_signed
   next k =
       let u : suc k * 5 ≡ suc (suc (suc (suc (suc (k * 5))))) = omega arith in
       let t : suc k * 7 ≡ suc (suc (suc (suc (suc (suc (suc (k * 7))))))) = omega arith in
@@ -45,7 +42,6 @@ module _ (r : TrimSegment) (rs : List TrimSegment) where
   run-next i (suc n) = λ j. next i j ∷ run-next (i + 1) n j
 
 run-all : (rs : List TrimSegment) → run (at rs) 0 (length rs) ≡ map segment_of rs
-unfolding all_unsigned all_signed
 run-all [] = refl
 run-all (r ∷ rs) = ap (λ l. segment_of r ∷ l) (run-next r rs 0 (length rs) ∙ run-all rs)
 

@@ -1,4 +1,5 @@
-// A layout of a table's segments: a list of records, lent as a slice of structs; and the frame lookup over it.
+// A layout of a table's segments: a list of records, lent as a slice of structs; and the frame
+// lookup over it. RULES 1.6.
 #![tactic(auto)]
 
 ghost use Rattle.std.specs.Prelude.{◌≡◌, false, map, if◌then◌else◌};
@@ -52,25 +53,25 @@ fn flag_of(present: bool) -> u64
 }
 
 // The segment that a record is.
-fn segment_of(r: TrimSegment) -> Segment
-    ensures { result ≡ segment_of r }
+fn segment_of(trim: TrimSegment) -> Segment
+    ensures { result ≡ segment_of trim }
 {
     Segment {
         words: Words {
-            source: r.source,
-            first: r.src_first_frame,
-            count: r.frame_count,
-            out: r.out_first_frame,
-            flag: flag_of(r.shift_present),
+            source: trim.source,
+            first: trim.src_first_frame,
+            count: trim.frame_count,
+            out: trim.out_first_frame,
+            flag: flag_of(trim.shift_present),
         },
         stamps: Stamps {
-            srcstart: r.src_start_us,
-            outstart: r.out_start_us,
-            duration: r.duration_us,
-            srccap: r.src_capture_start_us,
-            outcap: r.out_capture_start_us,
-            capdur: r.capture_duration_us,
-            shift: r.clock_shift,
+            source_start: trim.src_start_us,
+            out_start: trim.out_start_us,
+            duration: trim.duration_us,
+            source_capture_start: trim.src_capture_start_us,
+            out_capture_start: trim.out_capture_start_us,
+            capture_duration: trim.capture_duration_us,
+            shift: trim.clock_shift,
         },
     }
 }
@@ -84,7 +85,7 @@ pub struct Records<'a> {
 impl Segments for Records<'_> {
     ghost uneven = { λ _. false };
 
-    ghost listed = { λ r. map segment_of r.all.now };
+    ghost listed = { λ records. map segment_of records.all.now };
 
     fn is_uneven(&self) -> bool {
         false
@@ -110,7 +111,8 @@ pub fn of_records<'a>(
     log: bool,
     text: &'a [u8],
 ) -> SegmentTable<'a, Records<'a>>
-    ensures { result ≡ table_of sources.now (all_unsigned records.now) (all_signed records.now) log text.now }
+    ensures { result ≡
+        table_of sources.now (all_unsigned records.now) (all_signed records.now) log text.now }
 {
     SegmentTable {
         sources: Sources { words: sources },
@@ -120,7 +122,7 @@ pub fn of_records<'a>(
     }
 }
 
-// The segment that has a frame; past the last frame, the last segment. The Rust's segment_of_frame, over its own records.
+// The segment that has a frame; past the last frame, the last segment.
 #[tactic(auto, unfolding(crate::specs::Records::locate))]
 pub fn segment_of_frame_records(
     sources: &[u64],

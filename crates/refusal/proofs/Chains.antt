@@ -1,17 +1,16 @@
 -- Chains of tests that refuse: what an answer says of each link. Assumes nothing.
 use mathlib.Core.Path.{◌≡◌, refl}
 use mathlib.Core.Bool.{Bool, true, false}
-use Rattle.std.specs.Prelude.{Result, Ok, Err}
+use Rattle.std.specs.Prelude.{Result, Ok, Err, if◌then◌else◌}
 use Rattle.std.specs.Result.{result_and}
 use native.Mathlib.Omega.{arith}
-use Rattle.conditions.specs.Conditions.{when}
 
 module _ {A E : Type 0} where
   -- a test that refuses didn't hold
-  pub when-ok : (b : Bool) (e : E) (rest : Result A E) (a : A) → when b (Err e) rest ≡ Ok a → (b ≡ false) × (rest ≡ Ok a)
-  unfolding when
-  when-ok true e rest a h = absurd (grind arith)
-  when-ok false e rest a h = (refl, h)
+  pub if-ok : (b : Bool) (e : E) (rest : Result A E) (a : A) → (if b then Err e else rest) ≡ Ok a
+      → (b ≡ false) × (rest ≡ Ok a)
+  if-ok true e rest a h = absurd (grind arith)
+  if-ok false e rest a h = (refl, h)
 
   -- neither of two refused
   pub and-ok : (x : Result (Unit {0}) E) (y : Result A E) (a : A) → result_and x y ≡ Ok a → (x ≡ Ok tt) × (y ≡ Ok a)

@@ -1,4 +1,5 @@
--- The first record that a rule refuses: what it says of each record, and the loop that looks for it, a law for a turn, one for a find and one for the end. Assumes nothing.
+-- The first record that a rule refuses: what it says of each record, and the loop that looks for it, a law for a turn,
+-- one for a find and one for the end. Assumes nothing.
 use Prim.Native.Nat.{ℕ, zero, suc, ◌+◌, ◌-◌, ◌≤◌, ◌<◌}
 use Rattle.slices.proofs.Ranges.{run, run-cons, run-nil}
 use native.Mathlib.Nat.{le_of_suc-le-suc, not-suc-le-zero, add-zero}
@@ -20,19 +21,22 @@ module _ {A : Type 0} (rule : A → Result (Unit {0}) Reason) where
   unrefused i (Err r) e = absurd (grind arith)
 
   -- no record is refused exactly where the rule refuses none
-  pub none-refused : (i : ℕ) (l : List A) (d : A) → first_refused rule i l ≡ Ok tt → (k : ℕ) → k < length l → rule (get_or l k d) ≡ Ok tt
+  pub none-refused : (i : ℕ) (l : List A) (d : A) → first_refused rule i l ≡ Ok tt → (k : ℕ) → k < length l
+      → rule (get_or l k d) ≡ Ok tt
   unfolding first_refused
   none-refused i [] d e k h = absurd (not-suc-le-zero h)
   none-refused i (x ∷ l) d e zero h = unrefused i (rule x) (and-ok (indexed i (rule x)) (first_refused rule (suc i) l) tt e).0
   none-refused i (x ∷ l) d e (suc k) h = none-refused (suc i) l d (and-ok (indexed i (rule x)) (first_refused rule (suc i) l) tt e).1 k (le_of_suc-le-suc h)
 
-  pub refuses-none : (i : ℕ) (l : List A) (d : A) → ((k : ℕ) → k < length l → rule (get_or l k d) ≡ Ok tt) → first_refused rule i l ≡ Ok tt
+  pub refuses-none : (i : ℕ) (l : List A) (d : A) → ((k : ℕ) → k < length l → rule (get_or l k d) ≡ Ok tt)
+      → first_refused rule i l ≡ Ok tt
   unfolding first_refused
   refuses-none i [] d h = refl
   refuses-none i (x ∷ l) d h = rw (h 0 (omega arith)) (refuses-none (suc i) l d (λ k b. h (suc k) (omega arith)))
 
   -- the record that is refused, where none before it is
-  pub first-refused : (i : ℕ) (l : List A) (d : A) (k : ℕ) (reason : Reason) → k < length l → ((j : ℕ) → j < k → rule (get_or l j d) ≡ Ok tt) → rule (get_or l k d) ≡ Err reason
+  pub first-refused : (i : ℕ) (l : List A) (d : A) (k : ℕ) (reason : Reason) → k < length l
+      → ((j : ℕ) → j < k → rule (get_or l j d) ≡ Ok tt) → rule (get_or l k d) ≡ Err reason
       → first_refused rule i l ≡ refused reason (i + k)
   unfolding first_refused
   first-refused i [] d k reason h p q = absurd (not-suc-le-zero h)
@@ -43,14 +47,17 @@ module _ {A : Type 0} (rule : A → Result (Unit {0}) Reason) where
 
   -- a loop's invariant is `first_refused rule k (run f k (m - k)) ≡ x`, with x the whole answer
   module _ (f : ℕ → A) (k m : ℕ) where
-    first-cons : k < m → first_refused rule k (run f k (m - k)) ≡ result_and (indexed k (rule (f k))) (first_refused rule (k + 1) (run f (k + 1) (m - (k + 1))))
+    first-cons : k < m → first_refused rule k (run f k (m - k))
+        ≡ result_and (indexed k (rule (f k))) (first_refused rule (k + 1) (run f (k + 1) (m - (k + 1))))
     unfolding first_refused
     first-cons h = ap (first_refused rule k) (run-cons f k m h) ∙ rw add-one
 
-    pub first-turn : {x : Result (Unit {0}) Refusal} → k < m → rule (f k) ≡ Ok tt → first_refused rule k (run f k (m - k)) ≡ x → first_refused rule (k + 1) (run f (k + 1) (m - (k + 1))) ≡ x
+    pub first-turn : {x : Result (Unit {0}) Refusal} → k < m → rule (f k) ≡ Ok tt
+        → first_refused rule k (run f k (m - k)) ≡ x → first_refused rule (k + 1) (run f (k + 1) (m - (k + 1))) ≡ x
     first-turn h e i = sym (first-cons h ∙ rw e) ∙ i
 
-    pub first-hit : {reason : Reason} {x : Result (Unit {0}) Refusal} → k < m → rule (f k) ≡ Err reason → first_refused rule k (run f k (m - k)) ≡ x → refused reason k ≡ x
+    pub first-hit : {reason : Reason} {x : Result (Unit {0}) Refusal} → k < m → rule (f k) ≡ Err reason
+        → first_refused rule k (run f k (m - k)) ≡ x → refused reason k ≡ x
     first-hit h e i = sym (first-cons h ∙ rw e) ∙ i
 
     pub first-end : {x : Result (Unit {0}) Refusal} → m ≤ k → first_refused rule k (run f k (m - k)) ≡ x → Ok tt ≡ x

@@ -14,10 +14,11 @@ refused reason index = Err (refusal_at reason index)
 
 -- a record's own answer, as one about many: its reason gets the record's index
 abbrev pub indexed : {A : Type 0} → ℕ → Result A Reason → Result A Refusal
-indexed index (Ok a) = Ok a
+indexed index (Ok x) = Ok x
 indexed index (Err reason) = refused reason index
 
--- the refusal of the first record of a list that a rule refuses, where the list's first is the i-th
-unfoldable pub first_refused : {A : Type 0} → (A → Result (Unit {0}) Reason) → ℕ → List A → Result (Unit {0}) Refusal
+-- the refusal of the first record of a list that a rule refuses, where the list's first is number i
+unfoldable pub first_refused :
+    {A : Type 0} → (A → Result (Unit {0}) Reason) → ℕ → List A → Result (Unit {0}) Refusal
 first_refused rule i [] = Ok tt
-first_refused rule i (a ∷ l) = result_and (indexed i (rule a)) (first_refused rule (suc i) l)
+first_refused rule i (x ∷ xs) = result_and (indexed i (rule x)) (first_refused rule (suc i) xs)

@@ -1,4 +1,5 @@
-// Why a call refuses: one reason, and the index of what it is about. A call that can refuse answers `Result<T, Refusal>`.
+// Why a call refuses: one reason, and the index of what it is about (RULES 2). A call that can
+// refuse answers `Result<T, Refusal>`.
 #![tactic(auto)]
 
 ghost use Rattle.std.specs.Prelude.{◌≡◌, ◌<◌};
@@ -6,11 +7,12 @@ ghost use Rattle.refusal.specs.declared.Reason.{Reason};
 ghost use Rattle.refusal.specs.Reasons.{number};
 ghost use Rattle.refusal.specs.Refusals.{refusal_at};
 
-// The reasons, each with its number, which a C caller is told, and with its words before it; the header's list is made of these.
+// The reasons, each with its number, which a C caller is told, and its words before it: RULES 2.4.
+// tools/header makes the header's list of these.
 #[derive(Clone, Copy, PartialEq, Eq)]
 pub enum Reason {
-    // a slice length isn't a multiple of its record, the two segment slices disagree, a flag or kind is outside its set,
-    // or a present creation time's range leaves the text
+    // a slice length isn't a multiple of its record, the two segment slices disagree, a flag or
+    // kind is outside its set, or a present creation time's range leaves the text
     Malformed = 1,
     // over 64 sources or 512 segments
     OverLimit = 2,
@@ -36,8 +38,8 @@ pub enum Reason {
     PastSource = 12,
     // segment: any of the six times negative
     NegativeTime = 13,
-    // segment: source start plus duration, or the capture pair, passes 2^63 - 1; tested after 16, out start plus duration
-    // or its capture pair does
+    // segment: source start plus duration, or the capture pair, passes 2^63 - 1; tested after 16,
+    // out start plus duration or its capture pair does
     TooLate = 14,
     // segment: out first frame isn't the end before (0 for the first)
     FrameGap = 15,
@@ -55,13 +57,14 @@ pub enum Reason {
     NoFrameTime = 23,
     // a segment's frame time differs from out start
     OtherFrameTime = 24,
-    // the end isn't near: |2 end_us scale - 2 end 1,000,000| is over 2 nominal 1,000,000 + scale, where end_us is the last
-    // segment's out start plus duration; the nominal of a constant video is its denominator, and its scale the numerator
+    // the end isn't near: |2 end_us scale - 2 end 1,000,000| is over 2 nominal 1,000,000 + scale,
+    // where end_us is the last segment's out start plus duration; the nominal of a constant video
+    // is its denominator, and its scale the numerator
     EndNotNear = 25,
     // over 16,777,216 bytes or timestamps
     TooLong = 30,
-    // missing: the boxes end (fewer than 8 bytes are left) without the one that is looked for, or no frame times can be had;
-    // of `box_size`, no size is whole and fits
+    // missing: the boxes end (fewer than 8 bytes are left) without the one that is looked for, or
+    // no frame times can be had; of `box_size`, no size is whole and fits
     Missing = 31,
     // lent room too small (of `cut`, `cuts`, `join` and `merge` that is 52)
     NoRoom = 32,
@@ -71,8 +74,9 @@ pub enum Reason {
     Falling = 34,
     // recording whose frame times can't be had: no frames, or a nominal interval of 0
     NoRecordingTimes = 35,
-    // broken: before what is looked for stands a broken box header, at the index: its size isn't whole or doesn't fit, or, of
-    // `find_box` with text_types, its type has a byte outside 20..7E hex
+    // broken: before what is looked for stands a broken box header, at the index: its size isn't
+    // whole or doesn't fit, or, of `find_box` with text_types, its type has a byte outside
+    // 20..7E hex
     Broken = 36,
     // no MTRM box: no moov, no udta in it, or none in that
     NoTable = 40,
@@ -84,7 +88,8 @@ pub enum Reason {
     BadRange = 50,
     // map rows malformed, slice lengths that disagree, or no rows
     BadRows = 51,
-    // over 1,024 rows in or out (all cuts of one call together may have more), or lent room too small
+    // over 1,024 rows in or out (all cuts of one call together may have more), or lent room
+    // too small
     RowsDontFit = 52,
     // joined frames pass 2^64 - 1
     JoinWraps = 53,
@@ -92,8 +97,7 @@ pub enum Reason {
     PastMap = 54,
 }
 
-// A refusal. The index says which source, segment, row, range or timestamp it is about, or where a broken box header stands; 0 where
-// it is about none of these.
+// A refusal. RULES 2.2 says what its index is.
 #[derive(Clone, Copy, PartialEq, Eq)]
 pub struct Refusal {
     pub reason: Reason,

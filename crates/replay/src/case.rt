@@ -1,4 +1,5 @@
-// A case is a line of words: the name of a call, and then its arguments (compare/README.md has their forms).
+// A case is a line of words: the name of a call, and then its arguments (compare/README.md has
+// their forms).
 use std::alloc::{AllocError, AllocFailed, Global};
 use steps::{Integer, Number};
 
@@ -22,7 +23,8 @@ impl<T: Drop> From<AllocFailed<T>> for Fault {
     }
 }
 
-// What of a line isn't read yet. Words are bytes, with spaces, tabs or carriage returns between them.
+// What of a line isn't read yet. Words are bytes, with spaces, tabs or carriage returns between
+// them.
 #[derive(Drop)]
 pub struct Case<'a> {
     rest: &'a [u8],
@@ -108,7 +110,8 @@ impl Argument for bool {
     }
 }
 
-// A list: how many elements, and then each. Nothing is reserved by the count alone: its words may not be there.
+// A list: how many elements, and then each. Nothing is reserved by the count alone: its words may
+// not be there.
 impl<T: Argument> Argument for Vec<T> {
     fn read(case: &mut Case<'_>) -> Result<Vec<T>, Fault> {
         let n: u64 = case.take()?;
@@ -120,7 +123,8 @@ impl<T: Argument> Argument for Vec<T> {
     }
 }
 
-// Bytes: how many, and then, unless that is 0, one word of two hex digits each, no letter of which is upper-case.
+// Bytes: how many, and then, unless that is 0, one word of two hex digits each, no letter of which
+// is upper-case.
 #[derive(Drop)]
 pub struct Bytes(pub Vec<u8>);
 

@@ -37,13 +37,13 @@ impl Values for Origin {
 // cut MAP A B ROOM ROOM
 pub fn cut(case: &mut Case<'_>, line: &mut Line) -> Result<(), Fault> {
     let map: Map = case.take()?;
-    let a = case.take()?;
-    let b = case.take()?;
+    let start = case.take()?;
+    let end = case.take()?;
     let mut rows: Rows = case.take()?;
     case.end()?;
-    let (u, s) = map.lend();
-    let (ou, os) = rows.lend();
-    let answer = maps::cut(u, s, a, b, ou, os);
+    let (words, shifts) = map.lend();
+    let (out_words, out_shifts) = rows.lend();
+    let answer = maps::cut(words, shifts, start, end, out_words, out_shifts);
     line.rows(answer, &rows)
 }
 
@@ -53,10 +53,17 @@ pub fn join(case: &mut Case<'_>, line: &mut Line) -> Result<(), Fault> {
     let second: Map = case.take()?;
     let mut rows: Rows = case.take()?;
     case.end()?;
-    let (u, s) = first.lend();
-    let (v, t) = second.lend();
-    let (ou, os) = rows.lend();
-    let answer = maps::join(u, s, v, t, ou, os);
+    let (words, shifts) = first.lend();
+    let (second_words, second_shifts) = second.lend();
+    let (out_words, out_shifts) = rows.lend();
+    let answer = maps::join(
+        words,
+        shifts,
+        second_words,
+        second_shifts,
+        out_words,
+        out_shifts,
+    );
     line.rows(answer, &rows)
 }
 
@@ -65,9 +72,9 @@ pub fn merge(case: &mut Case<'_>, line: &mut Line) -> Result<(), Fault> {
     let map: Map = case.take()?;
     let mut rows: Rows = case.take()?;
     case.end()?;
-    let (u, s) = map.lend();
-    let (ou, os) = rows.lend();
-    let answer = maps::merge(u, s, ou, os);
+    let (words, shifts) = map.lend();
+    let (out_words, out_shifts) = rows.lend();
+    let answer = maps::merge(words, shifts, out_words, out_shifts);
     line.rows(answer, &rows)
 }
 
@@ -76,8 +83,8 @@ pub fn origin(case: &mut Case<'_>, line: &mut Line) -> Result<(), Fault> {
     let map: Map = case.take()?;
     let frame = case.take()?;
     case.end()?;
-    let (u, s) = map.lend();
-    line.answer(maps::origin(u, s, frame))
+    let (words, shifts) = map.lend();
+    line.answer(maps::origin(words, shifts, frame))
 }
 
 // cuts MAP RANGES ROOM ROOM ROOM
@@ -87,9 +94,16 @@ pub fn cuts(case: &mut Case<'_>, line: &mut Line) -> Result<(), Fault> {
     let mut rows: Rows = case.take()?;
     let mut counts: Room<u64> = case.take()?;
     case.end()?;
-    let (u, s) = map.lend();
-    let (ou, os) = rows.lend();
-    let answer = cuts::cuts(u, s, ranges.as_slice(), ou, os, counts.lend());
+    let (words, shifts) = map.lend();
+    let (out_words, out_shifts) = rows.lend();
+    let answer = cuts::cuts(
+        words,
+        shifts,
+        ranges.as_slice(),
+        out_words,
+        out_shifts,
+        counts.lend(),
+    );
     line.rows(answer, &rows)?;
     line.written(&counts, answer.map_or(0, |_| ranges.len() / 2))
 }

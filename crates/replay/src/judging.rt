@@ -7,8 +7,8 @@ use judge::Video;
 
 // A table against a video.
 fn validate(line: &mut Line, table: &Table, video: Video, starts: &[i64]) -> Result<(), Fault> {
-    let (sources, u, t, log, text) = table.lend();
-    line.answer(judge::validate(sources, u, t, log, text, video, starts))
+    let (sources, words, stamps, log, text) = table.lend();
+    line.answer(judge::validate(sources, words, stamps, log, text, video, starts))
 }
 
 // validate_no_video TABLE
@@ -22,10 +22,19 @@ pub fn validate_no_video(case: &mut Case<'_>, line: &mut Line) -> Result<(), Fau
 pub fn validate_constant(case: &mut Case<'_>, line: &mut Line) -> Result<(), Fault> {
     let table: Table = case.take()?;
     let frames = case.take()?;
-    let num = case.take()?;
-    let den = case.take()?;
+    let numerator = case.take()?;
+    let denominator = case.take()?;
     case.end()?;
-    validate(line, &table, Video::Constant { frames, num, den }, &[])
+    validate(
+        line,
+        &table,
+        Video::Constant {
+            frames,
+            numerator,
+            denominator,
+        },
+        &[],
+    )
 }
 
 // validate_times TABLE SCALE STARTS END NOMINAL
@@ -48,21 +57,21 @@ pub fn validate_times(case: &mut Case<'_>, line: &mut Line) -> Result<(), Fault>
 pub fn check_mcraw(case: &mut Case<'_>, line: &mut Line) -> Result<(), Fault> {
     let table: Table = case.take()?;
     let timestamps: Vec<i64> = case.take()?;
-    let mut work_a: Room<i64> = case.take()?;
-    let mut work_b: Room<i64> = case.take()?;
+    let mut first_work: Room<i64> = case.take()?;
+    let mut second_work: Room<i64> = case.take()?;
     case.end()?;
-    let (sources, u, t, log, text) = table.lend();
+    let (sources, words, stamps, log, text) = table.lend();
     let answer = judge::check_mcraw(
         sources,
-        u,
-        t,
+        words,
+        stamps,
         log,
         text,
         timestamps.as_slice(),
-        work_a.lend(),
-        work_b.lend(),
+        first_work.lend(),
+        second_work.lend(),
     );
-    line.cleared(&work_a);
-    line.cleared(&work_b);
+    line.cleared(&first_work);
+    line.cleared(&second_work);
     line.answer(answer)
 }

@@ -10,40 +10,45 @@ use std::alloc::Global;
 use table::layout::{STAMPS, WORDS};
 
 // Record k of the words.
-fn record_at(u: &[u64], t: &[i64], k: usize) -> TrimSegment
-    requires { (k * segment_words + segment_words ≤ length u.now) × (k * segment_stamps + segment_stamps ≤ length t.now) }
-    ensures { HasWords result (words_at u.now k) × (stamps_of result ≡ stamps_at t.now k) }
+fn record_at(words: &[u64], stamps: &[i64], k: usize) -> TrimSegment
+    requires { (k * segment_words + segment_words ≤ length words.now)
+        × (k * segment_stamps + segment_stamps ≤ length stamps.now) }
+    ensures { HasWords result (words_at words.now k) × (stamps_of result ≡ stamps_at stamps.now k) }
 {
-    let b = k * WORDS;
-    let d = k * STAMPS;
+    let first_word = k * WORDS;
+    let first_stamp = k * STAMPS;
     TrimSegment {
-        source: u[b],
-        src_first_frame: u[b + 1],
-        frame_count: u[b + 2],
-        out_first_frame: u[b + 3],
-        src_start_us: t[d],
-        out_start_us: t[d + 1],
-        duration_us: t[d + 2],
-        src_capture_start_us: t[d + 3],
-        out_capture_start_us: t[d + 4],
-        capture_duration_us: t[d + 5],
-        shift_present: u[b + 4] == 1,
-        clock_shift: t[d + 6],
+        source: words[first_word],
+        src_first_frame: words[first_word + 1],
+        frame_count: words[first_word + 2],
+        out_first_frame: words[first_word + 3],
+        src_start_us: stamps[first_stamp],
+        out_start_us: stamps[first_stamp + 1],
+        duration_us: stamps[first_stamp + 2],
+        src_capture_start_us: stamps[first_stamp + 3],
+        out_capture_start_us: stamps[first_stamp + 4],
+        capture_duration_us: stamps[first_stamp + 5],
+        shift_present: words[first_word + 4] == 1,
+        clock_shift: stamps[first_stamp + 6],
     }
 }
 
-// The records of the words, which are malformed where they aren't whole records, each with a flag of 0 or 1.
-pub fn records_of(alloc: Global, u: &[u64], t: &[i64]) -> Result<Vec<TrimSegment>, Fault> {
-    let n = u.len() / WORDS;
-    if u.len() != n * WORDS || t.len() / STAMPS != n || t.len() % STAMPS != 0 {
+// The records of the words, which are malformed where they aren't whole records, each with a flag
+// of 0 or 1.
+pub fn records_of(alloc: Global, words: &[u64], stamps: &[i64]) -> Result<Vec<TrimSegment>, Fault> {
+    let count = words.len() / WORDS;
+    if words.len() != count * WORDS
+        || stamps.len() / STAMPS != count
+        || stamps.len() % STAMPS != 0
+    {
         return Err(Fault::Malformed);
     }
     let mut list = Vec::new(alloc);
-    for k in 0..n {
-        if 1 < u[k * WORDS + 4] {
+    for k in 0..count {
+        if 1 < words[k * WORDS + 4] {
             return Err(Fault::Malformed);
         }
-        list.push(record_at(u, t, k))?;
+        list.push(record_at(words, stamps, k))?;
     }
     Ok(list)
 }

@@ -1,5 +1,6 @@
-// replay FILE..: the library's calls on stored cases. A file has a case a line, and each line is answered by one. In the stored run the
-// files are those of data/, and stdout has the answers that they are held to, one file after the other (compare/README.md).
+// replay FILE..: the library's calls on stored cases. A file has a case a line, and each line is
+// answered by one. In the stored run the files are those of data/, and stdout has the answers that
+// they are held to, one file after the other (compare/README.md).
 #![tactic(auto)]
 
 mod case;
@@ -63,7 +64,8 @@ fn answer(alloc: Global, text: &[u8]) -> Result<String, AllocError> {
     }
 }
 
-// Answers all cases of a file, a line each. They are bytes: one that is no text is malformed, and those after it are answered.
+// Answers all cases of a file, a line each. They are bytes: one that is no text is malformed, and
+// those after it are answered.
 fn replay<R: Files + AllocGlobal + Print>(rt: &R, name: &str) -> io::Result<()> {
     let cases = BufReader::new(rt.alloc(), fs::open(rt, name)?)?;
     let mut out = BufWriter::new(rt.alloc(), io::writer(rt))?;
@@ -74,7 +76,8 @@ fn replay<R: Files + AllocGlobal + Print>(rt: &R, name: &str) -> io::Result<()> 
     out.flush()
 }
 
-// Answers the files that are named, up to the first that can't be opened or read, or whose answers can't be written.
+// Answers the files that are named, up to the first that can't be opened or read, or whose answers
+// can't be written.
 fn main(rt: HostRuntime) -> io::Result<ExitCode> {
     for name in env::args(&rt)?.skip(1) {
         if let Err(error) = replay(&rt, name.as_str()) {

@@ -47,8 +47,8 @@ impl Table {
 pub fn check(case: &mut Case<'_>, line: &mut Line) -> Result<(), Fault> {
     let table: Table = case.take()?;
     case.end()?;
-    let (sources, u, t, log, text) = table.lend();
-    line.answer(table::check(sources, u, t, log, text))
+    let (sources, words, stamps, log, text) = table.lend();
+    line.answer(table::check(sources, words, stamps, log, text))
 }
 
 // segment_of_frame TABLE FRAME
@@ -56,8 +56,8 @@ pub fn segment_of_frame(case: &mut Case<'_>, line: &mut Line) -> Result<(), Faul
     let table: Table = case.take()?;
     let frame = case.take()?;
     case.end()?;
-    let (sources, u, t, log, text) = table.lend();
-    line.answer(lookup::segment_of_frame(sources, u, t, log, text, frame))
+    let (sources, words, stamps, log, text) = table.lend();
+    line.answer(lookup::segment_of_frame(sources, words, stamps, log, text, frame))
 }
 
 // segment_of_frame_records TABLE FRAME, where the table's words are lent as records
@@ -65,8 +65,8 @@ pub fn segment_of_frame_records(case: &mut Case<'_>, line: &mut Line) -> Result<
     let table: Table = case.take()?;
     let frame = case.take()?;
     case.end()?;
-    let (sources, u, t, log, text) = table.lend();
-    let list = listed::records_of(case.alloc(), u, t)?;
+    let (sources, words, stamps, log, text) = table.lend();
+    let list = listed::records_of(case.alloc(), words, stamps)?;
     let records = list.as_slice();
     line.answer(records::segment_of_frame_records(sources, text, records, log, frame))
 }
@@ -76,8 +76,8 @@ pub fn segment_of_time_us(case: &mut Case<'_>, line: &mut Line) -> Result<(), Fa
     let table: Table = case.take()?;
     let time = case.take()?;
     case.end()?;
-    let (sources, u, t, log, text) = table.lend();
-    line.answer(lookup::segment_of_time_us(sources, u, t, log, text, time))
+    let (sources, words, stamps, log, text) = table.lend();
+    line.answer(lookup::segment_of_time_us(sources, words, stamps, log, text, time))
 }
 
 // continues TABLE SEGMENT
@@ -85,8 +85,8 @@ pub fn continues(case: &mut Case<'_>, line: &mut Line) -> Result<(), Fault> {
     let table: Table = case.take()?;
     let segment = case.take()?;
     case.end()?;
-    let (sources, u, t, log, text) = table.lend();
-    line.answer(lookup::continues(sources, u, t, log, text, segment))
+    let (sources, words, stamps, log, text) = table.lend();
+    line.answer(lookup::continues(sources, words, stamps, log, text, segment))
 }
 
 // segments_of_frames TABLE FRAMES ROOM
@@ -95,9 +95,9 @@ pub fn segments_of_frames(case: &mut Case<'_>, line: &mut Line) -> Result<(), Fa
     let frames: Vec<u64> = case.take()?;
     let mut out: Room<u64> = case.take()?;
     case.end()?;
-    let (sources, u, t, log, text) = table.lend();
+    let (sources, words, stamps, log, text) = table.lend();
     let frames = frames.as_slice();
-    let answer = lookups::segments_of_frames(sources, u, t, log, text, frames, out.lend());
+    let answer = lookups::segments_of_frames(sources, words, stamps, log, text, frames, out.lend());
     line.answer(answer)?;
     line.written(&out, answer.unwrap_or(0))
 }
@@ -107,8 +107,10 @@ pub fn rows_of_table(case: &mut Case<'_>, line: &mut Line) -> Result<(), Fault> 
     let table: Table = case.take()?;
     let mut rows: Rows = case.take()?;
     case.end()?;
-    let (sources, u, t, log, text) = table.lend();
-    let (ou, os) = rows.lend();
-    let answer = table_rows::rows_of_table(sources, u, t, log, text, ou, os);
+    let (sources, words, stamps, log, text) = table.lend();
+    let (out_words, out_shifts) = rows.lend();
+    let answer = table_rows::rows_of_table(
+        sources, words, stamps, log, text, out_words, out_shifts,
+    );
     line.rows(answer, &rows)
 }

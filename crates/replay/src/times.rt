@@ -29,18 +29,18 @@ pub fn video_frame_times_of_moov(case: &mut Case<'_>, line: &mut Line) -> Result
     let Bytes(moov) = case.take()?;
     let standard = case.take()?;
     let mut starts: Room<i64> = case.take()?;
-    let mut work_a: Room<i64> = case.take()?;
-    let mut work_b: Room<i64> = case.take()?;
+    let mut first_work: Room<i64> = case.take()?;
+    let mut second_work: Room<i64> = case.take()?;
     case.end()?;
     let answer = frame_times::video_frame_times_of_moov(
         moov.as_slice(),
         standard,
         starts.lend(),
-        work_a.lend(),
-        work_b.lend(),
+        first_work.lend(),
+        second_work.lend(),
     );
-    line.cleared(&work_a);
-    line.cleared(&work_b);
+    line.cleared(&first_work);
+    line.cleared(&second_work);
     say_times(line, answer, &starts)
 }
 

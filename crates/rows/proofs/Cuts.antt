@@ -17,7 +17,8 @@ use Rattle.rows.specs.Demands.{Tiles}
 use Rattle.rows.proofs.Origins.{row-eq, holds-in, holds-before, holds_after, holds-lo, Place, inside, before, after, place}
 
 -- frame k of the cut has the origin of frame a + k
-clip-holds : (a b : ℕ) (r : Row) (k : ℕ) → k < b - a → max a r.out < min b (row_end r) → holds (clip a b r) k ≡ holds r (a + k)
+clip-holds : (a b : ℕ) (r : Row) (k : ℕ) → k < b - a → max a r.out < min b (row_end r)
+    → holds (clip a b r) k ≡ holds r (a + k)
 clip-holds a b r k h o = go (place r (a + k))
   where
     go : Place r (a + k) → holds (clip a b r) k ≡ holds r (a + k)
@@ -36,16 +37,17 @@ skip-holds a b r k h o = go (place r (a + k))
     go (before u) = holds-before r (a + k) u
     go (after l) = holds_after r (a + k) l
 
-pub cut-origin : (m : List Row) (a b k : ℕ) → k < b - a → origin (cut a b m) k ≡ origin m (a + k)
-cut-origin [] a b k h = refl
-cut-origin (r ∷ m) a b k h = go (test (overlaps a b r)) (cut-origin m a b k h)
+pub cut_origin : (m : List Row) (a b k : ℕ) → k < b - a → origin (cut a b m) k ≡ origin m (a + k)
+cut_origin [] a b k h = refl
+cut_origin (r ∷ m) a b k h = go (test (overlaps a b r)) (cut_origin m a b k h)
   where
     in_row : Test (holds r (a + k)) → max a r.out < min b (row_end r) → origin (cut a b m) k ≡ origin m (a + k)
         → (if holds (clip a b r) k then Some (origin_in (clip a b r) k) else origin (cut a b m) k) ≡ (if holds r (a + k) then Some (origin_in r (a + k)) else origin m (a + k))
     in_row (was e) o ih = rw (clip-holds a b r k h o, e, clip-origin a b r k (holds-lo r (a + k) e))
     in_row (wasnt e) o ih = rw (clip-holds a b r k h o, e) ih
 
-    go : Test (overlaps a b r) → origin (cut a b m) k ≡ origin m (a + k) → origin (cut a b (r ∷ m)) k ≡ origin (r ∷ m) (a + k)
+    go : Test (overlaps a b r) → origin (cut a b m) k ≡ origin m (a + k)
+        → origin (cut a b (r ∷ m)) k ≡ origin (r ∷ m) (a + k)
     go (was e) ih = rw e (in_row (test (holds r (a + k))) (ltb-true _ _ e) ih)
     go (wasnt e) ih = rw (e, skip-holds a b r k h (ltb-false _ _ e)) ih
 
@@ -109,11 +111,12 @@ module _ (a b c d : ℕ) (r : Row) (h : d ≤ b - a) where
       (rw (clip-end a b r.out (row_end r) o) (sub_same a _ _ _ _ (hi-same a b d (row_end r) o.ab o.ae h) (lo-same a c r.out)))
       (omega arith) refl refl
 
-pub cut-cut : (m : List Row) (a b c d : ℕ) → d ≤ b - a → cut c d (cut a b m) ≡ cut (a + c) (a + d) m
-cut-cut [] a b c d h = refl
-cut-cut (r ∷ m) a b c d h = go (test (overlaps a b r)) (cut-cut m a b c d h)
+pub cut_cut : (m : List Row) (a b c d : ℕ) → d ≤ b - a → cut c d (cut a b m) ≡ cut (a + c) (a + d) m
+cut_cut [] a b c d h = refl
+cut_cut (r ∷ m) a b c d h = go (test (overlaps a b r)) (cut_cut m a b c d h)
   where
-    go : Test (overlaps a b r) → cut c d (cut a b m) ≡ cut (a + c) (a + d) m → cut c d (cut a b (r ∷ m)) ≡ cut (a + c) (a + d) (r ∷ m)
+    go : Test (overlaps a b r) → cut c d (cut a b m) ≡ cut (a + c) (a + d) m
+        → cut c d (cut a b (r ∷ m)) ≡ cut (a + c) (a + d) (r ∷ m)
     go (was e) ih =
         let o = over a b r.out (row_end r) (ltb-true _ _ e) in
         rw (e, clip-over a b c d r h o, clip-clip a b c d r h o, ih)
@@ -131,7 +134,8 @@ cut-tiles (r ∷ m) p a b t = go (test (overlaps a b r)) (le-or-lt (row_end r) b
     none : b ≤ row_end r → cut a b m ≡ []
     none h = cut-none m (p + r.count) a b t.2 (omega (arith, t.0))
 
-    go : Test (overlaps a b r) → (row_end r ≤ b) ⊎ (b < row_end r) → Tiles (p + r.count - a) (cut a b m) → Tiles (p - a) (cut a b (r ∷ m))
+    go : Test (overlaps a b r) → (row_end r ≤ b) ⊎ (b < row_end r) → Tiles (p + r.count - a) (cut a b m)
+        → Tiles (p - a) (cut a b (r ∷ m))
     go (was e) (inl h) ih =
         let o = over a b r.out (row_end r) (ltb-true _ _ e) in
         let q : p + r.count - a ≡ p - a + (min b (row_end r) - max a r.out) = omega (arith, t.0, o.ae, o.oe) in
@@ -147,20 +151,24 @@ cut-tiles (r ∷ m) p a b t = go (test (overlaps a b r)) (le-or-lt (row_end r) b
 max-right : (a b : ℕ) → a ≤ b → max a b ≡ b
 max-right a b h = omega arith
 
-sum-mid : (a b p n t : ℕ) → a < p + n → p < b → min b (p + n) - max a p + (min b (p + n + t) - (p + n)) ≡ min b (p + n + t) - max a p
+sum-mid : (a b p n t : ℕ) → a < p + n → p < b
+    → min b (p + n) - max a p + (min b (p + n + t) - (p + n)) ≡ min b (p + n + t) - max a p
 sum-mid a b p n t h l = omega arith
 
-sum-in : (a b p n t : ℕ) → a < p + n → p < b → min b (p + n) - max a p + (min b (p + n + t) - max a (p + n)) ≡ min b (p + n + t) - max a p
+sum-in : (a b p n t : ℕ) → a < p + n → p < b
+    → min b (p + n) - max a p + (min b (p + n + t) - max a (p + n)) ≡ min b (p + n + t) - max a p
 sum-in a b p n t h l = rw (max-right a (p + n) (omega arith)) (sum-mid a b p n t h l)
 
-sum-out : (a b p n t : ℕ) → min b (p + n) ≤ max a p → 0 < n → min b (p + n + t) - max a (p + n) ≡ min b (p + n + t) - max a p
+sum-out : (a b p n t : ℕ) → min b (p + n) ≤ max a p → 0 < n
+    → min b (p + n + t) - max a (p + n) ≡ min b (p + n + t) - max a p
 sum-out a b p n t h l = omega arith
 
 pub cut-total-from : (m : List Row) (p a b : ℕ) → Tiles p m → total (cut a b m) ≡ min b (p + total m) - max a p
 cut-total-from [] p a b t = omega arith
 cut-total-from (r ∷ m) p a b t = go (test (overlaps a b r)) (cut-total-from m (p + r.count) a b t.2)
   where
-    go : Test (overlaps a b r) → total (cut a b m) ≡ min b (p + r.count + total m) - max a (p + r.count) → total (cut a b (r ∷ m)) ≡ min b (p + (r.count + total m)) - max a p
+    go : Test (overlaps a b r) → total (cut a b m) ≡ min b (p + r.count + total m) - max a (p + r.count)
+        → total (cut a b (r ∷ m)) ≡ min b (p + (r.count + total m)) - max a p
     go (was e) ih =
         let o = over a b r.out (row_end r) (ltb-true _ _ e) in
         rw (e, ih, t.0, ← (add_assoc p r.count (total m))) (sum-in a b p r.count (total m) (omega (arith, t.0, o.ae)) (omega (arith, t.0, o.ob)))
@@ -168,8 +176,8 @@ cut-total-from (r ∷ m) p a b t = go (test (overlaps a b r)) (cut-total-from m 
         let l : min b (p + r.count) ≤ max a p = rw t.0 at (ltb-false (max a r.out) (min b (row_end r)) e) in
         rw (e, ih, ← (add_assoc p r.count (total m))) (sum-out a b p r.count (total m) l t.1)
 
-pub cut-total : (m : List Row) (a b : ℕ) → Tiles 0 m → b ≤ total m → total (cut a b m) ≡ b - a
-cut-total m a b t h = cut-total-from m 0 a b t ∙ omega arith
+pub cut_total : (m : List Row) (a b : ℕ) → Tiles 0 m → b ≤ total m → total (cut a b m) ≡ b - a
+cut_total m a b t h = cut-total-from m 0 a b t ∙ omega arith
 
 -- a cut of all frames keeps every row as it is
 pub cut_all : (m : List Row) (p b : ℕ) → Tiles p m → p + total m ≤ b → cut 0 b m ≡ m
@@ -194,9 +202,9 @@ length_cut a b r m = go (overlaps a b r)
     go true = omega arith
     go false = omega arith
 
-pub cut-rows : (m : List Row) (a b : ℕ) → length (cut a b m) ≤ length m
-cut-rows [] a b = omega arith
-cut-rows (r ∷ m) a b = omega (arith, length_cut a b r m, one-le (overlaps a b r), cut-rows m a b)
+pub cut_rows : (m : List Row) (a b : ℕ) → length (cut a b m) ≤ length m
+cut_rows [] a b = omega arith
+cut_rows (r ∷ m) a b = omega (arith, length_cut a b r m, one-le (overlaps a b r), cut_rows m a b)
 
 -- rows from b on are cut to as many, wherever before b the cut begins
 cut_later : (m : List Row) (p a b c : ℕ) → Tiles p m → a ≤ b → b ≤ p → length (cut b c m) ≡ length (cut a c m)
@@ -222,14 +230,16 @@ module _ (a b c : ℕ) (h : a ≤ b) (l : b ≤ c) (r : Row) where
           let y : overlaps b c r ≡ false = le-ltb (max b r.out) (min c (row_end r)) (omega arith) in
           rw (x, y) (omega (arith, one-le (overlaps a b r)))
 
-pub cuts-rows : (m : List Row) (p a b c : ℕ) → Tiles p m → a ≤ b → b ≤ c → length (cut a b m) + length (cut b c m) ≤ length (cut a c m) + 1
+pub cuts-rows : (m : List Row) (p a b c : ℕ) → Tiles p m → a ≤ b → b ≤ c
+    → length (cut a b m) + length (cut b c m) ≤ length (cut a c m) + 1
 cuts-rows [] p a b c t h l = omega arith
 cuts-rows (r ∷ m) p a b c t h l = go (le-or-lt (row_end r) b) (le-or-lt b r.out) (cuts-rows m (p + r.count) a b c t.2 h l)
   where
     sizes : (length (cut a b (r ∷ m)) ≡ one (overlaps a b r) + length (cut a b m)) × (length (cut b c (r ∷ m)) ≡ one (overlaps b c r) + length (cut b c m)) × (length (cut a c (r ∷ m)) ≡ one (overlaps a c r) + length (cut a c m))
     sizes = (length_cut a b r m, length_cut b c r m, length_cut a c r m)
 
-    go : (row_end r ≤ b) ⊎ (b < row_end r) → (b ≤ r.out) ⊎ (r.out < b) → length (cut a b m) + length (cut b c m) ≤ length (cut a c m) + 1
+    go : (row_end r ≤ b) ⊎ (b < row_end r) → (b ≤ r.out) ⊎ (r.out < b)
+        → length (cut a b m) + length (cut b c m) ≤ length (cut a c m) + 1
         → length (cut a b (r ∷ m)) + length (cut b c (r ∷ m)) ≤ length (cut a c (r ∷ m)) + 1
     go (inl e) y ih =
         let x = ends-before a b c h l r e in

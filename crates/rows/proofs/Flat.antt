@@ -1,4 +1,5 @@
--- Rows as words and shifts: lengths, joined lists, that rows which are written read back as they are, and words that are read as rows are theirs. Assumes nothing.
+-- Rows as words and shifts: lengths, joined lists, that rows which are written read back as they are, and words that
+-- are read as rows are theirs. Assumes nothing.
 use Prim.Native.Nat.{ℕ, zero, suc, ◌+◌, ◌*◌, ◌≤◌, ◌<◌}
 use Rattle.slices.proofs.Ranges.{run}
 use native.Mathlib.Nat.{add-zero}
@@ -9,12 +10,12 @@ use lib.IntN.{ℤ, pos}
 use lib.ListN.{length, get_or, drop, length-append, drop_of_length-le}
 use lib.Seq.{get_or-append-add, drop-cons}
 use Rattle.rows.specs.declared.Row.{Row}
-use Rattle.rows.specs.Lent.{row_at, rows, words, words_of, shifts_of}
+use Rattle.rows.specs.Lent.{row_at, rows, row_words, words_of, shifts_of}
 use Rattle.rows.proofs.Origins.{row-eq}
 
 pub words_append : (x y : List Row) → words_of (x ++ y) ≡ words_of x ++ words_of y
 words_append [] y = refl
-words_append (r ∷ x) y = ap (λ (l : List ℕ). words r ++ l) (words_append x y)
+words_append (r ∷ x) y = ap (λ (l : List ℕ). row_words r ++ l) (words_append x y)
 
 pub shifts-append : (x y : List Row) → shifts_of (x ++ y) ≡ shifts_of x ++ shifts_of y
 shifts-append [] y = refl
@@ -34,7 +35,8 @@ at-word p q i j e = let k : 5 * i + j ≡ length p + j = omega arith in ap (λ (
 at-shift : (p q : List ℤ) (i : ℕ) → length p ≡ i → get_or (p ++ q) i (pos 0) ≡ get_or q 0 (pos 0)
 at-shift p q i e = let k : i ≡ length p + 0 = omega arith in ap (λ (n : ℕ). get_or (p ++ q) n (pos 0)) k ∙ get_or-append-add p q 0 (pos 0)
 
-read-row : (r : Row) (m : List Row) (pu : List ℕ) (ps : List ℤ) (i : ℕ) → length pu ≡ 5 * i → length ps ≡ i → row_at (pu ++ words_of (r ∷ m)) (ps ++ shifts_of (r ∷ m)) i ≡ r
+read-row : (r : Row) (m : List Row) (pu : List ℕ) (ps : List ℤ) (i : ℕ) → length pu ≡ 5 * i → length ps ≡ i
+    → row_at (pu ++ words_of (r ∷ m)) (ps ++ shifts_of (r ∷ m)) i ≡ r
 read-row r m pu ps i e f =
     let q = words_of (r ∷ m) in
     let z : 5 * i ≡ 5 * i + 0 = omega arith in
@@ -42,15 +44,16 @@ read-row r m pu ps i e f =
     (ap (λ (n : ℕ). get_or (pu ++ q) n 0) z ∙ at-word pu q i 0 e) (at-word pu q i 1 e) (at-word pu q i 2 e) (at-word pu q i 3 e) (at-word pu q i 4 e)
     (at-shift ps (shifts_of (r ∷ m)) i f)
 
-read-rows : (m : List Row) (pu : List ℕ) (ps : List ℤ) (i : ℕ) → length pu ≡ 5 * i → length ps ≡ i → run (row_at (pu ++ words_of m) (ps ++ shifts_of m)) i (length m) ≡ m
+read-rows : (m : List Row) (pu : List ℕ) (ps : List ℤ) (i : ℕ) → length pu ≡ 5 * i → length ps ≡ i
+    → run (row_at (pu ++ words_of m) (ps ++ shifts_of m)) i (length m) ≡ m
 read-rows [] pu ps i e f = refl
 read-rows (r ∷ m) pu ps i e f =
-    let gu = length-append pu (words r) in
+    let gu = length-append pu (row_words r) in
     let gs = length-append ps (r.shift ∷ []) in
-    let ih = read-rows m (pu ++ words r) (ps ++ r.shift ∷ []) (i + 1) (omega arith) (omega arith) in
+    let ih = read-rows m (pu ++ row_words r) (ps ++ r.shift ∷ []) (i + 1) (omega arith) (omega arith) in
     let x : run (row_at (pu ++ words_of (r ∷ m)) (ps ++ shifts_of (r ∷ m))) (i + 1) (length m) ≡ m =
-    ap (λ (l : List ℕ). run (row_at l (ps ++ shifts_of (r ∷ m))) (i + 1) (length m)) (sym (append_assoc pu (words r) (words_of m)))
-    ∙ ap (λ (l : List ℤ). run (row_at ((pu ++ words r) ++ words_of m) l) (i + 1) (length m)) (sym (append_assoc ps (r.shift ∷ []) (shifts_of m)))
+    ap (λ (l : List ℕ). run (row_at l (ps ++ shifts_of (r ∷ m))) (i + 1) (length m)) (sym (append_assoc pu (row_words r) (words_of m)))
+    ∙ ap (λ (l : List ℤ). run (row_at ((pu ++ row_words r) ++ words_of m) l) (i + 1) (length m)) (sym (append_assoc ps (r.shift ∷ []) (shifts_of m)))
     ∙ ih in
     cc (read-row r m pu ps i e f, x)
 
@@ -75,7 +78,7 @@ five u i h =
     ∙ ap (λ (l : List ℕ). get_or u (b + 3) 0 ∷ l) (next u (b + 4) (b + 5) (omega arith) (omega arith)))))
 
 -- rows f 0, f 1, .. that are read from words, whatever their shifts: their words are these
-module _ (u : List ℕ) (f : ℕ → Row) (read : (k : ℕ) → words (f k) ≡ five_at u k) where
+module _ (u : List ℕ) (f : ℕ → Row) (read : (k : ℕ) → row_words (f k) ≡ five_at u k) where
   words-run : (m i : ℕ) → 5 * (i + m) ≤ length u → words_of (run f i m) ++ drop (5 * (i + m)) u ≡ drop (5 * i) u
   words-run zero i h = ap (λ (k : ℕ). drop (5 * k) u) (add-zero i)
   words-run (suc m) i h =

@@ -10,7 +10,7 @@ use Rattle.rows.specs.declared.Row.{Row}
 use Rattle.rows.specs.Rows.{row_end, holds, origin, total, cut, moved, join, merge}
 use Rattle.rows.specs.Demands.{Tiles}
 use Rattle.rows.proofs.Origins.{holds-in, holds-before, holds_after, Place, inside, before, after, place}
-use Rattle.rows.proofs.Cuts.{cut-origin, cut-tiles, cut-total}
+use Rattle.rows.proofs.Cuts.{cut_origin, cut-tiles, cut_total}
 use Rattle.rows.proofs.Merging.{same-origins}
 
 pub append-total : (x y : List Row) → total (x ++ y) ≡ total x + total y
@@ -21,8 +21,8 @@ moved-total : (d : ℕ) (y : List Row) → total (map (moved d) y) ≡ total y
 moved-total d [] = refl
 moved-total d (r ∷ y) = rw (moved-total d y)
 
-pub join-total : (x y : List Row) → total (join x y) ≡ total x + total y
-join-total x y = append-total x _ ∙ ap (λ (z : ℕ). total x + z) (moved-total (total x) y)
+pub join_total : (x y : List Row) → total (join x y) ≡ total x + total y
+join_total x y = append-total x _ ∙ ap (λ (z : ℕ). total x + z) (moved-total (total x) y)
 
 moved-tiles : (d q : ℕ) (y : List Row) → Tiles q y → Tiles (d + q) (map (moved d) y)
 moved-tiles d q [] t = tt
@@ -39,7 +39,8 @@ origin-left : (x y : List Row) (p k : ℕ) → Tiles p x → p ≤ k → k < p +
 origin-left [] y p k t l h = absurd (omega arith)
 origin-left (r ∷ x) y p k t l h = go (le-or-lt (row_end r) k) (λ q. origin-left x y (p + r.count) k t.2 q (omega arith))
   where
-    go : (row_end r ≤ k) ⊎ (k < row_end r) → (p + r.count ≤ k → origin (x ++ y) k ≡ origin x k) → origin (r ∷ x ++ y) k ≡ origin (r ∷ x) k
+    go : (row_end r ≤ k) ⊎ (k < row_end r) → (p + r.count ≤ k → origin (x ++ y) k ≡ origin x k)
+        → origin (r ∷ x ++ y) k ≡ origin (r ∷ x) k
     go (inl u) f = rw (holds_after r k u) (f (omega (arith, t.0)))
     go (inr u) f = rw (holds-in r k (omega (arith, t.0)) u)
 
@@ -67,11 +68,11 @@ join-origin-first x y k t h = origin-left x _ 0 k t (omega arith) (omega arith)
 pub join-origin-second : (x y : List Row) (k : ℕ) → Tiles 0 x → origin (join x y) (total x + k) ≡ origin y k
 join-origin-second x y k t = origin-right x (map (moved (total x)) y) 0 (total x + k) t (omega arith) ∙ moved-origin (total x) y k
 
-pub join-cuts : (m : List Row) (a b c : ℕ) → Tiles 0 m → a ≤ b → b ≤ c → c ≤ total m
+pub join_cuts : (m : List Row) (a b c : ℕ) → Tiles 0 m → a ≤ b → b ≤ c → c ≤ total m
     → merge (join (cut a b m) (cut b c m)) ≡ merge (cut a c m)
-join-cuts m a b c t l h u =
-    same-origins (join x y) z (join-tiles x y tx ty) tz (join-total x y ∙ omega (arith, nx, ny, nz))
-    (λ k q. go k (rw (join-total x y) at q) (le-or-lt (b - a) k))
+join_cuts m a b c t l h u =
+    same-origins (join x y) z (join-tiles x y tx ty) tz (join_total x y ∙ omega (arith, nx, ny, nz))
+    (λ k q. go k (rw (join_total x y) at q) (le-or-lt (b - a) k))
   where
     x : List Row
     x = cut a b m
@@ -83,13 +84,13 @@ join-cuts m a b c t l h u =
     z = cut a c m
 
     nx : total (cut a b m) ≡ b - a
-    nx = cut-total m a b t (omega arith)
+    nx = cut_total m a b t (omega arith)
 
     ny : total (cut b c m) ≡ c - b
-    ny = cut-total m b c t u
+    ny = cut_total m b c t u
 
     nz : total (cut a c m) ≡ c - a
-    nz = cut-total m a c t u
+    nz = cut_total m a c t u
 
     tx : Tiles 0 (cut a b m)
     tx = rw (zero-sub a) at (cut-tiles m 0 a b t)
@@ -100,14 +101,15 @@ join-cuts m a b c t l h u =
     tz : Tiles 0 (cut a c m)
     tz = rw (zero-sub a) at (cut-tiles m 0 a c t)
 
-    go : (k : ℕ) → k < total (cut a b m) + total (cut b c m) → (b - a ≤ k) ⊎ (k < b - a) → origin (join (cut a b m) (cut b c m)) k ≡ origin (cut a c m) k
+    go : (k : ℕ) → k < total (cut a b m) + total (cut b c m) → (b - a ≤ k) ⊎ (k < b - a)
+        → origin (join (cut a b m) (cut b c m)) k ≡ origin (cut a c m) k
     go k q (inl w) =
         let j = k - (b - a) in
         let e : k ≡ total (cut a b m) + (k - (b - a)) = omega (arith, nx) in
         let f : b + (k - (b - a)) ≡ a + k = omega arith in
         ap (λ (i : ℕ). origin (join (cut a b m) (cut b c m)) i) e
         ∙ join-origin-second (cut a b m) (cut b c m) j tx
-        ∙ cut-origin m b c j (omega (arith, nx, ny))
+        ∙ cut_origin m b c j (omega (arith, nx, ny))
         ∙ ap (λ (i : ℕ). origin m i) f
-        ∙ sym (cut-origin m a c k (omega (arith, nx, ny)))
-    go k q (inr w) = join-origin-first x y k tx (omega (arith, nx)) ∙ cut-origin m a b k w ∙ sym (cut-origin m a c k (omega arith))
+        ∙ sym (cut_origin m a c k (omega (arith, nx, ny)))
+    go k q (inr w) = join-origin-first x y k tx (omega (arith, nx)) ∙ cut_origin m a b k w ∙ sym (cut_origin m a c k (omega arith))

@@ -1,4 +1,5 @@
--- Merging: origins, tiling, frames and rows; two maps merge to the same rows exactly when their origins agree. Assumes nothing.
+-- Merging: origins, tiling, frames and rows; two maps merge to the same rows exactly when their origins agree. Assumes
+-- nothing.
 use Prim.Native.Nat.{ℕ, suc, ◌+◌, ◌-◌, ◌≤◌, ◌<◌}
 use Rattle.std.proofs.lemmas.Bool.{and_parts}
 use Rattle.std.proofs.lemmas.Bool.Decides.{Decides-int_eq}
@@ -45,7 +46,8 @@ runs_on-true r s e =
 runs-on-yes : (r s : Row) → RunsOn r s → runs_on r s ≡ true
 runs-on-yes r s o = simp (eq-eqb r.source s.source o.source, eq-eqb (r.first + r.count) s.first o.first, eq-eqb r.flag s.flag o.flag, o.shift, (Decides-int_eq s.shift s.shift).1 refl)
 
-glue-origin : (c r : Row) (m : List Row) (p k : ℕ) → Tiles p (c ∷ r ∷ m) → RunsOn c r → origin (glue c r ∷ m) k ≡ origin (c ∷ r ∷ m) k
+glue-origin : (c r : Row) (m : List Row) (p k : ℕ) → Tiles p (c ∷ r ∷ m) → RunsOn c r
+    → origin (glue c r ∷ m) k ≡ origin (c ∷ r ∷ m) k
 glue-origin c r m p k t o = go (place c k) (place r k)
   where
     same : c.out ≤ k → c.out + c.count ≤ k → origin_in (glue c r) k ≡ origin_in r k
@@ -65,7 +67,8 @@ glue-origin c r m p k t o = go (place c k) (place r k)
 glue-tiles : (c r : Row) (m : List Row) (p : ℕ) → Tiles p (c ∷ r ∷ m) → Tiles p (glue c r ∷ m)
 glue-tiles c r m p t = (t.0, omega (arith, t.1), rw (sym (add_assoc p c.count r.count)) t.2.2)
 
-pub merge_into-origin : (m : List Row) (c : Row) (p k : ℕ) → Tiles p (c ∷ m) → origin (merge_into c m) k ≡ origin (c ∷ m) k
+pub merge_into-origin : (m : List Row) (c : Row) (p k : ℕ) → Tiles p (c ∷ m)
+    → origin (merge_into c m) k ≡ origin (c ∷ m) k
 merge_into-origin [] c p k t = refl
 merge_into-origin (r ∷ m) c p k t = go (test (runs_on c r)) (merge_into-origin m (glue c r) p k) (merge_into-origin m r (p + c.count) k)
   where
@@ -79,7 +82,8 @@ pub merge_into-tiles : (m : List Row) (c : Row) (p : ℕ) → Tiles p (c ∷ m) 
 merge_into-tiles [] c p t = t
 merge_into-tiles (r ∷ m) c p t = go (test (runs_on c r)) (merge_into-tiles m (glue c r) p) (merge_into-tiles m r (p + c.count))
   where
-    go : Test (runs_on c r) → (Tiles p (glue c r ∷ m) → Tiles p (merge_into (glue c r) m)) → (Tiles (p + c.count) (r ∷ m) → Tiles (p + c.count) (merge_into r m))
+    go : Test (runs_on c r) → (Tiles p (glue c r ∷ m) → Tiles p (merge_into (glue c r) m))
+        → (Tiles (p + c.count) (r ∷ m) → Tiles (p + c.count) (merge_into r m))
         → Tiles p (merge_into c (r ∷ m))
     go (was e) f g = rw e (f (glue-tiles c r m p t))
     go (wasnt e) f g = rw e (t.0, t.1, g t.2)
@@ -88,7 +92,8 @@ pub merge_into-total : (m : List Row) (c : Row) → total (merge_into c m) ≡ c
 merge_into-total [] c = refl
 merge_into-total (r ∷ m) c = go (test (runs_on c r)) (merge_into-total m (glue c r)) (merge_into-total m r)
   where
-    go : Test (runs_on c r) → total (merge_into (glue c r) m) ≡ c.count + r.count + total m → total (merge_into r m) ≡ r.count + total m
+    go : Test (runs_on c r) → total (merge_into (glue c r) m) ≡ c.count + r.count + total m
+        → total (merge_into r m) ≡ r.count + total m
         → total (merge_into c (r ∷ m)) ≡ c.count + total (r ∷ m)
     go (was e) f g = rw e (omega arith)
     go (wasnt e) f g = rw (e, g)
@@ -113,7 +118,8 @@ grown : (m : List Row) (c : Row) → Grown c (merge_into c m)
 grown [] c = record { head = c; tail = []; is = refl; source = refl; first = refl; flag = refl; shift = refl; apart = tt }
 grown (r ∷ m) c = go (test (runs_on c r)) (grown m (glue c r)) (grown m r)
   where
-    go : Test (runs_on c r) → Grown (glue c r) (merge_into (glue c r) m) → Grown r (merge_into r m) → Grown c (merge_into c (r ∷ m))
+    go : Test (runs_on c r) → Grown (glue c r) (merge_into (glue c r) m) → Grown r (merge_into r m)
+        → Grown c (merge_into c (r ∷ m))
     go (was e) f g = record { head = f.head; tail = f.tail; is = rw e f.is; source = f.source; first = f.first; flag = f.flag; shift = f.shift; apart = f.apart }
     go (wasnt e) f g =
         record {
@@ -157,12 +163,14 @@ shorter (r ∷ m) l c d p t v a e f s h =
     let z : ◌≡◌ {A = ℕ} 0 1 = cc (runs-on-yes c r y, a.0) in
     omega arith
 
-same_first : (m l : List Row) (c d : Row) (p : ℕ) → Tiles p (c ∷ m) → Tiles p (d ∷ l) → SameFrom p (c ∷ m) (d ∷ l) → Alike c d p
+same_first : (m l : List Row) (c d : Row) (p : ℕ) → Tiles p (c ∷ m) → Tiles p (d ∷ l) → SameFrom p (c ∷ m) (d ∷ l)
+    → Alike c d p
 unfolding SameFrom
 same_first m l c d p t v f =
     alike c d p (sym (origin-first c m p p t (omega arith) (omega (arith, t.1))) ∙ f p (omega arith) (omega (arith, t.1)) ∙ origin-first d l p p v (omega arith) (omega (arith, v.1)))
 
-same_rest : (m l : List Row) (c d : Row) (p : ℕ) → Tiles p (c ∷ m) → Tiles p (d ∷ l) → c.count ≡ d.count → SameFrom p (c ∷ m) (d ∷ l) → SameFrom (p + c.count) m l
+same_rest : (m l : List Row) (c d : Row) (p : ℕ) → Tiles p (c ∷ m) → Tiles p (d ∷ l) → c.count ≡ d.count
+    → SameFrom p (c ∷ m) (d ∷ l) → SameFrom (p + c.count) m l
 unfolding SameFrom
 same_rest m l c d p t v e f k lo hi =
     sym (origin-rest c m k (omega (arith, t.0))) ∙ f k (omega arith) (omega arith) ∙ origin-rest d l k (omega (arith, v.0))
@@ -197,7 +205,8 @@ merged-unique (r ∷ m) (s ∷ l) c d p t v a b e f =
       merged-unique m l r s (p + c.count) t.2 (rw n v.2) a.1 b.1 (omega arith) (same_rest (r ∷ m) (s ∷ l) c d p t v n f),
     )
 
-pub same-origins : (m l : List Row) → Tiles 0 m → Tiles 0 l → total m ≡ total l → ((k : ℕ) → k < total m → origin m k ≡ origin l k) → merge m ≡ merge l
+pub same-origins : (m l : List Row) → Tiles 0 m → Tiles 0 l → total m ≡ total l
+    → ((k : ℕ) → k < total m → origin m k ≡ origin l k) → merge m ≡ merge l
 unfolding SameFrom
 same-origins [] [] t v e f = refl
 same-origins [] (d ∷ l) t v e f = absurd (omega (arith, v.1))
@@ -216,14 +225,14 @@ same-origins (c ∷ m) (d ∷ l) t v e f =
     (omega (arith, ap total g.is, ap total h.is, merge_into-total m c, merge_into-total l d)) o
     ∙ sym h.is
 
-pub merge-origin : (m : List Row) (k : ℕ) → Tiles 0 m → origin (merge m) k ≡ origin m k
-merge-origin [] k t = refl
-merge-origin (c ∷ m) k t = merge_into-origin m c 0 k t
+pub merge_origin : (m : List Row) (k : ℕ) → Tiles 0 m → origin (merge m) k ≡ origin m k
+merge_origin [] k t = refl
+merge_origin (c ∷ m) k t = merge_into-origin m c 0 k t
 
-pub merge-same : (m l : List Row) → Tiles 0 m → Tiles 0 l → total m ≡ total l
+pub merge_same : (m l : List Row) → Tiles 0 m → Tiles 0 l → total m ≡ total l
     → (merge m ≡ merge l) ↔ ((k : ℕ) → k < total m → origin m k ≡ origin l k)
-merge-same m l t v e = (
-  λ p k h. sym (merge-origin m k t) ∙ ap (λ (x : List Row). origin x k) p ∙ merge-origin l k v,
+merge_same m l t v e = (
+  λ p k h. sym (merge_origin m k t) ∙ ap (λ (x : List Row). origin x k) p ∙ merge_origin l k v,
   λ f. same-origins m l t v e f,
 )
 
@@ -232,28 +241,30 @@ merge-apart : (m : List Row) (c : Row) → Apart c m → merge_into c m ≡ c �
 merge-apart [] c a = refl
 merge-apart (r ∷ m) c a = rw (a.0, merge-apart m r a.1)
 
-pub merge-merge : (m : List Row) → merge (merge m) ≡ merge m
-merge-merge [] = refl
-merge-merge (c ∷ m) = let g = grown m c in ap merge g.is ∙ merge-apart g.tail g.head g.apart ∙ sym g.is
+pub merge_merge : (m : List Row) → merge (merge m) ≡ merge m
+merge_merge [] = refl
+merge_merge (c ∷ m) = let g = grown m c in ap merge g.is ∙ merge-apart g.tail g.head g.apart ∙ sym g.is
 
 merge_into-rows : (m : List Row) (c : Row) → length (merge_into c m) ≤ suc (length m)
 merge_into-rows [] c = omega arith
 merge_into-rows (r ∷ m) c = go (test (runs_on c r)) (merge_into-rows m (glue c r)) (merge_into-rows m r)
   where
-    go : Test (runs_on c r) → length (merge_into (glue c r) m) ≤ suc (length m) → length (merge_into r m) ≤ suc (length m) → length (merge_into c (r ∷ m)) ≤ suc (suc (length m))
+    go : Test (runs_on c r) → length (merge_into (glue c r) m) ≤ suc (length m)
+        → length (merge_into r m) ≤ suc (length m) → length (merge_into c (r ∷ m)) ≤ suc (suc (length m))
     go (was e) f g = rw e (omega arith)
     go (wasnt e) f g = rw e (omega arith)
 
-pub merge-rows : (m : List Row) → length (merge m) ≤ length m
-merge-rows [] = omega arith
-merge-rows (c ∷ m) = merge_into-rows m c
+pub merge_rows : (m : List Row) → length (merge m) ≤ length m
+merge_rows [] = omega arith
+merge_rows (c ∷ m) = merge_into-rows m c
 
-pub merge-total : (m : List Row) → total (merge m) ≡ total m
-merge-total [] = refl
-merge-total (c ∷ m) = merge_into-total m c
+pub merge_total : (m : List Row) → total (merge m) ≡ total m
+merge_total [] = refl
+merge_total (c ∷ m) = merge_into-total m c
 
 -- rows whose flags differ give different origins, and neither continues the other
-pub flags-differ : (r s : Row) (j k : ℕ) → (r.flag ≡ s.flag → ⊥) → (origin_in r j ≡ origin_in s k → ⊥) × (runs_on r s ≡ false) × (runs_on s r ≡ false)
+pub flags-differ : (r s : Row) (j k : ℕ) → (r.flag ≡ s.flag → ⊥)
+    → (origin_in r j ≡ origin_in s k → ⊥) × (runs_on r s ≡ false) × (runs_on s r ≡ false)
 flags-differ r s j k d = (
   λ e. d (ap (λ (o : Origin). o.flag) e),
   go r s d (test (runs_on r s)),

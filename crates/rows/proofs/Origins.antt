@@ -16,7 +16,8 @@ use Rattle.rows.specs.Rows.{row_end, holds, origin_in, origin, total}
 use Rattle.rows.specs.Demands.{no_row, Tiles, OneRow}
 
 -- rows are equal where their fields are
-pub row-eq : (r s : Row) → r.source ≡ s.source → r.first ≡ s.first → r.count ≡ s.count → r.out ≡ s.out → r.flag ≡ s.flag → r.shift ≡ s.shift → r ≡ s
+pub row-eq : (r s : Row) → r.source ≡ s.source → r.first ≡ s.first → r.count ≡ s.count → r.out ≡ s.out → r.flag ≡ s.flag
+    → r.shift ≡ s.shift → r ≡ s
 row-eq r s p q u v w z = λ i. record { source = p i; first = q i; count = u i; out = v i; flag = w i; shift = z i }
 
 -- a frame is inside a row, before it or after it
@@ -48,15 +49,16 @@ place r k =
     (le-or-lt r.out k)
 
 -- the origin by where the frame lies
-pub origin-first : (r : Row) (m : List Row) (p k : ℕ) → Tiles p (r ∷ m) → p ≤ k → k < p + r.count → origin (r ∷ m) k ≡ Some (origin_in r k)
+pub origin-first : (r : Row) (m : List Row) (p k : ℕ) → Tiles p (r ∷ m) → p ≤ k → k < p + r.count
+    → origin (r ∷ m) k ≡ Some (origin_in r k)
 origin-first r m p k t l u = rw (holds-in r k (omega (arith, t.0)) (omega (arith, t.0)))
 
 pub origin-rest : (r : Row) (m : List Row) (k : ℕ) → row_end r ≤ k → origin (r ∷ m) k ≡ origin m k
 origin-rest r m k l = rw (holds_after r k l)
 
-pub origin-past : (m : List Row) (p k : ℕ) → Tiles p m → p + total m ≤ k → origin m k ≡ None
-origin-past [] p k t h = refl
-origin-past (r ∷ m) p k t h = rw (holds_after r k (omega (arith, t.0))) (origin-past m (p + r.count) k t.2 (omega arith))
+pub origin_past : (m : List Row) (p k : ℕ) → Tiles p m → p + total m ≤ k → origin m k ≡ None
+origin_past [] p k t h = refl
+origin_past (r ∷ m) p k t h = rw (holds_after r k (omega (arith, t.0))) (origin_past m (p + r.count) k t.2 (omega arith))
 
 -- no row from p on holds an earlier frame
 tiles-after : (m : List Row) (p k j : ℕ) → Tiles p m → k < p → j < length m → holds (get_or m j no_row) k ≡ true → ⊥

@@ -78,9 +78,9 @@ clip-ok p a b r e v =
     } in
     ok-shift (p - a) (clip a b r) k ∙ ok-shifted p r e
 
-pub cut-well : (m : List Row) (p a b : ℕ) → WellFrom p m → WellFrom (p - a) (cut a b m)
-cut-well [] p a b w = tt
-cut-well (r ∷ m) p a b w = go (test (overlaps a b r)) (le-or-lt (row_end r) b) (cut-well m (p + r.count) a b w.1)
+pub cut_well : (m : List Row) (p a b : ℕ) → WellFrom p m → WellFrom (p - a) (cut a b m)
+cut_well [] p a b w = tt
+cut_well (r ∷ m) p a b w = go (test (overlaps a b r)) (le-or-lt (row_end r) b) (cut_well m (p + r.count) a b w.1)
   where
     o : OkRow p r
     o = ok-facts p r w.0
@@ -88,7 +88,8 @@ cut-well (r ∷ m) p a b w = go (test (overlaps a b r)) (le-or-lt (row_end r) b)
     none : b ≤ row_end r → cut a b m ≡ []
     none h = cut-none m (p + r.count) a b (well-tiles m (p + r.count) w.1) (omega (arith, o.out))
 
-    go : Test (overlaps a b r) → (row_end r ≤ b) ⊎ (b < row_end r) → WellFrom (p + r.count - a) (cut a b m) → WellFrom (p - a) (cut a b (r ∷ m))
+    go : Test (overlaps a b r) → (row_end r ≤ b) ⊎ (b < row_end r) → WellFrom (p + r.count - a) (cut a b m)
+        → WellFrom (p - a) (cut a b (r ∷ m))
     go (was e) (inl h) ih =
         let v = over a b r.out (row_end r) (ltb-true _ _ e) in
         let q : p + r.count - a ≡ p - a + (min b (row_end r) - max a r.out) = omega (arith, o.out, v.ae, v.oe) in
@@ -102,7 +103,8 @@ cut-well (r ∷ m) p a b w = go (test (overlaps a b r)) (le-or-lt (row_end r) b)
     go (wasnt e) (inr h) ih = rw (e, none (omega arith)) tt
 
 -- a merge of a well-formed map is well formed
-glue-ok : (p : ℕ) (c r : Row) → ok_row p c ≡ true → ok_row (p + c.count) r ≡ true → RunsOn c r → ok_row p (glue c r) ≡ true
+glue-ok : (p : ℕ) (c r : Row) → ok_row p c ≡ true → ok_row (p + c.count) r ≡ true → RunsOn c r
+    → ok_row p (glue c r) ≡ true
 glue-ok p c r e f v =
     let o = ok-facts p c e in
     let q = ok-facts (p + c.count) r f in
@@ -113,14 +115,15 @@ pub merge_into-well : (m : List Row) (c : Row) (p : ℕ) → WellFrom p (c ∷ m
 merge_into-well [] c p w = w
 merge_into-well (r ∷ m) c p w = go (test (runs_on c r)) (merge_into-well m (glue c r) p) (merge_into-well m r (p + c.count))
   where
-    go : Test (runs_on c r) → (WellFrom p (glue c r ∷ m) → WellFrom p (merge_into (glue c r) m)) → (WellFrom (p + c.count) (r ∷ m) → WellFrom (p + c.count) (merge_into r m))
+    go : Test (runs_on c r) → (WellFrom p (glue c r ∷ m) → WellFrom p (merge_into (glue c r) m))
+        → (WellFrom (p + c.count) (r ∷ m) → WellFrom (p + c.count) (merge_into r m))
         → WellFrom p (merge_into c (r ∷ m))
     go (was e) f g = rw e (f (glue-ok p c r w.0 w.1.0 (runs_on-true c r e), rw (sym (add_assoc p c.count r.count)) w.1.1))
     go (wasnt e) f g = rw e (w.0, g w.1)
 
-pub merge-well : (m : List Row) → WellFormed m → WellFormed (merge m)
-merge-well [] w = w
-merge-well (c ∷ m) w = merge_into-well m c 0 w
+pub merge_well : (m : List Row) → WellFormed m → WellFormed (merge m)
+merge_well [] w = w
+merge_well (c ∷ m) w = merge_into-well m c 0 w
 
 -- a join of two well-formed maps is well formed where its frames stay below 2^64
 moved_ok : (d p : ℕ) (r : Row) → ok_row p r ≡ true → d + row_end r ≤ max_u64 → ok_row (d + p) (moved d r) ≡ true
@@ -139,8 +142,8 @@ append-well : (x y : List Row) (p : ℕ) → WellFrom p x → WellFrom (p + tota
 append-well [] y p w v = rw (add-zero p) at v
 append-well (r ∷ x) y p w v = (w.0, append-well x y (p + r.count) w.1 (rw (add_assoc p r.count (total x)) v))
 
-pub join-well : (x y : List Row) → WellFormed x → WellFormed y → total x + total y ≤ max_u64 → WellFormed (join x y)
-join-well x y w v h =
+pub join_well : (x y : List Row) → WellFormed x → WellFormed y → total x + total y ≤ max_u64 → WellFormed (join x y)
+join_well x y w v h =
     let m : WellFrom (total x + 0) (map (moved (total x)) y) = moved-well y (total x) 0 v (omega arith) in
     let z : total x + 0 ≡ 0 + total x = omega arith in
     append-well x (map (moved (total x)) y) 0 w (rw z at m)

@@ -3,16 +3,16 @@ use Rattle.std.specs.Prelude.{ℕ, ◌+◌, ◌*◌, ◌≤◌, ◌<◌, List, l
 
 -- where row k begins in the output
 abbrev pub out_at : List ℕ → ℕ → ℕ
-out_at u k = get_or u (5 * k + 3) 0
+out_at words k = get_or words (5 * k + 3) 0
 
 -- n rows, some of them, whose out firsts never fall
-pub record OutsRise (u : List ℕ) (n : ℕ) : Type 0 where
+pub record OutsRise (words : List ℕ) (n : ℕ) : Type 0 where
   pub some : 0 < n
-  pub sizes : 5 * n ≤ length u
-  pub rising : (i j : ℕ) → i ≤ j → j < n → out_at u i ≤ out_at u j
+  pub sizes : 5 * n ≤ length words
+  pub rising : (i j : ℕ) → i ≤ j → j < n → out_at words i ≤ out_at words j
 
--- row r is the last of n that begins at or before a frame
-pub record LastBegun (u : List ℕ) (n frame r : ℕ) : Type 0 where
-  pub within : r < n
-  pub low : out_at u r ≤ frame
-  pub high : r + 1 < n → frame < out_at u (r + 1)
+-- a row is the last of n that begins at or before a frame
+pub record LastBegun (words : List ℕ) (n frame row : ℕ) : Type 0 where
+  pub within : row < n
+  pub low : out_at words row ≤ frame
+  pub high : row + 1 < n → frame < out_at words (row + 1)

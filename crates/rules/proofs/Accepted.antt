@@ -1,4 +1,5 @@
--- What an accepted table gives, whatever its layout: `accepted`. Read off the paper's conditions, none of which holds. Assumes nothing.
+-- What an accepted table gives, whatever its layout: `accepted`. Read off the conditions of specs/Grounds.antt, none of
+-- which holds. Assumes nothing.
 use Prim.Native.Nat.{ℕ, zero, suc, ◌+◌, ◌-◌, ◌≤◌, ◌<◌, zero-le, suc-le-suc}
 use Rattle.std.proofs.lemmas.Bool.Decides.{Decides-int_eq}
 use Rattle.std.specs.Ordering.{int_eq}
@@ -22,8 +23,8 @@ use Rattle.rules.specs.Limits.{max_sources, max_segments, max_i64}
 use Rattle.rules.specs.declared.Segment.{Segment}
 use Rattle.rules.specs.Records.{Table, no_segment, source, segment, source_of, out_end, out_end_us, capture_end_us, frame_total}
 use Rattle.rules.specs.Rules.{check_of}
-use Rattle.rules.specs.Paper.{Test, of_source, of_segment, each, None}
-use Rattle.rules.proofs.Says.{Says, equal, below, atmost}
+use Rattle.rules.specs.Grounds.{Test, of_source, of_segment, each, None}
+use Rattle.rules.proofs.Says.{Says, equal, below, no-more}
 use Rattle.rules.proofs.Exact.{rightly}
 
 -- a start and its duration: neither is negative, and the sum is at most 2^63 - 1
@@ -36,8 +37,8 @@ pub record Timely (a b : ℤ) : Type 0 where
 -- a source that 4 to 7 don't refuse
 pub record SoundSource (log : Bool) (text : List ℕ) (s : Source) : Type 0 where
   pub frames : 0 < s.frames
-  pub num : 0 < s.num
-  pub den : 0 < s.den
+  pub numerator : 0 < s.numerator
+  pub denominator : 0 < s.denominator
   pub date : s.dated ≡ 1 → utc_second (take s.size (drop s.from text)) ≡ true
   pub ticks : (s.kind ≡ 0 → ⊥) → 0 < s.ticks
   pub per : (s.kind ≡ 0 → ⊥) → 0 < s.per
@@ -45,26 +46,27 @@ pub record SoundSource (log : Bool) (text : List ℕ) (s : Source) : Type 0 wher
   pub clock : log ≡ true → s.kind ≡ 0 → ⊥
 
 -- a segment that 9 to 17 don't refuse, by itself
-pub record Sound (srcs : List Source) (e : Segment) : Type 0 where
-  pub named : e.words.source < length srcs
+pub record Sound (sources : List Source) (e : Segment) : Type 0 where
+  pub named : e.words.source < length sources
   pub some : 0 < e.words.count
   pub out-fits : out_end e ≤ max_u64
   pub src-fits : e.words.first + e.words.count ≤ max_u64
-  pub src-inside : e.words.first + e.words.count ≤ (source_of srcs e).frames
-  pub src-time : Timely e.stamps.srcstart e.stamps.duration
-  pub src-capture : Timely e.stamps.srccap e.stamps.capdur
-  pub out-time : Timely e.stamps.outstart e.stamps.duration
-  pub out-capture : Timely e.stamps.outcap e.stamps.capdur
+  pub src-inside : e.words.first + e.words.count ≤ (source_of sources e).frames
+  pub src-time : Timely e.stamps.source_start e.stamps.duration
+  pub src-capture : Timely e.stamps.source_capture_start e.stamps.capture_duration
+  pub out-time : Timely e.stamps.out_start e.stamps.duration
+  pub out-capture : Timely e.stamps.out_capture_start e.stamps.capture_duration
   -- a shift exactly where there is a clock, and in 0..modulus where there is a modulus
-  pub absent : (source_of srcs e).kind ≡ 0 → e.words.flag ≡ 0
-  pub present : ((source_of srcs e).kind ≡ 0 → ⊥) → e.words.flag ≡ 1
-  pub shift : (source_of srcs e).kind ≡ 2 → (e.stamps.shift ≡ pos (nat_abs e.stamps.shift)) × (nat_abs e.stamps.shift < (source_of srcs e).modulus)
+  pub absent : (source_of sources e).kind ≡ 0 → e.words.flag ≡ 0
+  pub present : ((source_of sources e).kind ≡ 0 → ⊥) → e.words.flag ≡ 1
+  pub shift : (source_of sources e).kind ≡ 2
+      → (e.stamps.shift ≡ pos (nat_abs e.stamps.shift)) × (nat_abs e.stamps.shift < (source_of sources e).modulus)
 
 -- segment e begins where segment p ends
 pub record Follows (p e : Segment) : Type 0 where
   pub frame : e.words.out ≡ out_end p
-  pub time : e.stamps.outstart ≡ out_end_us p
-  pub capture : e.stamps.outcap ≡ capture_end_us p
+  pub time : e.stamps.out_start ≡ out_end_us p
+  pub capture : e.stamps.out_capture_start ≡ capture_end_us p
 
 -- an accepted table of N frames: its frames chain from 0 to N, and its times chain
 pub record Accepted (t : Table) (N : ℕ) : Type 0 where
@@ -112,7 +114,7 @@ timely (pos m) (negsuc n) p q r = absurd (q (record { lt = tt }))
 timely (negsuc m) b p q r = absurd (p (record { lt = tt }))
 
 in-modulus : (z : ℤ) (m : ℕ) → ((z <ℤ pos 0) → ⊥) → ((pos m ≤ℤ z) → ⊥) → (z ≡ pos (nat_abs z)) × (nat_abs z < m)
-in-modulus (pos n) m p q = (refl, decide (leb m n) (λ e. absurd (q ((atmost (pos m) (pos n)).holds e))) (leb-false m n))
+in-modulus (pos n) m p q = (refl, decide (leb m n) (λ e. absurd (q ((no-more (pos m) (pos n)).holds e))) (leb-false m n))
 in-modulus (negsuc n) m p q = absurd (p (record { lt = tt }))
 
 nonzero : (n : ℕ) → (n ≡ 0 → ⊥) → 0 < n
@@ -137,8 +139,8 @@ sound-source t k x =
     let n7 = x.1.1.1.0 in
     record {
       frames = nonzero _ (λ z. n4 (inl z));
-      num = nonzero _ (λ z. n4 (inr (inl z)));
-      den = nonzero _ (λ z. n4 (inr (inr z)));
+      numerator = nonzero _ (λ z. n4 (inr (inl z)));
+      denominator = nonzero _ (λ z. n4 (inr (inr z)));
       date = λ d. utc-true _ (λ u. n5 (d, u));
       ticks = λ c. nonzero _ (λ z. n6 (c, inl z));
       per = λ c. nonzero _ (λ z. n6 (c, inr (inl z)));
@@ -146,7 +148,8 @@ sound-source t k x =
       clock = λ l c. n7 (l, c);
     }
 
-sound-segment : (t : Table) (k : ℕ) → (segment t k).words.flag ≤ 1 → None (of_segment t k) → Sound t.sources (segment t k)
+sound-segment : (t : Table) (k : ℕ) → (segment t k).words.flag ≤ 1 → None (of_segment t k)
+    → Sound t.sources (segment t k)
 sound-segment t k flag x =
     let e = segment t k in
     let n11 = x.1.1.0 in
@@ -195,14 +198,14 @@ accepted t N e =
     let n2 = r.0.1.0 in
     let n3 = r.0.1.1.0 in
     let rest = r.0.1.1.1 in
-    let srcs = none_left (each (of_source t) 0 (length t.sources)) _ rest in
+    let sources = none_left (each (of_source t) 0 (length t.sources)) _ rest in
     let after = none_right (each (of_source t) 0 (length t.sources)) _ rest in
-    let segs : (k : ℕ) → k < length t.segments → None (of_segment t k) = λ k b. subst (λ (j : ℕ). None (of_segment t j)) (zero-add k) (none_each (of_segment t) 0 (length t.segments) after.1 k b) in
+    let segments : (k : ℕ) → k < length t.segments → None (of_segment t k) = λ k b. subst (λ (j : ℕ). None (of_segment t j)) (zero-add k) (none_each (of_segment t) 0 (length t.segments) after.1 k b) in
     let flag : (k : ℕ) → k < length t.segments → (segment t k).words.flag ≤ 1 = λ k b. at_most _ _ (λ h. n1 (inr (inr (k, b, h)))) in
     let some = nonzero _ after.0 in
-    let begin = holds (equal _ _) (segs 0 some).1.1.1.1.1.1.0 in
+    let begin = holds (equal _ _) (segments 0 some).1.1.1.1.1.1.0 in
     let next : (k : ℕ) → suc k < length t.segments → Follows (segment t k) (segment t (suc k)) = λ k b.
-    let x = segs (suc k) b in
+    let x = segments (suc k) b in
     record {
       frame = holds (equal _ _) x.1.1.1.1.1.1.0;
       time = same _ _ (λ h. x.1.1.1.1.1.1.1.0 (inl h));
@@ -214,8 +217,8 @@ accepted t N e =
       few-sources = at_most _ _ (λ h. n2 (inl h));
       some-segments = some;
       few-segments = at_most _ _ (λ h. n2 (inr h));
-      sources = λ k b. sound-source t k (subst (λ (j : ℕ). None (of_source t j)) (zero-add k) (none_each (of_source t) 0 (length t.sources) srcs k b));
-      segments = λ k b. sound-segment t k (flag k b) (segs k b);
+      sources = λ k b. sound-source t k (subst (λ (j : ℕ). None (of_source t j)) (zero-add k) (none_each (of_source t) 0 (length t.sources) sources k b));
+      segments = λ k b. sound-segment t k (flag k b) (segments k b);
       flags = flag;
       first = begin;
       follows = next;

@@ -1,4 +1,5 @@
--- What an answer of the check says of the refusal behind it, and of a chain of tests that goes on after 1 to 17. Assumes nothing.
+-- What an answer of the check says of the refusal behind it, and of a chain of tests that goes on after 1 to 17.
+-- Assumes nothing.
 use Prim.Native.Nat.{ℕ}
 use mathlib.Core.Path.{◌≡◌}
 use Rattle.std.specs.Prelude.{Result, Ok, Err}

@@ -1,31 +1,28 @@
 -- Tests of sources and segments that nothing refuses. Assumes nothing.
-use Prim.Native.Nat.{ℕ, ◌+◌, ◌^◌, ◌≤◌, ◌<◌}
+use Prim.Native.Nat.{ℕ, ◌+◌, ◌≤◌}
 use Rattle.std.proofs.lemmas.Bool.{or_parts}
-use native.Mathlib.Omega.{arith}
 use mathlib.Core.Path.{◌≡◌, sym, ap, ◌∙◌}
-use mathlib.Core.Bool.{Bool, true, false, not, ◌||◌, ◌&&◌}
+use mathlib.Core.Bool.{Bool, true, false, not, ◌||◌}
 use mathlib.Core.List.{List}
-use lib.Dec.{eqb, leb, ltb}
+use lib.Dec.{eqb, ltb}
 use lib.ListN.{length}
-use lib.IntN.{ℤ, pos, negsuc, nat_abs}
-use mir.Syntax.{w64}
-use mir.Val.{SFits}
+use lib.IntN.{nat_abs}
 use Rattle.std.specs.Prelude.{Ok}
-use borrow.Author.Tests.{eq-eqb, ne_eqb, eqb-true, eqb-false, ltb-false, leb-false, not-true, not-false}
-use Rattle.conditions.specs.Conditions.{past, max_u64, when}
+use borrow.Author.Tests.{eq-eqb, ne_eqb, eqb-true, not-true, not-false}
+use Rattle.conditions.specs.Conditions.{past, max_u64}
 use Rattle.conditions.proofs.Tests.{tf}
 use Rattle.conditions.proofs.Sums.{not-past, past-not}
 use Rattle.refusal.specs.Refusals.{first_refused}
 use Rattle.rules.specs.declared.Source.{Source}
 use Rattle.rules.specs.declared.Words.{Words}
 use Rattle.rules.specs.declared.Ends.{Ends}
-use Rattle.rules.specs.Limits.{max_i64}
 use Rattle.rules.specs.declared.Stamps.{Stamps}
-use Rattle.rules.specs.Rules.{bad_source, source_refusal, over_limit, front_refusal, negative, stamp_times, start, ends_of}
+use Rattle.rules.specs.Rules.{bad_source, source_refusal, over_limit, front_refusal, stamp_times, start, ends_of}
 use Rattle.rules.specs.Walks.{FineFrames, FineShift, out_of_time, Passes, Passing, FineSource}
 use Rattle.rules.proofs.Turns.{judged-fine, Tested, judged-tested}
 
-pub fine-frames : (frames first count out before : ℕ) → (count ≡ 0 → ⊥) → out ≡ before → out + count ≤ max_u64 → first + count ≤ max_u64 → first + count ≤ frames
+pub fine-frames : (frames first count out before : ℕ) → (count ≡ 0 → ⊥) → out ≡ before → out + count ≤ max_u64
+    → first + count ≤ max_u64 → first + count ≤ frames
     → FineFrames frames first count out before
 fine-frames frames first count out before a b c d e = record {
   some = ne_eqb count 0 a;
@@ -48,39 +45,41 @@ unfolding start
 not-passed e h = tf (sym h ∙ ap (λ (x : Ends). x.some) e)
 
 -- a segment whose tests all hold, of its times as numbers
-pub passes : (s : Source) (prev : Ends) (w : Words) (e : Stamps) (to : Ends) {a b c d f g : ℕ}
-    → FineFrames s.frames w.first w.count w.out prev.frame → FineShift s.kind s.modulus w.flag e.shift → (stamp_times e).negative ≡ false
-    → a ≡ nat_abs e.srcstart → b ≡ nat_abs e.outstart → c ≡ nat_abs e.duration → d ≡ nat_abs e.srccap → f ≡ nat_abs e.outcap → g ≡ nat_abs e.capdur
-    → out_of_time prev a b c d f g ≡ false → to ≡ record { some = true; frame = w.out + w.count; time = b + c; capture = f + g } → Passes s prev w e to
+pub passes : (s : Source) (previous : Ends) (w : Words) (e : Stamps) (to : Ends) {a b c d f g : ℕ}
+    → FineFrames s.frames w.first w.count w.out previous.frame → FineShift s.kind s.modulus w.flag e.shift → (stamp_times e).negative ≡ false
+    → a ≡ nat_abs e.source_start → b ≡ nat_abs e.out_start → c ≡ nat_abs e.duration → d ≡ nat_abs e.source_capture_start → f ≡ nat_abs e.out_capture_start → g ≡ nat_abs e.capture_duration
+    → out_of_time previous a b c d f g ≡ false → to ≡ record { some = true; frame = w.out + w.count; time = b + c; capture = f + g } → Passes s previous w e to
 unfolding stamp_times ends_of
-passes s prev w e to h k n ea eb ec ed ef eg l r = record {
+passes s previous w e to h k n ea eb ec ed ef eg l r = record {
   flagged = k.flagged;
-  none = judged-fine s prev w (stamp_times e) h n (sym (λ i. out_of_time prev (ea i) (eb i) (ec i) (ed i) (ef i) (eg i)) ∙ l) k.allowed;
+  none = judged-fine s previous w (stamp_times e) h n (sym (λ i. out_of_time previous (ea i) (eb i) (ec i) (ed i) (ef i) (eg i)) ∙ l) k.allowed;
   end = r ∙ (λ i. record { some = true; frame = w.out + w.count; time = eb i + ec i; capture = ef i + eg i });
 }
 
 -- a segment that has no end, for one of its tests
-pub stops : (s : Source) (prev : Ends) (w : Words) (e : Stamps) {to : Ends} → to ≡ start
-    → (ltb 1 w.flag ≡ false → Tested s prev w (stamp_times e) → ⊥) → Passing s prev w e to
-stops s prev w e n h = (not-passed n, λ _. record { refused = λ f z. h f (judged-tested s prev w (stamp_times e) z); end = n })
+pub stops : (s : Source) (previous : Ends) (w : Words) (e : Stamps) {to : Ends} → to ≡ start
+    → (ltb 1 w.flag ≡ false → Tested s previous w (stamp_times e) → ⊥) → Passing s previous w e to
+stops s previous w e n h = (not-passed n, λ _. record { refused = λ f z. h f (judged-tested s previous w (stamp_times e) z); end = n })
 
 -- a source without creation time and clock
-pub plain-source : (log : Bool) (text : List ℕ) (s : Source) → not (eqb s.dated 0) || not (eqb s.kind 0) ≡ false → log ≡ false
-    → (s.frames ≡ 0 → ⊥) → (s.num ≡ 0 → ⊥) → not (eqb s.den 0) ≡ true → FineSource log text s
-unfolding bad_source source_refusal when
+pub plain-source : (log : Bool) (text : List ℕ) (s : Source) → not (eqb s.dated 0) || not (eqb s.kind 0) ≡ false
+    → log ≡ false
+    → (s.frames ≡ 0 → ⊥) → (s.numerator ≡ 0 → ⊥) → not (eqb s.denominator 0) ≡ true → FineSource log text s
+unfolding bad_source source_refusal
 plain-source log text s e l a b c =
     let x = or_parts (not (eqb s.dated 0)) (not (eqb s.kind 0)) e in
     let d : s.dated ≡ 0 = eqb-true s.dated 0 (not-false (eqb s.dated 0) x.0) in
     let k : s.kind ≡ 0 = eqb-true s.kind 0 (not-false (eqb s.kind 0) x.1) in
     record {
       words = rw (d, k);
-      none = rw (ne_eqb s.frames 0 a, ne_eqb s.num 0 b, not-true (eqb s.den 0) c, d, k, l);
+      none = rw (ne_eqb s.frames 0 a, ne_eqb s.numerator 0 b, not-true (eqb s.denominator 0) c, d, k, l);
     }
 
 -- none of 2 to 8 refuses
-pub front-none : (log : Bool) (text : List ℕ) (srcs : List Source) (n : ℕ) → over_limit (length srcs) n ≡ false → eqb (length srcs) 0 || eqb n 0 ≡ false
-    → Ok tt ≡ first_refused (source_refusal log text) 0 srcs → front_refusal log text srcs false n ≡ Ok tt
-unfolding front_refusal when
-front-none log text srcs n o e f =
-    let x = or_parts (eqb (length srcs) 0) (eqb n 0) e in
+pub front-none : (log : Bool) (text : List ℕ) (sources : List Source) (n : ℕ) → over_limit (length sources) n ≡ false
+    → eqb (length sources) 0 || eqb n 0 ≡ false
+    → Ok tt ≡ first_refused (source_refusal log text) 0 sources → front_refusal log text sources false n ≡ Ok tt
+unfolding front_refusal
+front-none log text sources n o e f =
+    let x = or_parts (eqb (length sources) 0) (eqb n 0) e in
     rw (o, x.0, ← f, x.1)

@@ -16,7 +16,8 @@ use Rattle.rules.proofs.Exact.{as-run}
 use Rattle.rules.proofs.Search.{Bracket, bracket-end, count-ended, frames-ordered}
 
 -- ordered ends are split by a number
-split : (e : ℕ → ℕ) (n top v : ℕ) → Ordered e n top → (j : ℕ) → j ≤ n → ((k : ℕ) → j ≤ k → k < n → v < e k) → (c : ℕ) × Bracket e n v c c
+split : (e : ℕ → ℕ) (n top v : ℕ) → Ordered e n top → (j : ℕ) → j ≤ n → ((k : ℕ) → j ≤ k → k < n → v < e k)
+    → (c : ℕ) × Bracket e n v c c
 split e n top v o zero h f = (0, record { lo-le = omega arith; hi-le = h; below = λ k l. absurd (omega arith); above = f })
 split e n top v o (suc j) h f =
     decide (leb (e j) v)
@@ -30,7 +31,8 @@ pub record Holds (t : Table) (frame k : ℕ) : Type 0 where
   pub to : frame < out_end (segment t k)
 
 -- a number that splits the ends is that of the holder
-holds : {t : Table} {N : ℕ} → Accepted t N → (frame c : ℕ) → c < length t.segments → Bracket (λ k. out_end (segment t k)) (length t.segments) frame c c → Holds t frame c
+holds : {t : Table} {N : ℕ} → Accepted t N → (frame c : ℕ) → c < length t.segments
+    → Bracket (λ k. out_end (segment t k)) (length t.segments) frame c c → Holds t frame c
 holds a frame zero h b = record { exists = h; from = omega (arith, a.first); to = b.above 0 (omega arith) h }
 holds a frame (suc c) h b = record {
   exists = h;
@@ -38,7 +40,8 @@ holds a frame (suc c) h b = record {
   to = b.above (suc c) (omega arith) h;
 }
 
-pub holder : {t : Table} {N : ℕ} → Accepted t N → (frame : ℕ) → frame < N → Holds t frame (ended (over_by frame) t.segments)
+pub holder : {t : Table} {N : ℕ} → Accepted t N → (frame : ℕ) → frame < N
+    → Holds t frame (ended (over_by frame) t.segments)
 unfolding ended
 holder {t} {N} a frame inside =
     let n = length t.segments in

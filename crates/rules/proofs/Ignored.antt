@@ -10,9 +10,8 @@ use lib.ListN.{length, get_or, length-map, get_or-map}
 use lib.Dec.{eqb, leb, ltb}
 use lib.IntN.{ℤ, pos, nat_abs}
 use borrow.Author.Tests.{eqb-true, ne_eqb}
-use Rattle.std.specs.Prelude.{Result, Ok, Err}
+use Rattle.std.specs.Prelude.{Result, Ok, Err, if◌then◌else◌}
 use Rattle.std.specs.Result.{result_and}
-use Rattle.conditions.specs.Conditions.{when}
 use Rattle.conditions.proofs.Tests.{decide}
 use Rattle.refusal.specs.declared.Reason.{Reason}
 use Rattle.refusal.specs.declared.Reason.TheVariants as reason
@@ -26,14 +25,17 @@ use Rattle.rules.specs.Lookups.{ended, over_by, over_by_us, segment_of_frame, se
 use Rattle.rules.specs.Absent.{stripped_source, stripped_segment, stripped}
 
 -- ---- lists of records that are changed where no one looks
-any-map : {A : Type 0} (p : A → Bool) (f : A → A) (l : List A) → ((a : A) → p (f a) ≡ p a) → list_any p (map f l) ≡ list_any p l
+any-map : {A : Type 0} (p : A → Bool) (f : A → A) (l : List A) → ((a : A) → p (f a) ≡ p a)
+    → list_any p (map f l) ≡ list_any p l
 any-map p f [] h = refl
 any-map p f (a ∷ l) h = rw (h a, any-map p f l h)
 
-count_map : {A : Type 0} (p : A → Bool) (f : A → A) (l : List A) → ((a : A) → p (f a) ≡ p a) → count_by p (map f l) ≡ count_by p l
+count_map : {A : Type 0} (p : A → Bool) (f : A → A) (l : List A) → ((a : A) → p (f a) ≡ p a)
+    → count_by p (map f l) ≡ count_by p l
 count_map p f l h = fold-map (λ s a. s + cond (p a) 1 0) f 0 l ∙ (λ i. count_by (λ a. h a i) l)
 
-pub first-map : {A : Type 0} (g : A → Result (Unit {0}) Reason) (f : A → A) (i : ℕ) (l : List A) → ((a : A) → g (f a) ≡ g a) → first_refused g i (map f l) ≡ first_refused g i l
+pub first-map : {A : Type 0} (g : A → Result (Unit {0}) Reason) (f : A → A) (i : ℕ) (l : List A)
+    → ((a : A) → g (f a) ≡ g a) → first_refused g i (map f l) ≡ first_refused g i l
 unfolding first_refused
 first-map g f i [] h = refl
 first-map g f i (a ∷ l) h = rw (h a, first-map g f (suc i) l h)
@@ -43,71 +45,79 @@ first-map g f i (a ∷ l) h = rw (h a, first-map g f (suc i) l h)
 not-one : (n : ℕ) → eqb n 0 ≡ true → eqb n 1 ≡ false
 not-one n e = ne_eqb n 1 (λ q. omega (arith, eqb-true n 0 e))
 
-words-stripped : (n dated from size kind : ℕ) → bad_words n dated (when (eqb dated 0) 0 from) (when (eqb dated 0) 0 size) kind ≡ bad_words n dated from size kind
-unfolding when
+words-stripped : (n dated from size kind : ℕ)
+    → bad_words n dated (if eqb dated 0 then 0 else from)
+    (if eqb dated 0 then 0 else size) kind ≡ bad_words n dated from size kind
 words-stripped n dated from size kind = decide (eqb dated 0) (λ e. rw (not-one dated e)) (λ e. rw e)
 
-date-stripped : (text : List ℕ) (dated from size : ℕ) → bad_date text dated (when (eqb dated 0) 0 from) (when (eqb dated 0) 0 size) ≡ bad_date text dated from size
-unfolding when
+date-stripped : (text : List ℕ) (dated from size : ℕ)
+    → bad_date text dated (if eqb dated 0 then 0 else from)
+    (if eqb dated 0 then 0 else size) ≡ bad_date text dated from size
 date-stripped text dated from size = decide (eqb dated 0) (λ e. rw (not-one dated e)) (λ e. rw e)
 
 clock-stripped : (kind ticks per modulus : ℕ)
-    → bad_clock kind (when (eqb kind 0) 0 ticks) (when (eqb kind 0) 0 per) (when (eqb kind 0 || eqb kind 1) 0 modulus) ≡ bad_clock kind ticks per modulus
-unfolding when
+    → bad_clock kind (if eqb kind 0 then 0 else ticks) (if eqb kind 0 then 0 else per) (if eqb kind 0 || eqb kind 1 then 0 else modulus) ≡ bad_clock kind ticks per modulus
 clock-stripped kind ticks per modulus =
     decide (eqb kind 0) (λ e. rw e)
     (λ e. decide (eqb kind 1) (λ q. rw (e, q, ne_eqb kind 2 (λ z. omega (arith, eqb-true kind 1 q)))) (λ q. rw (e, q)))
 
 shift-stripped : (kind modulus flag : ℕ) (z : ℤ)
-    → bad_shift kind (when (eqb kind 0 || eqb kind 1) 0 modulus) flag (negative (when (eqb flag 0) (pos 0) z)) (nat_abs (when (eqb flag 0) (pos 0) z))
+    → bad_shift kind (if eqb kind 0 || eqb kind 1 then 0 else modulus) flag (negative (if eqb flag 0 then pos 0 else z)) (nat_abs (if eqb flag 0 then pos 0 else z))
     ≡ bad_shift kind modulus flag (negative z) (nat_abs z)
-unfolding when
 shift-stripped kind modulus flag z =
     decide (eqb kind 0) (λ e. rw (e, ne_eqb kind 2 (λ q. omega (arith, eqb-true kind 0 e))))
     (λ e. decide (eqb flag 0) (λ q. rw (e, q))
     (λ q. decide (eqb kind 1) (λ o. rw (e, q, o, ne_eqb kind 2 (λ y. omega (arith, eqb-true kind 1 o)))) (λ o. rw (e, q, o))))
 
 -- ---- a record's refusals
-source-stripped : (log : Bool) (text : List ℕ) (s : Source) → source_refusal log text (stripped_source s) ≡ source_refusal log text s
+source-stripped : (log : Bool) (text : List ℕ) (s : Source)
+    → source_refusal log text (stripped_source s) ≡ source_refusal log text s
 unfolding source_refusal stripped_source
 source-stripped log text s =
     rw (date-stripped text s.dated s.from s.size, clock-stripped s.kind s.ticks s.per s.modulus)
 
-judged-stripped : (s : Source) (prev : Ends) (e : Segment)
-    → judged (stripped_source s) prev e.words (stamp_times (stripped_segment e).stamps) ≡ judged s prev e.words (stamp_times e.stamps)
+judged-stripped : (s : Source) (previous : Ends) (e : Segment)
+    → judged (stripped_source s) previous e.words (stamp_times (stripped_segment e).stamps) ≡ judged s previous e.words (stamp_times e.stamps)
 unfolding judged stamp_times stripped_source stripped_segment
-judged-stripped s prev e = rw (shift-stripped s.kind s.modulus e.words.flag e.stamps.shift)
+judged-stripped s previous e = rw (shift-stripped s.kind s.modulus e.words.flag e.stamps.shift)
 
 no_source-stripped : stripped_source no_source ≡ no_source
-unfolding stripped_source no_source when
+unfolding stripped_source no_source
 no_source-stripped = refl
 
 no-segment : stripped_segment no_segment ≡ no_segment
-unfolding stripped_segment no_segment when
+unfolding stripped_segment no_segment
 no-segment = refl
 
-pub source-at : (l : List Source) (k : ℕ) → get_or (map stripped_source l) k no_source ≡ stripped_source (get_or l k no_source)
+pub source-at : (l : List Source) (k : ℕ)
+    → get_or (map stripped_source l) k no_source ≡ stripped_source (get_or l k no_source)
 source-at l k = ap (get_or (map stripped_source l) k) (sym no_source-stripped) ∙ get_or-map stripped_source l k no_source
 
-pub segment-at : (l : List Segment) (k : ℕ) → get_or (map stripped_segment l) k no_segment ≡ stripped_segment (get_or l k no_segment)
+pub segment-at : (l : List Segment) (k : ℕ)
+    → get_or (map stripped_segment l) k no_segment ≡ stripped_segment (get_or l k no_segment)
 segment-at l k = ap (get_or (map stripped_segment l) k) (sym no-segment) ∙ get_or-map stripped_segment l k no_segment
 
-segment-stripped : (srcs : List Source) (prev : Ends) (e : Segment) → segment_refusal (map stripped_source srcs) prev (stripped_segment e) ≡ segment_refusal srcs prev e
+segment-stripped : (sources : List Source) (previous : Ends) (e : Segment)
+    → segment_refusal (map stripped_source sources) previous (stripped_segment e) ≡ segment_refusal sources previous e
 unfolding segment_refusal stripped_segment
-segment-stripped srcs prev e =
-    rw (length-map srcs stripped_source) (ap (when (leb (length srcs) e.words.source) (Err reason.NoSuchSource)) (rest srcs prev e))
+segment-stripped sources previous e =
+    rw (length-map sources stripped_source) (ap (λ (r : Result (Unit {0}) Reason). if leb (length sources) e.words.source then Err reason.NoSuchSource else r) (rest sources previous e))
   where
-    rest : (srcs : List Source) (prev : Ends) (e : Segment) → judged (get_or (map stripped_source srcs) (stripped_segment e).words.source no_source) prev (stripped_segment e).words (stamp_times (stripped_segment e).stamps) ≡ judged (source_of srcs e) prev e.words (stamp_times e.stamps)
-    rest srcs prev e = rw (source-at srcs e.words.source) (judged-stripped (source_of srcs e) prev e)
+    rest : (sources : List Source) (previous : Ends)
+        (e : Segment) → judged (get_or (map stripped_source sources) (stripped_segment e).words.source no_source) previous (stripped_segment e).words (stamp_times (stripped_segment e).stamps)
+        ≡ judged (source_of sources e) previous e.words (stamp_times e.stamps)
+    rest sources previous e = rw (source-at sources e.words.source) (judged-stripped (source_of sources e) previous e)
 
 ends-stripped : (e : Segment) → ends (stripped_segment e) ≡ ends e
 unfolding ends ends_of stamp_times stripped_segment
 ends-stripped e = refl
 
-segments-stripped : (srcs : List Source) (i : ℕ) (prev : Ends) (l : List Segment) → segments_from (map stripped_source srcs) i prev (map stripped_segment l) ≡ segments_from srcs i prev l
+segments-stripped : (sources : List Source) (i : ℕ) (previous : Ends)
+    (l : List Segment) → segments_from (map stripped_source sources) i previous (map stripped_segment l)
+    ≡ segments_from sources i previous l
 unfolding segments_from
-segments-stripped srcs i prev [] = refl
-segments-stripped srcs i prev (e ∷ l) = rw (segment-stripped srcs prev e, ends-stripped e, segments-stripped srcs (suc i) (ends e) l)
+segments-stripped sources i previous [] = refl
+segments-stripped sources i previous (e ∷ l) = rw (segment-stripped sources previous e, ends-stripped e, segments-stripped sources (suc i) (ends e) l)
 
 pub total-stripped : (l : List Segment) → frame_total (map stripped_segment l) ≡ frame_total l
 unfolding frame_total stripped_segment
@@ -125,9 +135,10 @@ malformed-stripped t =
     bad-segment : (e : Segment) → bad_segment (stripped_segment e) ≡ bad_segment e
     bad-segment e = refl
 
-front-stripped : (log : Bool) (text : List ℕ) (srcs : List Source) (bad : Bool) (n : ℕ) → front_refusal log text (map stripped_source srcs) bad n ≡ front_refusal log text srcs bad n
+front-stripped : (log : Bool) (text : List ℕ) (sources : List Source) (bad : Bool) (n : ℕ)
+    → front_refusal log text (map stripped_source sources) bad n ≡ front_refusal log text sources bad n
 unfolding front_refusal
-front-stripped log text srcs bad n = rw (length-map srcs stripped_source, first-map (source_refusal log text) stripped_source 0 srcs (source-stripped log text))
+front-stripped log text sources bad n = rw (length-map sources stripped_source, first-map (source_refusal log text) stripped_source 0 sources (source-stripped log text))
 
 pub refusal-stripped : (t : Table) → refusal t ≡ refusal (stripped t)
 unfolding refusal stripped
@@ -144,12 +155,14 @@ pub check-stripped : (t : Table) → check_of t ≡ check_of (stripped t)
 unfolding check_of stripped
 check-stripped t = λ i. result_and (refusal-stripped t i) (Ok (sym (total-stripped t.segments) i))
 
-ended-stripped : (p : Segment → Bool) (l : List Segment) → ((e : Segment) → p (stripped_segment e) ≡ p e) → ended p l ≡ ended p (map stripped_segment l)
+ended-stripped : (p : Segment → Bool) (l : List Segment) → ((e : Segment) → p (stripped_segment e) ≡ p e)
+    → ended p l ≡ ended p (map stripped_segment l)
 unfolding ended
 ended-stripped p l h = rw (count_map p stripped_segment l h, length-map l stripped_segment)
 
-same-stripped : (flag flag' : ℕ) (z z' : ℤ) → same_shift flag (when (eqb flag 0) (pos 0) z) flag' (when (eqb flag' 0) (pos 0) z') ≡ same_shift flag z flag' z'
-unfolding when
+same-stripped : (flag flag' : ℕ)
+    (z z' : ℤ) → same_shift flag (if eqb flag 0 then pos 0 else z) flag' (if eqb flag' 0 then pos 0 else z')
+    ≡ same_shift flag z flag' z'
 same-stripped flag flag' z z' =
     decide (eqb flag 0) (λ e. rw e)
     (λ e. decide (eqb flag flag') (λ q. rw (e, rw (eqb-true flag flag' q) at e)) (λ q. rw q))
@@ -180,5 +193,6 @@ continues-stripped r t = λ i. result_and (check-stripped t i) (Ok (asked i))
     asked = rw (length-map t.segments stripped_segment, segment-at t.segments (r - 1), segment-at t.segments r, runs-stripped (segment t (r - 1)) (segment t r))
 
 -- so it is the same of tables that are stripped alike
-pub alike : {A : Type 0} (f : Table → A) → ((t : Table) → f t ≡ f (stripped t)) → (a b : Table) → stripped a ≡ stripped b → f a ≡ f b
+pub alike : {A : Type 0} (f : Table → A) → ((t : Table) → f t ≡ f (stripped t)) → (a b : Table)
+    → stripped a ≡ stripped b → f a ≡ f b
 alike f h a b e = h a ∙ ap f e ∙ sym (h b)

@@ -1,4 +1,4 @@
--- Tests that say the same as a condition: Bool on one side, the paper's words on the other. Assumes nothing.
+-- Tests that say the same as a condition: a Bool of the code, and the words of specs/Grounds.antt. Assumes nothing.
 use Prim.Native.Nat.{ℕ, zero, suc, ◌+◌, ◌≤◌, ◌<◌, zero-le, suc-le-suc}
 use Rattle.std.specs.List.{list_any}
 use native.Mathlib.Nat.{le_of_suc-le-suc, not-suc-le-zero}
@@ -16,7 +16,7 @@ use Rattle.conditions.specs.Conditions.{past}
 use Rattle.conditions.proofs.Tests.{tf}
 use Rattle.rules.specs.Limits.{max_i64}
 use Rattle.rules.specs.Rules.{negative}
-use Rattle.rules.specs.Paper.{Some}
+use Rattle.std.specs.Prelude.{SomeIndex}
 
 pub record Says (b : Bool) (C : Type 0) : Type 0 where
   pub holds : b ≡ true → C
@@ -71,7 +71,11 @@ three {b} {A} {B} {C} s = record {
 }
 
 -- some record passes
-pub some : {A : Type 0} (p : A → Bool) (P : A → Type 0) (d : A) (l : List A) → ((a : A) → Says (p a) (P a)) → Says (list_any p l) (Some d P l)
+abbrev Some : {A : Type 0} → A → (A → Type 0) → List A → Type 0
+Some d P l = SomeIndex l (λ k. P (get_or l k d))
+
+pub some : {A : Type 0} (p : A → Bool) (P : A → Type 0) (d : A) (l : List A) → ((a : A) → Says (p a) (P a))
+    → Says (list_any p l) (SomeIndex l (λ k. P (get_or l k d)))
 some p P d [] s = record { holds = λ e. tf (sym e); fails = λ e x. not-suc-le-zero x.1 }
 some {A} p P d (a ∷ l) s = go (either (s a) (some p P d l s))
   where
@@ -95,11 +99,12 @@ untruth e x = subst T e x
 pub below : (a b : ℤ) → Says (lt_z a b) (a <ℤ b)
 below a b = record { holds = λ e. record { lt = truth e }; fails = λ e x. untruth e x.lt }
 
-pub atmost : (a b : ℤ) → Says (le_z a b) (a ≤ℤ b)
-atmost a b = record { holds = λ e. record { le = truth e }; fails = λ e x. untruth e x.le }
+pub no-more : (a b : ℤ) → Says (le_z a b) (a ≤ℤ b)
+no-more a b = record { holds = λ e. record { le = truth e }; fails = λ e x. untruth e x.le }
 
 -- sums of times that are not negative
-pub late : (a b : ℤ) → negative a ≡ false → negative b ≡ false → Says (past (nat_abs a) (nat_abs b) max_i64) (pos max_i64 <ℤ (a +ℤ b))
+pub late : (a b : ℤ) → negative a ≡ false → negative b ≡ false
+    → Says (past (nat_abs a) (nat_abs b) max_i64) (pos max_i64 <ℤ (a +ℤ b))
 unfolding past
 late (pos m) (pos n) p q = below (pos max_i64) (pos (m + n))
 late (pos m) (negsuc n) p q = tf q
@@ -114,5 +119,5 @@ gap (negsuc m) b z p q r = tf p
 
 -- a shift outside 0..modulus
 pub outside : (z : ℤ) (m : ℕ) → Says (negative z || leb m (nat_abs z)) ((z <ℤ pos 0) ⊎ (pos m ≤ℤ z))
-outside (pos n) m = either (below (pos n) (pos 0)) (atmost (pos m) (pos n))
+outside (pos n) m = either (below (pos n) (pos 0)) (no-more (pos m) (pos n))
 outside (negsuc n) m = record { holds = λ e. inl (record { lt = tt }); fails = λ e. tf e }

@@ -19,7 +19,8 @@ use Rattle.rules.specs.Walks.{ended_by, Ordered}
 use Rattle.rules.proofs.Accepted.{Accepted}
 
 -- two counts of as many records, where each passes as its twin does
-count_same : {A B : Type 0} (p : A → Bool) (f : ℕ → A) (q : B → Bool) (g : ℕ → B) (m i : ℕ) → ((k : ℕ) → k < m → p (f (i + k)) ≡ q (g (i + k))) → count_by p (run f i m) ≡ count_by q (run g i m)
+count_same : {A B : Type 0} (p : A → Bool) (f : ℕ → A) (q : B → Bool) (g : ℕ → B) (m i : ℕ)
+    → ((k : ℕ) → k < m → p (f (i + k)) ≡ q (g (i + k))) → count_by p (run f i m) ≡ count_by q (run g i m)
 count_same p f q g zero i h = refl
 count_same p f q g (suc m) i h =
     let e : p (f i) ≡ q (g i) = subst (λ (j : ℕ). p (f j) ≡ q (g j)) (add-zero i) (h 0 (suc-le-suc zero-le)) in
@@ -27,7 +28,8 @@ count_same p f q g (suc m) i h =
     omega (arith, count-cons p (f i) (run f (i + 1) m), count-cons q (g i) (run g (i + 1) m), ap {B = ℕ} (λ b. cond b 1 0) e, r)
 
 -- records that pass exactly where their end is at most v
-pub count-ended : {A : Type 0} (p : A → Bool) (f : ℕ → A) (e : ℕ → ℕ) (n v : ℕ) → ((k : ℕ) → k < n → p (f k) ≡ leb (e k) v) → count_by p (run f 0 n) ≡ ended_by e n v
+pub count-ended : {A : Type 0} (p : A → Bool) (f : ℕ → A) (e : ℕ → ℕ) (n v : ℕ)
+    → ((k : ℕ) → k < n → p (f k) ≡ leb (e k) v) → count_by p (run f 0 n) ≡ ended_by e n v
 unfolding ended_by
 count-ended p f e n v h = count_same p f (λ k. leb (e k) v) (λ k. k) n 0 (λ k l. subst (λ (j : ℕ). p (f j) ≡ leb (e j) v) (sym (zero-add k)) (h k l))
 
@@ -64,7 +66,7 @@ steps e n h i j q l = subst (λ (x : ℕ). e i ≤ e x) (omega arith) (go (j - i
 
 -- where segment k ends, as a number: its times are not negative
 abbrev pub end_us : Table → ℕ → ℕ
-end_us t k = nat_abs (segment t k).stamps.outstart + nat_abs (segment t k).stamps.duration
+end_us t k = nat_abs (segment t k).stamps.out_start + nat_abs (segment t k).stamps.duration
 
 module _ {t : Table} {N : ℕ} (a : Accepted t N) where
   pub frames-ordered : Ordered (λ k. out_end (segment t k)) (length t.segments) max_u64
@@ -79,5 +81,5 @@ module _ {t : Table} {N : ℕ} (a : Accepted t N) where
     rising = steps (end_us t) _ (λ k l. omega (arith, begins k l));
   }
     where
-      begins : (k : ℕ) → suc k < length t.segments → nat_abs (segment t (suc k)).stamps.outstart ≡ end_us t k
+      begins : (k : ℕ) → suc k < length t.segments → nat_abs (segment t (suc k)).stamps.out_start ≡ end_us t k
       begins k l = ap nat_abs ((a.follows k l).time ∙ (a.segments k (omega arith)).out-time.sum)

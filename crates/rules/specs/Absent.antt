@@ -1,46 +1,46 @@
--- Words of an absent thing, which are ignored: a table with these words set to 0, `stripped`, gets the same answers, so two tables that differ only in them do.
-use Rattle.std.specs.Prelude.{◌||◌, map, eqb, pos}
-use Rattle.conditions.specs.Conditions.{when}
+-- Words of an absent thing are ignored, RULES 1.5: a table with these words set to 0, `stripped`, gets the same
+-- answers, so that two tables which differ only in them do.
+use Rattle.std.specs.Prelude.{◌||◌, map, pos, ◌==◌, if◌then◌else◌}
 use Rattle.rules.specs.declared.Source.{Source}
 use Rattle.rules.specs.declared.Segment.{Segment}
 use Rattle.rules.specs.Records.{Table}
 
--- offset and length of an absent creation time; clock numbers of kind 0; modulus of kinds 0 and 1
+-- offset and length of an absent creation time, rate and modulus of no clock, the modulus of a clock without one
 unfoldable pub stripped_source : Source → Source
-stripped_source s = record {
-  frames = s.frames;
-  num = s.num;
-  den = s.den;
-  dated = s.dated;
-  from = when (eqb s.dated 0) 0 s.from;
-  size = when (eqb s.dated 0) 0 s.size;
-  kind = s.kind;
-  ticks = when (eqb s.kind 0) 0 s.ticks;
-  per = when (eqb s.kind 0) 0 s.per;
-  modulus = when (eqb s.kind 0 || eqb s.kind 1) 0 s.modulus;
+stripped_source source = record {
+  frames = source.frames;
+  numerator = source.numerator;
+  denominator = source.denominator;
+  dated = source.dated;
+  from = if source.dated == 0 then 0 else source.from;
+  size = if source.dated == 0 then 0 else source.size;
+  kind = source.kind;
+  ticks = if source.kind == 0 then 0 else source.ticks;
+  per = if source.kind == 0 then 0 else source.per;
+  modulus = if source.kind == 0 || source.kind == 1 then 0 else source.modulus;
 }
 
--- the shift of an absent shift
+-- the shift of a segment without one
 unfoldable pub stripped_segment : Segment → Segment
-stripped_segment e = record {
-  words = e.words;
+stripped_segment segment = record {
+  words = segment.words;
   stamps = record {
-    srcstart = e.stamps.srcstart;
-    outstart = e.stamps.outstart;
-    duration = e.stamps.duration;
-    srccap = e.stamps.srccap;
-    outcap = e.stamps.outcap;
-    capdur = e.stamps.capdur;
-    shift = when (eqb e.words.flag 0) (pos 0) e.stamps.shift;
+    source_start = segment.stamps.source_start;
+    out_start = segment.stamps.out_start;
+    duration = segment.stamps.duration;
+    source_capture_start = segment.stamps.source_capture_start;
+    out_capture_start = segment.stamps.out_capture_start;
+    capture_duration = segment.stamps.capture_duration;
+    shift = if segment.words.flag == 0 then pos 0 else segment.stamps.shift;
   };
 }
 
 -- a table with the words of what is absent set to 0
 unfoldable pub stripped : Table → Table
-stripped t = record {
-  uneven = t.uneven;
-  log = t.log;
-  text = t.text;
-  sources = map stripped_source t.sources;
-  segments = map stripped_segment t.segments;
+stripped table = record {
+  uneven = table.uneven;
+  log = table.log;
+  text = table.text;
+  sources = map stripped_source table.sources;
+  segments = map stripped_segment table.segments;
 }

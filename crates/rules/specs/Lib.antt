@@ -1,7 +1,7 @@
 pub mod Limits
 pub mod Records
 pub mod Rules
-pub mod Paper
+pub mod Grounds
 pub mod Lookups
 pub mod Absent
 pub mod Walks

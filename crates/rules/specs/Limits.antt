@@ -1,4 +1,4 @@
--- The limits that 2 and 14 hold a table to.
+-- The limits that 2 and 14 hold a table to, RULES 11 and 2.4.
 use Rattle.std.specs.Prelude.{ℕ}
 
 abbrev pub max_sources : ℕ

@@ -1,16 +1,17 @@
-// Refusals 1 to 17 over records: no word here knows how a table is lent. The Rust's SegmentTable::check.
+// Refusals 1 to 17, by RULES 3, over records: nothing here knows how a table is lent. The Rust's
+// `SegmentTable::check`.
 #![tactic(auto)]
 
-ghost use Rattle.std.specs.Prelude.{◌≡◌, true, false, not, ◌||◌, ◌↔◌, ◌≤◌, nat_abs, Ok};
+ghost use Rattle.std.specs.Prelude.{◌≡◌, true, false, not, ◌||◌, ◌↔◌, ◌≤◌, Ok, unsigned_abs};
 ghost use Rattle.rules.specs.Limits.{max_i64};
 ghost use Rattle.rules.specs.Records.{Table, frame_total};
 ghost use Rattle.rules.specs.Rules.{bad_words, zero_in_source, bad_date, bad_clock, source_refusal, negative, stamp_times, too_late, apart, bad_shift, over_limit, judged, start, ends, check_of};
-ghost use Rattle.rules.specs.Paper.{tests, Rightly};
+ghost use Rattle.rules.specs.Grounds.{tests, Rightly};
 ghost use Rattle.rules.specs.Walks.{frames_or, times_or, turned, FineFrames, FineShift, out_of_time, Passing, EndFits};
 
 use refusal::Reason;
 
-// Limits of 2.
+// The limits of 2, RULES 11.
 const MAX_SOURCES: usize = 64;
 
 pub const MAX_SEGMENTS: usize = 512;
@@ -18,15 +19,16 @@ pub const MAX_SEGMENTS: usize = 512;
 // The largest i64.
 const MAX_I64: u64 = 0x7fff_ffff_ffff_ffff;
 
-// A source of the table; the Rust's TableSource.
+// A source of the table, RULES 1.2; the Rust's TableSource.
 #[derive(Clone, Copy)]
 pub struct Source {
     // Its frames.
     pub frames: u64,
-    // Its fps numerator and denominator: fps.
-    pub num: u64,
-    pub den: u64,
-    // Whether it has a creation time (0, 1), and that time's offset and length in the lent text: creation_time.
+    // Its frames a second, numerator and denominator: fps.
+    pub numerator: u64,
+    pub denominator: u64,
+    // Whether it has a creation time (0, 1), and that time's offset and length in the lent text:
+    // creation_time.
     pub dated: u64,
     pub from: u64,
     pub size: u64,
@@ -38,7 +40,7 @@ pub struct Source {
     pub modulus: u64,
 }
 
-// A segment's unsigned words; of the Rust's TrimSegment.
+// A segment's unsigned words, RULES 1.3; of the Rust's TrimSegment.
 #[derive(Clone, Copy)]
 pub struct Words {
     // The source's number: source.
@@ -53,21 +55,21 @@ pub struct Words {
     pub flag: u64,
 }
 
-// A segment's signed words: six times in microseconds, and the shift.
+// A segment's signed words, RULES 1.3: its six times, and its shift.
 #[derive(Clone, Copy)]
 pub struct Stamps {
     // src_start_us.
-    pub srcstart: i64,
+    pub source_start: i64,
     // out_start_us.
-    pub outstart: i64,
+    pub out_start: i64,
     // duration_us.
     pub duration: i64,
     // src_capture_start_us.
-    pub srccap: i64,
+    pub source_capture_start: i64,
     // out_capture_start_us.
-    pub outcap: i64,
+    pub out_capture_start: i64,
     // capture_duration_us.
-    pub capdur: i64,
+    pub capture_duration: i64,
     // clock_shift.
     pub shift: i64,
 }
@@ -79,29 +81,24 @@ pub struct Segment {
     pub stamps: Stamps,
 }
 
-// What a segment's signed words say: whether one of the six times is negative, and each one's magnitude.
-// The magnitudes of times are used only after 13, where none is negative.
+// What a segment's signed words say: whether one of the six times is negative, and each one's
+// magnitude. The magnitudes of times are used only after 13, where none is negative.
 #[derive(Clone, Copy)]
 pub struct SixTimes {
     pub negative: bool,
-    // src_start_us.
-    pub srcstart: u64,
-    // out_start_us.
-    pub outstart: u64,
-    // duration_us.
+    pub source_start: u64,
+    pub out_start: u64,
     pub duration: u64,
-    // src_capture_start_us.
-    pub srccap: u64,
-    // out_capture_start_us.
-    pub outcap: u64,
-    // capture_duration_us.
-    pub capdur: u64,
-    // Whether clock_shift is negative, and its magnitude.
+    pub source_capture_start: u64,
+    pub out_capture_start: u64,
+    pub capture_duration: u64,
+    // Whether the shift is negative, and its magnitude.
     pub back: bool,
     pub shift: u64,
 }
 
-// Whether there is a segment before, and where it ends: the frame, the time and the capture time after its last.
+// Whether there is a segment before, and where it ends: the frame, the time and the capture time
+// after its last.
 #[derive(Clone, Copy)]
 pub struct Ends {
     pub some: bool,
@@ -110,11 +107,11 @@ pub struct Ends {
     pub capture: u64,
 }
 
-// 1, of a source's words, where n bytes of text are lent.
-pub fn bad_words(n: u64, dated: u64, from: u64, size: u64, kind: u64) -> bool
-    ensures { result ≡ bad_words n dated from size kind }
+// 1, of a source's words.
+pub fn bad_words(text_length: u64, dated: u64, from: u64, size: u64, kind: u64) -> bool
+    ensures { result ≡ bad_words text_length dated from size kind }
 {
-    let leaves = conditions::is_past(from, size, n);
+    let leaves = conditions::is_past(from, size, text_length);
     ((dated > 1) | (kind > 2)) | ((dated == 1) & leaves)
 }
 
@@ -126,10 +123,10 @@ pub fn over_limit(sources: usize, segments: usize) -> bool
 }
 
 // 4.
-fn zero_in_source(frames: u64, num: u64, den: u64) -> bool
-    ensures { result ≡ zero_in_source frames num den }
+fn zero_in_source(frames: u64, numerator: u64, denominator: u64) -> bool
+    ensures { result ≡ zero_in_source frames numerator denominator }
 {
-    ((frames == 0) | (num == 0)) | (den == 0)
+    ((frames == 0) | (numerator == 0)) | (denominator == 0)
 }
 
 // 5. A range that leaves the text, which 1 has refused, is taken as far as the text goes.
@@ -159,40 +156,40 @@ fn bad_clock(kind: u64, ticks: u64, per: u64, modulus: u64) -> bool
 }
 
 // 4 to 7 of a source.
-#[tactic(auto, unfolding(conditions::specs::Conditions::when, crate::specs::Rules::source_refusal))]
-pub fn source_refusal(log: bool, text: &[u8], s: Source) -> Result<(), Reason>
-    ensures { result ≡ source_refusal log text.now s }
+#[tactic(auto, unfolding(crate::specs::Rules::source_refusal))]
+pub fn source_refusal(log: bool, text: &[u8], source: Source) -> Result<(), Reason>
+    ensures { result ≡ source_refusal log text.now source }
 {
-    if zero_in_source(s.frames, s.num, s.den) {
+    if zero_in_source(source.frames, source.numerator, source.denominator) {
         return Err(Reason::ZeroInSource);
     }
-    if bad_date(text, s.dated, s.from, s.size) {
+    if bad_date(text, source.dated, source.from, source.size) {
         return Err(Reason::BadDate);
     }
-    if bad_clock(s.kind, s.ticks, s.per, s.modulus) {
+    if bad_clock(source.kind, source.ticks, source.per, source.modulus) {
         return Err(Reason::BadClock);
     }
-    if log & (s.kind == 0) {
+    if log & (source.kind == 0) {
         return Err(Reason::NoClock);
     }
     Ok(())
 }
 
 // 14, of a start with its duration and of the capture pair.
-fn too_late(start: u64, duration: u64, cap: u64, capdur: u64) -> bool
-    ensures { result ≡ too_late start duration cap capdur }
+fn too_late(start: u64, duration: u64, capture: u64, capture_duration: u64) -> bool
+    ensures { result ≡ too_late start duration capture capture_duration }
 {
     if conditions::is_past(start, duration, MAX_I64) {
         return true;
     }
-    conditions::is_past(cap, capdur, MAX_I64)
+    conditions::is_past(capture, capture_duration, MAX_I64)
 }
 
 // 16: the first segment is free.
-fn is_apart(some: bool, time: u64, capture: u64, outstart: u64, outcap: u64) -> bool
-    ensures { result ≡ apart some time capture outstart outcap }
+fn is_apart(some: bool, time: u64, capture: u64, out_start: u64, out_capture_start: u64) -> bool
+    ensures { result ≡ apart some time capture out_start out_capture_start }
 {
-    some & ((outstart != time) | (outcap != capture))
+    some & ((out_start != time) | (out_capture_start != capture))
 }
 
 // 17.
@@ -204,56 +201,78 @@ fn bad_shift(kind: u64, modulus: u64, flag: u64, back: bool, shift: u64) -> bool
 }
 
 // 10 to 12. Each test leaves at once, since most segments pass all and a walk of many is long.
-#[tactic(auto, unfolding(conditions::specs::Conditions::when))]
-fn frames_refusal(frames: u64, first: u64, count: u64, out: u64) -> Result<(), Reason>
-    ensures { result ≡ frames_or frames first count out (Ok tt) }
+#[tactic(auto)]
+fn frames_refusal(frames: u64, source_first: u64, count: u64, out_first: u64) -> Result<(), Reason>
+    ensures { result ≡ frames_or frames source_first count out_first (Ok tt) }
 {
     if count == 0 {
         return Err(Reason::NoFrames);
     }
-    if conditions::is_past(out, count, u64::MAX) {
+    if conditions::is_past(out_first, count, u64::MAX) {
         return Err(Reason::FramesWrap);
     }
-    if conditions::is_past(first, count, u64::MAX) {
+    if conditions::is_past(source_first, count, u64::MAX) {
         return Err(Reason::FramesWrap);
     }
-    if conditions::is_past(first, count, frames) {
+    if conditions::is_past(source_first, count, frames) {
         return Err(Reason::PastSource);
     }
     Ok(())
 }
 
 // 13 to 16, and 14 of the out pairs.
-#[tactic(auto, unfolding(conditions::specs::Conditions::when))]
-fn times_refusal(prev: Ends, out: u64, t: SixTimes) -> Result<(), Reason>
-    ensures { result ≡ times_or prev out t (Ok tt) }
+#[tactic(auto)]
+fn times_refusal(previous: Ends, out_first: u64, times: SixTimes) -> Result<(), Reason>
+    ensures { result ≡ times_or previous out_first times (Ok tt) }
 {
-    if t.negative {
+    if times.negative {
         return Err(Reason::NegativeTime);
     }
-    if too_late(t.srcstart, t.duration, t.srccap, t.capdur) {
+    if too_late(
+        times.source_start,
+        times.duration,
+        times.source_capture_start,
+        times.capture_duration,
+    ) {
         return Err(Reason::TooLate);
     }
-    if out != prev.frame {
+    if out_first != previous.frame {
         return Err(Reason::FrameGap);
     }
-    if is_apart(prev.some, prev.time, prev.capture, t.outstart, t.outcap) {
+    if is_apart(
+        previous.some,
+        previous.time,
+        previous.capture,
+        times.out_start,
+        times.out_capture_start,
+    ) {
         return Err(Reason::TimeGap);
     }
-    if too_late(t.outstart, t.duration, t.outcap, t.capdur) {
+    if too_late(
+        times.out_start,
+        times.duration,
+        times.out_capture_start,
+        times.capture_duration,
+    ) {
         return Err(Reason::TooLate);
     }
     Ok(())
 }
 
-// 10 to 17 of a segment of the source s, after one that ends at prev.
-#[tactic(auto, using(crate::proofs::Turns::judged_parts), unfolding(conditions::specs::Conditions::when))]
-fn judge(s: Source, prev: Ends, w: Words, t: SixTimes) -> Result<(), Reason>
-    ensures { result ≡ judged s prev w t }
+// 10 to 17 of a segment of this source, after one that ends at `previous`.
+#[tactic(auto, using(crate::proofs::Turns::judged_parts))]
+fn judge(source: Source, previous: Ends, words: Words, times: SixTimes) -> Result<(), Reason>
+    ensures { result ≡ judged source previous words times }
 {
-    frames_refusal(s.frames, w.first, w.count, w.out)?;
-    times_refusal(prev, w.out, t)?;
-    if bad_shift(s.kind, s.modulus, w.flag, t.back, t.shift) {
+    frames_refusal(source.frames, words.first, words.count, words.out)?;
+    times_refusal(previous, words.out, times)?;
+    if bad_shift(
+        source.kind,
+        source.modulus,
+        words.flag,
+        times.back,
+        times.shift,
+    ) {
         return Err(Reason::BadShift);
     }
     Ok(())
@@ -261,15 +280,20 @@ fn judge(s: Source, prev: Ends, w: Words, t: SixTimes) -> Result<(), Reason>
 
 // 10 to 17 of a segment, and where it ends.
 #[tactic(auto, unfolding(crate::specs::Walks::turned, crate::specs::Rules::ends_of))]
-pub fn turn_of(s: Source, prev: Ends, w: Words, t: SixTimes) -> Result<Ends, Reason>
-    ensures { result ≡ turned s prev w t }
+pub fn turn_of(
+    source: Source,
+    previous: Ends,
+    words: Words,
+    times: SixTimes,
+) -> Result<Ends, Reason>
+    ensures { result ≡ turned source previous words times }
 {
-    judge(s, prev, w, t)?;
+    judge(source, previous, words, times)?;
     Ok(Ends {
         some: true,
-        frame: w.out + w.count,
-        time: t.outstart + t.duration,
-        capture: t.outcap + t.capdur,
+        frame: words.out + words.count,
+        time: times.out_start + times.duration,
+        capture: times.out_capture_start + times.capture_duration,
     })
 }
 
@@ -287,40 +311,56 @@ pub fn no_end() -> Ends
 }
 
 // A number that isn't negative.
-fn plain(x: i64) -> u64
-    requires { negative x ≡ false }
-    ensures { (result ≡ nat_abs x) × (result ≤ max_i64) }
+fn plain(number: i64) -> u64
+    requires { negative number ≡ false }
+    ensures { (result ≡ unsigned_abs number) × (result ≤ max_i64) }
 {
-    x as u64
+    number as u64
 }
 
 // Whether any of six times is negative.
-fn any_negative(a: i64, b: i64, c: i64, d: i64, e: i64, f: i64) -> bool
-    ensures { result ≡ ((negative a || negative b) || (negative c || negative d)) || (negative e || negative f) }
+fn any_negative(
+    source_start: i64,
+    out_start: i64,
+    duration: i64,
+    source_capture_start: i64,
+    out_capture_start: i64,
+    capture_duration: i64,
+) -> bool
+    ensures { result
+        ≡ ((negative source_start || negative out_start)
+        || (negative duration || negative source_capture_start))
+        || (negative out_capture_start || negative capture_duration) }
 {
-    let first = (a < 0) | (b < 0);
-    let second = (c < 0) | (d < 0);
-    let third = (e < 0) | (f < 0);
+    let first = (source_start < 0) | (out_start < 0);
+    let second = (duration < 0) | (source_capture_start < 0);
+    let third = (out_capture_start < 0) | (capture_duration < 0);
     (first | second) | third
 }
 
-// Whether none of 10, 11, 12 and 15 refuses a segment after one that ends at `before`. Which would be first isn't asked, so that each sum is tested once.
-fn fine_frames(frames: u64, first: u64, count: u64, out: u64, before: u64) -> bool
-    ensures { (result ≡ true) ↔ FineFrames frames first count out before }
+// `fine_frames`, `fine_shift`, `late` and `fine_times` are a second copy of the tests of
+// `frames_refusal`, `bad_shift`, `too_late` and `times_refusal`, for `pass`. A walk by it asks only
+// whether nothing refuses, so that the tests are few, in an order that is cheap: most segments
+// pass (docs/DECISIONS.md, 'Tables').
+
+// Whether none of 10, 11, 12 and 15 refuses a segment, after one whose frames end at `before`.
+// Which would be first isn't asked, so that each sum is tested once.
+fn fine_frames(frames: u64, source_first: u64, count: u64, out_first: u64, before: u64) -> bool
+    ensures { (result ≡ true) ↔ FineFrames frames source_first count out_first before }
 {
     if count == 0 {
         return false;
     }
-    if out != before {
+    if out_first != before {
         return false;
     }
-    if count > u64::MAX - out {
+    if count > u64::MAX - out_first {
         return false;
     }
     if count > frames {
         return false;
     }
-    first <= frames - count
+    source_first <= frames - count
 }
 
 // Whether neither 1 refuses a segment's flag nor 17 its shift.
@@ -344,111 +384,146 @@ fn fine_shift(kind: u64, modulus: u64, flag: u64, shift: i64) -> bool
 
 // 14 of numbers that aren't negative: their sums fit.
 #[tactic(auto, unfolding(conditions::specs::Conditions::past))]
-fn late(start: u64, duration: u64, cap: u64, capdur: u64) -> bool
-    requires { (start ≤ max_i64) × (duration ≤ max_i64) × (cap ≤ max_i64) × (capdur ≤ max_i64) }
-    ensures { result ≡ too_late start duration cap capdur }
+fn late(start: u64, duration: u64, capture: u64, capture_duration: u64) -> bool
+    requires { (start ≤ max_i64) × (duration ≤ max_i64) × (capture ≤ max_i64)
+        × (capture_duration ≤ max_i64) }
+    ensures { result ≡ too_late start duration capture capture_duration }
 {
-    (start + duration > MAX_I64) | (cap + capdur > MAX_I64)
+    (start + duration > MAX_I64) | (capture + capture_duration > MAX_I64)
 }
 
-// Whether neither 14 nor 16 refuses a segment whose times aren't negative, after one that ends at prev.
+// Whether neither 14 nor 16 refuses a segment whose times aren't negative, after one that ends at
+// `previous`.
 fn fine_times(
-    prev: Ends,
-    srcstart: u64,
-    outstart: u64,
+    previous: Ends,
+    source_start: u64,
+    out_start: u64,
     duration: u64,
-    srccap: u64,
-    outcap: u64,
-    capdur: u64,
+    source_capture_start: u64,
+    out_capture_start: u64,
+    capture_duration: u64,
 ) -> bool
-    requires { (srcstart ≤ max_i64) × (outstart ≤ max_i64) × (duration ≤ max_i64) × (srccap ≤ max_i64) × (outcap ≤ max_i64) × (capdur ≤ max_i64) }
-    ensures { result ≡ not (out_of_time prev srcstart outstart duration srccap outcap capdur) }
+    requires { (source_start ≤ max_i64) × (out_start ≤ max_i64) × (duration ≤ max_i64)
+        × (source_capture_start ≤ max_i64) × (out_capture_start ≤ max_i64)
+        × (capture_duration ≤ max_i64) }
+    ensures { result
+        ≡ not (out_of_time previous source_start out_start duration source_capture_start
+        out_capture_start capture_duration) }
 {
-    let gap = is_apart(prev.some, prev.time, prev.capture, outstart, outcap);
-    let a = late(srcstart, duration, srccap, capdur);
-    let b = late(outstart, duration, outcap, capdur);
-    !(gap | (a | b))
+    let gap = is_apart(
+        previous.some,
+        previous.time,
+        previous.capture,
+        out_start,
+        out_capture_start,
+    );
+    let source_late = late(
+        source_start,
+        duration,
+        source_capture_start,
+        capture_duration,
+    );
+    let out_late = late(out_start, duration, out_capture_start, capture_duration);
+    !(gap | (source_late | out_late))
 }
 
 // What a segment's signed words say.
 #[tactic(auto, unfolding(crate::specs::Rules::stamp_times))]
-pub fn times_of(t: Stamps) -> SixTimes
-    ensures { result ≡ stamp_times t }
+pub fn times_of(stamps: Stamps) -> SixTimes
+    ensures { result ≡ stamp_times stamps }
 {
     SixTimes {
         negative: any_negative(
-            t.srcstart, t.outstart, t.duration, t.srccap, t.outcap, t.capdur,
+            stamps.source_start,
+            stamps.out_start,
+            stamps.duration,
+            stamps.source_capture_start,
+            stamps.out_capture_start,
+            stamps.capture_duration,
         ),
-        srcstart: t.srcstart.unsigned_abs(),
-        outstart: t.outstart.unsigned_abs(),
-        duration: t.duration.unsigned_abs(),
-        srccap: t.srccap.unsigned_abs(),
-        outcap: t.outcap.unsigned_abs(),
-        capdur: t.capdur.unsigned_abs(),
-        back: t.shift < 0,
-        shift: t.shift.unsigned_abs(),
+        source_start: stamps.source_start.unsigned_abs(),
+        out_start: stamps.out_start.unsigned_abs(),
+        duration: stamps.duration.unsigned_abs(),
+        source_capture_start: stamps.source_capture_start.unsigned_abs(),
+        out_capture_start: stamps.out_capture_start.unsigned_abs(),
+        capture_duration: stamps.capture_duration.unsigned_abs(),
+        back: stamps.shift < 0,
+        shift: stamps.shift.unsigned_abs(),
     }
 }
 
 // Where a segment ends that was passed.
 #[tactic(auto, unfolding(crate::specs::Rules::ends, crate::specs::Rules::ends_of, crate::specs::Rules::stamp_times))]
-pub fn end_of(e: Segment) -> Ends
-    requires { EndFits e }
-    ensures { result ≡ ends e }
+pub fn end_of(segment: Segment) -> Ends
+    requires { EndFits segment }
+    ensures { result ≡ ends segment }
 {
-    let w = e.words;
-    let m = times_of(e.stamps);
+    let words = segment.words;
+    let numbers = times_of(segment.stamps);
     Ends {
         some: true,
-        frame: w.out + w.count,
-        time: m.outstart + m.duration,
-        capture: m.outcap + m.capdur,
+        frame: words.out + words.count,
+        time: numbers.out_start + numbers.duration,
+        capture: numbers.out_capture_start + numbers.capture_duration,
     }
 }
 
-// Passes a segment of the source s, after one that ends at prev: where it ends, or no end where 1 or one of 10 to 17 refuses it. Which one does isn't asked,
-// so that few tests are needed: most segments pass.
-pub fn pass(s: Source, prev: Ends, e: Segment) -> Ends
-    ensures { Passing s prev e.words e.stamps result }
+// Passes a segment of this source, after one that ends at `previous`: where it ends, or no end
+// where 1 or one of 10 to 17 refuses it.
+pub fn pass(source: Source, previous: Ends, segment: Segment) -> Ends
+    ensures { Passing source previous segment.words segment.stamps result }
 {
-    let w = e.words;
-    let t = e.stamps;
-    if !fine_frames(s.frames, w.first, w.count, w.out, prev.frame) {
+    let words = segment.words;
+    let stamps = segment.stamps;
+    if !fine_frames(
+        source.frames,
+        words.first,
+        words.count,
+        words.out,
+        previous.frame,
+    ) {
         return no_end();
     }
     if any_negative(
-        t.srcstart, t.outstart, t.duration, t.srccap, t.outcap, t.capdur,
+        stamps.source_start,
+        stamps.out_start,
+        stamps.duration,
+        stamps.source_capture_start,
+        stamps.out_capture_start,
+        stamps.capture_duration,
     ) {
         return no_end();
     }
-    let from = plain(t.outstart);
-    let lasts = plain(t.duration);
-    let cap = plain(t.outcap);
-    let capdur = plain(t.capdur);
+    let out_start = plain(stamps.out_start);
+    let duration = plain(stamps.duration);
+    let out_capture_start = plain(stamps.out_capture_start);
+    let capture_duration = plain(stamps.capture_duration);
     if !fine_times(
-        prev,
-        plain(t.srcstart),
-        from,
-        lasts,
-        plain(t.srccap),
-        cap,
-        capdur,
+        previous,
+        plain(stamps.source_start),
+        out_start,
+        duration,
+        plain(stamps.source_capture_start),
+        out_capture_start,
+        capture_duration,
     ) {
         return no_end();
     }
-    if !fine_shift(s.kind, s.modulus, w.flag, t.shift) {
+    if !fine_shift(source.kind, source.modulus, words.flag, stamps.shift) {
         return no_end();
     }
     Ends {
         some: true,
-        frame: w.out + w.count,
-        time: from + lasts,
-        capture: cap + capdur,
+        frame: words.out + words.count,
+        time: out_start + duration,
+        capture: out_capture_start + capture_duration,
     }
 }
 
-// A table is refused with the first condition that holds of it, and accepted where none does.
+// A table is refused with the first condition of RULES 3 that holds of it, and accepted where none
+// does.
 #[tactic(auto, using(crate::proofs::Exact::rightly))]
 pub fn refusals_are_right()
-    ensures { (t : Table) → Rightly (check_of t) (tests t) (frame_total t.segments) }
+    ensures { (table : Table)
+        → Rightly (check_of table) (tests table) (frame_total table.segments) }
 {}

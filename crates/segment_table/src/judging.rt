@@ -20,7 +20,9 @@ pub extern "C" fn st_validate_no_video(
     text: &[u8],
     index: &mut u64,
 ) -> u64
-    ensures { (result, tt, index.new) ≡ told unsaid (validate_of (table_of sources.now segments.now times.now log text.now) nothing) tt }
+    ensures { (result, tt, index.new)
+        ≡ told unsaid
+        (validate_of (table_of sources.now segments.now times.now log text.now) nothing) tt }
 {
     let answer = judge::validate(
         sources,
@@ -34,8 +36,8 @@ pub extern "C" fn st_validate_no_video(
     told::tell_refusal(answer, index)
 }
 
-// Judges a table by a video of video_frames frames at num / den a second: its frame total.
-// Lent: a table. Writes frames, index. Refuses: 1 to 17, 20, 22, 23 with 24, 25.
+// Judges a table by a video of video_frames frames at numerator / denominator a second: its frame
+// total. Lent: a table. Writes frames, index. Refuses: 1 to 17, 20, 22, 23 with 24, 25.
 #[tactic(auto, unfolding(judge::specs::Video::shown_by))]
 #[unsafe(no_mangle)]
 pub extern "C" fn st_validate_constant(
@@ -45,24 +47,29 @@ pub extern "C" fn st_validate_constant(
     log: bool,
     text: &[u8],
     video_frames: u64,
-    num: u64,
-    den: u64,
+    numerator: u64,
+    denominator: u64,
     frames: &mut u64,
     index: &mut u64,
 ) -> u64
-    ensures { (result, frames.new, index.new) ≡ told itself (validate_of (table_of sources.now segments.now times.now log text.now) (constant video_frames num den)) frames.old }
+    ensures { (result, frames.new, index.new)
+        ≡ told itself
+        (validate_of (table_of sources.now segments.now times.now log text.now)
+        (constant video_frames numerator denominator))
+        frames.old }
 {
     let video = Video::Constant {
         frames: video_frames,
-        num,
-        den,
+        numerator,
+        denominator,
     };
     let answer = judge::validate(sources, segments, times, log, text, video, &times[..0]);
     told::tell(answer, frames, index)
 }
 
-// Judges a table by a video's frame times, in ticks of scale a second: its frame total. The last frame ends at end.
-// Lent: a table, the starts. Writes frames, index. Refuses: 1 to 17, 20, 22, 23 with 24, 25.
+// Judges a table by a video's frame times, in ticks of scale a second: its frame total. The last
+// frame ends at end. Lent: a table, the starts. Writes frames, index. Refuses: 1 to 17, 20, 22, 23
+// with 24, 25.
 #[tactic(auto, unfolding(judge::specs::Video::shown_by))]
 #[unsafe(no_mangle)]
 pub extern "C" fn st_validate_times(
@@ -78,7 +85,11 @@ pub extern "C" fn st_validate_times(
     frames: &mut u64,
     index: &mut u64,
 ) -> u64
-    ensures { (result, frames.new, index.new) ≡ told itself (validate_of (table_of sources.now segments.now times.now log text.now) (timed starts.now scale end nominal)) frames.old }
+    ensures { (result, frames.new, index.new)
+        ≡ told itself
+        (validate_of (table_of sources.now segments.now times.now log text.now)
+        (timed starts.now scale end nominal))
+        frames.old }
 {
     let video = Video::Times {
         scale,
@@ -89,10 +100,11 @@ pub extern "C" fn st_validate_times(
     told::tell(answer, frames, index)
 }
 
-// Judges a table by the timestamps of a MotionCam recording's frames, in nanoseconds: its frame total. One timestamp is
-// judged as one frame at the rate of segment 0's source.
-// Lent: a table, the timestamps, two working slices as long as the timestamps or longer (of one timestamp, of any length).
-// Writes both working slices (all 0), frames, index. Refuses: 1 to 17, 30, 35, 34, 33, 32, 35, 33, 20, 22, 23 with 24, 25.
+// Judges a table by the timestamps of a MotionCam recording's frames, in nanoseconds: its frame
+// total. One timestamp is judged as one frame at the rate of segment 0's source.
+// Lent: a table, the timestamps, two working slices as long as the timestamps or longer (of one
+// timestamp, of any length). Writes both working slices (all 0), frames, index. Refuses: 1 to 17,
+// 30, 35, 34, 33, 32, 35, 33, 20, 22, 23 with 24, 25.
 #[unsafe(no_mangle)]
 pub extern "C" fn st_check_mcraw(
     sources: &[u64],
@@ -101,15 +113,24 @@ pub extern "C" fn st_check_mcraw(
     log: bool,
     text: &[u8],
     timestamps: &[i64],
-    work_a: &mut [i64],
-    work_b: &mut [i64],
+    first_work: &mut [i64],
+    second_work: &mut [i64],
     frames: &mut u64,
     index: &mut u64,
 ) -> u64
-    ensures { JudgedTold (table_of sources.now segments.now times.now log text.now) timestamps.now work_a.old work_b.old frames.old result work_a.new work_b.new frames.new index.new }
+    ensures { JudgedTold (table_of sources.now segments.now times.now log text.now) timestamps.now
+        first_work.old second_work.old frames.old result first_work.new second_work.new
+        frames.new index.new }
 {
     let answer = judge::check_mcraw(
-        sources, segments, times, log, text, timestamps, work_a, work_b,
+        sources,
+        segments,
+        times,
+        log,
+        text,
+        timestamps,
+        first_work,
+        second_work,
     );
     told::tell(answer, frames, index)
 }

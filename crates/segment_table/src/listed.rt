@@ -5,8 +5,9 @@ ghost use Rattle.told.specs.Told.{told, itself};
 
 use records::TrimSegment;
 
-// The segment of a frame, over a list of records instead of words; the answer is st_segment_of_frame's.
-// Lent: the sources' words, the text, the records. Writes segment, index. Refuses: 1 to 17.
+// The segment of a frame, over a list of records instead of words; the answer is
+// st_segment_of_frame's. Lent: the sources' words, the text, the records. Writes segment, index.
+// Refuses: 1 to 17.
 #[unsafe(no_mangle)]
 pub extern "C" fn st_segment_of_frame_records(
     sources: &[u64],
@@ -17,7 +18,8 @@ pub extern "C" fn st_segment_of_frame_records(
     segment: &mut u64,
     index: &mut u64,
 ) -> u64
-    ensures { (result, segment.new, index.new) ≡ told itself (locate sources.now text.now records.now log frame) segment.old }
+    ensures { (result, segment.new, index.new)
+        ≡ told itself (locate sources.now text.now records.now log frame) segment.old }
 {
     let answer = records::segment_of_frame_records(sources, text, records, log, frame);
     told::tell(answer, segment, index)

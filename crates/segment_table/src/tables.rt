@@ -1,4 +1,5 @@
-// Tables: the check, both lookups and those of a list of frames, whether a segment continues the one before, the rows of its map.
+// Tables: the check, both lookups and those of a list of frames, whether a segment continues the
+// one before, the rows of its map.
 ghost use Rattle.std.specs.Prelude.{◌≡◌};
 ghost use Rattle.rules.specs.Rules.{check_of};
 ghost use Rattle.rules.specs.Lookups.{segment_of_frame, segment_of_time, continues_at};
@@ -18,7 +19,9 @@ pub extern "C" fn st_check(
     frames: &mut u64,
     index: &mut u64,
 ) -> u64
-    ensures { (result, frames.new, index.new) ≡ told itself (check_of (table_of sources.now segments.now times.now log text.now)) frames.old }
+    ensures { (result, frames.new, index.new)
+        ≡ told itself (check_of (table_of sources.now segments.now times.now log text.now))
+        frames.old }
 {
     told::tell(
         table::check(sources, segments, times, log, text),
@@ -40,16 +43,19 @@ pub extern "C" fn st_segment_of_frame(
     segment: &mut u64,
     index: &mut u64,
 ) -> u64
-    ensures { (result, segment.new, index.new) ≡ told itself (segment_of_frame (table_of sources.now segments.now times.now log text.now) frame) segment.old }
+    ensures { (result, segment.new, index.new)
+        ≡ told itself
+        (segment_of_frame (table_of sources.now segments.now times.now log text.now) frame)
+        segment.old }
 {
     let answer = lookup::segment_of_frame(sources, segments, times, log, text, frame);
     told::tell(answer, segment, index)
 }
 
-// The segment of each frame of a list, in any order: what st_segment_of_frame answers of it. The table is checked once, also
-// for an empty list. The frames and out_segments may not be one array.
-// Lent: a table, the frames, and room for one index a frame. Writes out_segments, written (how many), index. Refuses: 1 to
-// 17, 32.
+// The segment of each frame of a list, in any order: what st_segment_of_frame answers of it. The
+// table is checked once, also for an empty list. The frames and out_segments may not be one array.
+// Lent: a table, the frames, and room for one index a frame. Writes out_segments, written (how
+// many), index. Refuses: 1 to 17, 32.
 #[unsafe(no_mangle)]
 pub extern "C" fn st_segments_of_frames(
     sources: &[u64],
@@ -62,7 +68,8 @@ pub extern "C" fn st_segments_of_frames(
     written: &mut u64,
     index: &mut u64,
 ) -> u64
-    ensures { IndexingTold (table_of sources.now segments.now times.now log text.now) frames.now out_segments.old written.old result out_segments.new written.new index.new }
+    ensures { IndexingTold (table_of sources.now segments.now times.now log text.now) frames.now
+        out_segments.old written.old result out_segments.new written.new index.new }
 {
     let answer = lookups::segments_of_frames(
         sources,
@@ -76,8 +83,8 @@ pub extern "C" fn st_segments_of_frames(
     told::tell(answer, written, index)
 }
 
-// The segment of a time in microseconds: the number of segments that end at or before it, at most the last index.
-// Lent: a table. Writes segment, index. Refuses: 1 to 17.
+// The segment of a time in microseconds: the number of segments that end at or before it, at most
+// the last index. Lent: a table. Writes segment, index. Refuses: 1 to 17.
 #[unsafe(no_mangle)]
 pub extern "C" fn st_segment_of_time_us(
     sources: &[u64],
@@ -89,15 +96,18 @@ pub extern "C" fn st_segment_of_time_us(
     segment: &mut u64,
     index: &mut u64,
 ) -> u64
-    ensures { (result, segment.new, index.new) ≡ told itself (segment_of_time (table_of sources.now segments.now times.now log text.now) time) segment.old }
+    ensures { (result, segment.new, index.new)
+        ≡ told itself
+        (segment_of_time (table_of sources.now segments.now times.now log text.now) time)
+        segment.old }
 {
     let answer = lookup::segment_of_time_us(sources, segments, times, log, text, time);
     told::tell(answer, segment, index)
 }
 
-// Whether a segment continues the one before it: the same source, source frames that run on, equal shift. Answers 1 or
-// 0, and 0 for the first segment and for one that isn't there.
-// Lent: a table. Writes answer, index. Refuses: 1 to 17.
+// Whether a segment continues the one before it: the same source, source frames that run on, equal
+// shift. Answers 1 or 0, and 0 for the first segment and for one that isn't there. Lent: a table.
+// Writes answer, index. Refuses: 1 to 17.
 #[unsafe(no_mangle)]
 pub extern "C" fn st_continues(
     sources: &[u64],
@@ -109,14 +119,17 @@ pub extern "C" fn st_continues(
     answer: &mut u64,
     index: &mut u64,
 ) -> u64
-    ensures { (result, answer.new, index.new) ≡ told yes_or_no (continues_at (table_of sources.now segments.now times.now log text.now) segment) answer.old }
+    ensures { (result, answer.new, index.new)
+        ≡ told yes_or_no
+        (continues_at (table_of sources.now segments.now times.now log text.now) segment)
+        answer.old }
 {
     let continues = lookup::continues(sources, segments, times, log, text, segment as usize);
     told::tell(continues, answer, index)
 }
 
-// The map of an accepted table: one row a segment, an absent shift as 0.
-// Lent: a table, and room for the rows. Writes the rows, rows (how many), index. Refuses: 1 to 17, 32.
+// The map of an accepted table: one row a segment, an absent shift as 0. Lent: a table, and room
+// for the rows. Writes the rows, rows (how many), index. Refuses: 1 to 17, 32.
 #[unsafe(no_mangle)]
 pub extern "C" fn st_rows_of_table(
     sources: &[u64],
@@ -129,7 +142,8 @@ pub extern "C" fn st_rows_of_table(
     rows: &mut u64,
     index: &mut u64,
 ) -> u64
-    ensures { RowedTold (table_of sources.now segments.now times.now log text.now) out_words.old out_shifts.old rows.old result out_words.new out_shifts.new rows.new index.new }
+    ensures { RowedTold (table_of sources.now segments.now times.now log text.now) out_words.old
+        out_shifts.old rows.old result out_words.new out_shifts.new rows.new index.new }
 {
     let answer = table_rows::rows_of_table(
         sources, segments, times, log, text, out_words, out_shifts,

@@ -1,8 +1,7 @@
 // The k-th smallest of a lent slice of i64.
 #![tactic(auto)]
 
-ghost use Rattle.std.specs.Prelude.{◌≡◌, true, ◌+◌, ◌-◌, ◌*◌, ◌<◌, length, get_or, take, pos};
-ghost use Rattle.std.specs.Int.Signed.{le_z, lt_z};
+ghost use Rattle.std.specs.Prelude.{◌≡◌, true, ◌+◌, ◌-◌, ◌*◌, ◌<◌, length, get_or, take, pos, int_lt, int_le};
 ghost use Rattle.order.specs.Order.{sorted};
 ghost use Rattle.order.specs.Counts.{count_le, Greatest};
 ghost use Rattle.selection.specs.Keeping.{from_to};
@@ -10,7 +9,8 @@ ghost use Rattle.selection.specs.Bounds.{BoundsCounted, BoundsHold};
 
 use order::SMALL;
 
-// So many elements are looked at for where a selection begins, and so many of these it begins to either side of the wanted place.
+// So many elements are looked at for where a selection begins, and so many of these it begins to
+// either side of the wanted place.
 const SAMPLES: usize = 16;
 
 const ASIDE: usize = 4;
@@ -18,53 +18,55 @@ const ASIDE: usize = 4;
 // A range of values, how many elements are below it, and how many at most its greatest.
 #[derive(Clone, Copy)]
 struct Bounds {
-    pub lo: i64,
-    pub hi: i64,
+    pub low: i64,
+    pub high: i64,
     pub below: usize,
-    pub upto: usize,
+    pub up_to: usize,
 }
 
-// The k-th smallest, counted from 0. A range of values that has it is halved by counting, and where it has at most half
-// of the elements that are left, only those are kept; few are sorted. What xs holds afterwards isn't said.
+// The k-th smallest, counted from 0. A range of values that has it is halved by counting, and where
+// it has at most half of the elements that are left, only those are kept; few are sorted. What xs
+// holds afterwards isn't said.
 pub fn select(xs: &mut [i64], k: usize) -> i64
     requires { k < length xs.old }
     ensures { result ≡ get_or (sorted xs.old) k (pos 0) }
 {
     let begun = begin(&xs[..], k);
-    let mut lo = begun.lo;
-    let mut hi = begun.hi;
-    // The first m are left. Of these, so many are below lo, and so many at most hi.
-    let mut m = xs.len();
+    let mut low = begun.low;
+    let mut high = begun.high;
+    // So many are left, the first ones. Of these, so many are below low, and so many at most high.
+    let mut left = xs.len();
     let mut rank = k;
     let mut below = begun.below;
-    let mut upto = begun.upto;
-    while lo < hi {
-        if m <= SMALL {
-            order::sort_small(&mut xs[..m]);
+    let mut up_to = begun.up_to;
+    while low < high {
+        if left <= SMALL {
+            order::sort_small(&mut xs[..left]);
             return xs[rank];
         }
-        if upto - below <= m / 2 {
-            m = keep(&mut xs[..m], lo, hi);
+        if up_to - below <= left / 2 {
+            left = keep(&mut xs[..left], low, high);
             rank -= below;
             below = 0;
-            upto = m;
+            up_to = left;
         } else {
-            let v = middle(lo, hi);
-            let c = count_le(&xs[..m], v);
-            if rank < c {
-                hi = v;
-                upto = c;
+            let value = middle(low, high);
+            let count = count_le(&xs[..left], value);
+            if rank < count {
+                high = value;
+                up_to = count;
             } else {
-                lo = v + 1;
-                below = c;
+                low = value + 1;
+                below = count;
             }
         }
     }
-    lo
+    low
 }
 
-// Where to begin: from one element to another that lie around the wanted place in a sample, so that a value far from all others
-// costs little. Where these don't have it between them, two that are further apart are tried, but not the outermost.
+// Where to begin: from one element to another that lie around the wanted place in a sample, so that
+// a value far from all others costs little. Where these don't have it between them, two that are
+// further apart are tried, but not the outermost.
 fn begin(xs: &[i64], k: usize) -> Bounds
     requires { k < length xs.now }
     ensures { BoundsHold xs.now k result }
@@ -78,16 +80,16 @@ fn begin(xs: &[i64], k: usize) -> Bounds
     take_sample(xs, &mut sample, stride);
     order::sort_small(&mut sample);
     let place = k / stride;
-    let low = place.saturating_sub(ASIDE);
-    let r = between(xs, sample[sampled(low)], sample[sampled(place + ASIDE)]);
-    if (r.below <= k) & (k < r.upto) {
-        return r;
+    let before = place.saturating_sub(ASIDE);
+    let bounds = between(xs, sample[sampled(before)], sample[sampled(place + ASIDE)]);
+    if (bounds.below <= k) & (k < bounds.up_to) {
+        return bounds;
     }
     around(xs, k, sample[1], sample[SAMPLES - 2])
 }
 
-// Fills sample with elements at about equal distances. Every other pair lies one further on, so that of a pattern that repeats
-// at such a distance more than one place is seen.
+// Fills sample with elements at about equal distances. Every other pair lies one further on, so
+// that of a pattern that repeats at such a distance more than one place is seen.
 fn take_sample(xs: &[i64], sample: &mut [i64], stride: usize)
     requires { (length sample.old - 1) * stride + 1 < length xs.now }
 {
@@ -103,70 +105,71 @@ fn sampled(place: usize) -> usize
     place.min(SAMPLES - 1)
 }
 
-// The range from a to b, or all that is below or above it, whichever has the k-th smallest.
-fn around(xs: &[i64], k: usize, a: i64, b: i64) -> Bounds
+// The range from low to high, or all that is below or above it, whichever has the k-th smallest.
+fn around(xs: &[i64], k: usize, low: i64, high: i64) -> Bounds
     requires { k < length xs.now }
     ensures { BoundsHold xs.now k result }
 {
-    let r = between(xs, a, b);
-    if k < r.below {
-        let lo = order::least(xs);
+    let bounds = between(xs, low, high);
+    if k < bounds.below {
+        let lowest = order::least(xs);
         return Bounds {
-            lo,
-            hi: a - 1,
+            low: lowest,
+            high: low - 1,
             below: 0,
-            upto: r.below,
+            up_to: bounds.below,
         };
     }
-    if r.upto <= k {
-        let hi = greatest(xs);
+    if bounds.up_to <= k {
+        let highest = greatest(xs);
         return Bounds {
-            lo: b + 1,
-            hi,
-            below: r.upto,
-            upto: xs.len(),
+            low: high + 1,
+            high: highest,
+            below: bounds.up_to,
+            up_to: xs.len(),
         };
     }
-    r
+    bounds
 }
 
-// The range from a to b. Both are counted in one pass.
+// The range from low to high. Both are counted in one pass.
 #[tactic(auto, using(std::proofs::lemmas::List::take_all))]
-fn between(xs: &[i64], a: i64, b: i64) -> Bounds
-    ensures { BoundsCounted xs.now result × (result.lo ≡ a) × (result.hi ≡ b) }
+fn between(xs: &[i64], low: i64, high: i64) -> Bounds
+    ensures { BoundsCounted xs.now result × (result.low ≡ low) × (result.high ≡ high) }
 {
     let mut below: usize = 0;
-    let mut upto: usize = 0;
+    let mut up_to: usize = 0;
     for i in 0..xs.len() {
         let x = xs[i];
-        if x < a {
+        if x < low {
             below += 1;
         }
-        if x <= b {
-            upto += 1;
+        if x <= high {
+            up_to += 1;
         }
     }
     Bounds {
-        lo: a,
-        hi: b,
+        low,
+        high,
         below,
-        upto,
+        up_to,
     }
 }
 
-// Moves the elements from lo to hi to the front, in their order, and answers how many they are.
-fn keep(xs: &mut [i64], lo: i64, hi: i64) -> usize
-    ensures { (result ≡ length (from_to lo hi xs.old)) × (take result xs.new ≡ from_to lo hi xs.old) }
+// Moves the elements from low to high to the front, in their order, and answers how many they are.
+fn keep(xs: &mut [i64], low: i64, high: i64) -> usize
+    ensures { (result ≡ length (from_to low high xs.old))
+        × (take result xs.new ≡ from_to low high xs.old) }
 {
-    let mut j: usize = 0;
+    let mut kept: usize = 0;
     for i in 0..xs.len() {
         let x = xs[i];
-        xs[j] = x;
-        if (lo <= x) & (x <= hi) {
-            j += 1;
+        xs[kept] = x;
+        if (low <= x) & (x <= high) {
+            kept += 1;
         }
     }
-    j
+    kept
 }
 
 // The greatest element.
@@ -174,37 +177,38 @@ fn greatest(xs: &[i64]) -> i64
     requires { 0 < length xs.now }
     ensures { Greatest result xs.now }
 {
-    let mut hi = xs[0];
+    let mut highest = xs[0];
     for i in 1..xs.len() {
         let x = xs[i];
-        if hi < x {
-            hi = x;
+        if highest < x {
+            highest = x;
         }
     }
-    hi
+    highest
 }
 
-// A value from lo up to, not including, hi: the one halfway, rounded down or towards lo. No sum or difference on the way leaves i64.
-fn middle(lo: i64, hi: i64) -> i64
-    requires { lt_z lo hi ≡ true }
-    ensures { (le_z lo result ≡ true) × (lt_z result hi ≡ true) }
+// A value from low up to, not including, high: the one halfway, rounded down or towards low. No sum
+// or difference on the way leaves i64.
+fn middle(low: i64, high: i64) -> i64
+    requires { int_lt low high ≡ true }
+    ensures { (int_le low result ≡ true) × (int_lt result high ≡ true) }
 {
-    if lo < 0 {
-        if 0 <= hi {
-            return (lo + hi) >> 1;
+    if low < 0 {
+        if 0 <= high {
+            return (low + high) >> 1;
         }
     }
-    lo + ((hi - lo) >> 1)
+    low + ((high - low) >> 1)
 }
 
-// How many elements are at most v.
+// How many elements are at most the value.
 #[tactic(auto, using(std::proofs::lemmas::List::Sums::count_by_more_yes, std::proofs::lemmas::List::Sums::count_by_more_no, std::proofs::lemmas::List::take_all))]
-fn count_le(xs: &[i64], v: i64) -> usize
-    ensures { result ≡ count_le v xs.now }
+fn count_le(xs: &[i64], value: i64) -> usize
+    ensures { result ≡ count_le value xs.now }
 {
     let mut n: usize = 0;
     for i in 0..xs.len() {
-        if xs[i] <= v {
+        if xs[i] <= value {
             n += 1;
         }
     }

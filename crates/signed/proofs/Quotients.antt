@@ -1,4 +1,5 @@
--- Rounding by signed negation and division. Each step of the program is an integer that is written out, and fits. Assumes nothing.
+-- Rounding by signed negation and division. Each step of the program is an integer that is written out, and fits.
+-- Assumes nothing.
 use mathlib.Core.Path.{◌≡◌, sym, ap, ◌∙◌, subst}
 use mathlib.Core.Bool.{true, false}
 use Prim.Native.Nat.{ℕ, zero, suc, ◌+◌, ◌*◌, ◌/◌, ◌%◌, ◌^◌, ◌≤◌, ◌<◌}
@@ -78,7 +79,8 @@ below_at k n hk p hn =
     let f₅ : SFits w64 (neg_ℤ (pos q)) = negate q D.small in
     record { first = fit e₁ f₁; then = D; last = fit e₅ f₅; is = back e₅ f₅ ∙ ap (λ (m : ℕ). neg_ℤ (pos m)) (halves (suc k) n p) }
 
-pub below : (n d : ℤ) → nat_abs n ≤ 2 ^ 62 → pos 1 ≤ℤ d → nat_abs d < 2 ^ 62 → SFits w64 n → lt_z (read n) (pos 0) ≡ true → Below n d
+pub below : (n d : ℤ) → nat_abs n ≤ 2 ^ 62 → pos 1 ≤ℤ d → nat_abs d < 2 ^ 62 → SFits w64 n
+    → lt_z (read n) (pos 0) ≡ true → Below n d
 below n d hn pd hd f t = at n d hn pd hd (rw (to_z-of_z f) at t)
   where
     at : (n d : ℤ) → nat_abs n ≤ 2 ^ 62 → pos 1 ≤ℤ d → nat_abs d < 2 ^ 62 → lt_z n (pos 0) ≡ true → Below n d
@@ -86,7 +88,8 @@ below n d hn pd hd f t = at n d hn pd hd (rw (to_z-of_z f) at t)
     at (negsuc k) (pos m) hn pd hd t = below_at k m (omega arith) (leb→le 1 m pd.le) hd
     at (negsuc k) (negsuc m) hn pd hd t = absurd pd.le
 
-pub above : (n d : ℤ) → nat_abs n ≤ 2 ^ 62 → pos 1 ≤ℤ d → nat_abs d < 2 ^ 62 → SFits w64 n → lt_z (read n) (pos 0) ≡ false → Above n d
+pub above : (n d : ℤ) → nat_abs n ≤ 2 ^ 62 → pos 1 ≤ℤ d → nat_abs d < 2 ^ 62 → SFits w64 n
+    → lt_z (read n) (pos 0) ≡ false → Above n d
 above n d hn pd hd f t = at n d hn pd hd (rw (to_z-of_z f) at t)
   where
     at : (n d : ℤ) → nat_abs n ≤ 2 ^ 62 → pos 1 ≤ℤ d → nat_abs d < 2 ^ 62 → lt_z n (pos 0) ≡ false → Above n d

@@ -1,4 +1,5 @@
--- Whether an i64 holds a number: the test, what it answers of each, and what std's checked methods answer. Assumes nothing.
+-- Whether an i64 holds a number: the test, what it answers of each, and what std's checked methods answer. Assumes
+-- nothing.
 use Rattle.std.specs.Option.{SomeIff}
 use Rattle.std.proofs.lemmas.Bool.{or_parts}
 use Rattle.std.specs.Prelude.{if◌then◌else◌, ◌||◌, Option, Some, None}

@@ -64,7 +64,8 @@ pub in-half : (z : ℤ) → I64 z → I64 (shr_z z 2)
 in-half (pos n) h = omega arith
 in-half (negsuc n) h = omega arith
 
--- where a sum z of two numbers lies: it is an i64 exactly where the shifts' sum is in range, and then its shift is that sum less 2^63
+-- where a sum z of two numbers lies: it is an i64 exactly where the shifts' sum is in range, and then its shift is that
+-- sum less 2^63
 pub record Sums (a b z : ℤ) : Type 0 where
   pub at : 2 ^ 63 ≤ up a + up b → up z + 2 ^ 63 ≡ up a + up b
   pub inside : 2 ^ 63 ≤ up a + up b → up a + up b < 3 * 2 ^ 63 → I64 z

@@ -1,11 +1,11 @@
 -- Quotients to the nearest whole number, halves away from zero.
 use Rattle.std.specs.Prelude.{ℕ, suc, ◌+◌, ◌*◌, ◌/◌, ℤ, pos, negsuc, neg_ℤ}
 
--- n / d to the nearest whole number, halves up
+-- dividend / divisor to the nearest whole number, halves up
 abbrev pub nearest : ℕ → ℕ → ℕ
-nearest n d = (2 * n + d) / (2 * d)
+nearest dividend divisor = (2 * dividend + divisor) / (2 * divisor)
 
--- z / d to the nearest whole number, halves away from zero
+-- the same of a dividend that may be below 0, halves away from zero
 abbrev pub rounded : ℤ → ℕ → ℤ
-rounded (pos n) d = pos (nearest n d)
-rounded (negsuc n) d = neg_ℤ (pos (nearest (suc n) d))
+rounded (pos dividend) divisor = pos (nearest dividend divisor)
+rounded (negsuc n) divisor = neg_ℤ (pos (nearest (suc n) divisor))

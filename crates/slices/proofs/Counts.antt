@@ -20,7 +20,8 @@ module _ {A : Type 0} (f : A → Bool) (x : A) (l : List A) where
   count-no e = count-cons ∙ rw e (omega arith)
 
 -- n pass, and then none
-pub count-split : {A : Type 0} (f : A → Bool) (l : List A) (d : A) (n : ℕ) → n ≤ length l → ((k : ℕ) → k < n → f (get_or l k d) ≡ true)
+pub count-split : {A : Type 0} (f : A → Bool) (l : List A) (d : A) (n : ℕ) → n ≤ length l
+    → ((k : ℕ) → k < n → f (get_or l k d) ≡ true)
     → ((k : ℕ) → n ≤ k → k < length l → f (get_or l k d) ≡ false) → count_by f l ≡ n
 count-split f [] d n h y z = omega arith
 count-split f (x ∷ l) d zero h y z =

@@ -32,7 +32,8 @@ module _ {A : Type 0} where
       ∙ ap (λ (x : List A). laid x o) (append_assoc p (v ∷ []) vs)
 
 -- p is laid over o, and then q over the part of that from n on, which is put back: p and q are laid over o
-pub laid-laid : {A : Type 0} (p q o l₁ l₂ : List A) (n : ℕ) → l₁ ≡ laid p o → n ≡ length p → length p + length q ≤ length o
+pub laid-laid : {A : Type 0} (p q o l₁ l₂ : List A) (n : ℕ) → l₁ ≡ laid p o → n ≡ length p
+    → length p + length q ≤ length o
     → l₂ ≡ laid q (take (length l₁ - n) (drop n l₁)) → take n l₁ ++ (l₂ ++ drop (length l₁ - n) (drop n l₁)) ≡ laid (p ++ q) o
 laid-laid {A} p q o l₁ l₂ n e₁ en h e₂ =
     let lx : length l₁ ≡ length o = ap length e₁ ∙ length-laid p o (omega arith) in

@@ -1,4 +1,5 @@
--- Lists over a range of numbers, as a loop visits them: a law for a turn, one for a find and one for the end. Assumes nothing.
+-- Lists over a range of numbers, as a loop visits them: a law for a turn, one for a find and one for the end. Assumes
+-- nothing.
 use Prim.Native.Nat.{ℕ, suc, ◌+◌, ◌-◌, ◌≤◌, ◌<◌}
 use native.Mathlib.Omega.{arith}
 use mathlib.Core.Path.{◌≡◌, sym, ap, ◌∙◌}
@@ -23,7 +24,8 @@ module _ {A : Type 0} (f : ℕ → A) where
 
   -- a loop's invariant is `list_any p (run f k (m - k)) ≡ x`, with x the whole answer
   module _ (p : A → Bool) (k m : ℕ) {x : Bool} where
-    pub any-turn : k < m → p (f k) ≡ false → list_any p (run f k (m - k)) ≡ x → list_any p (run f (k + 1) (m - (k + 1))) ≡ x
+    pub any-turn : k < m → p (f k) ≡ false → list_any p (run f k (m - k)) ≡ x
+        → list_any p (run f (k + 1) (m - (k + 1))) ≡ x
     any-turn h e i = sym (ap (list_any p) (run-cons k m h) ∙ rw e) ∙ i
 
     pub any-hit : k < m → p (f k) ≡ true → list_any p (run f k (m - k)) ≡ x → true ≡ x

@@ -23,7 +23,8 @@ same-differ (x ∷ a) [] h = refl
 same-differ (x ∷ a) (y ∷ b) h = let e = same-differ a b (λ z. h (ap suc z)) in decide (eqb x y) (λ t. rw (t, e)) (λ t. rw t)
 
 -- byte i is a digit: the number goes on with it
-pub number-go : (l : List ℕ) (i d : ℕ) → d ≡ digit_of (get_or l i 0) → i < length l → (n : ℕ) → d ≤ 9 → number_from n (drop i l) ≡ number_from (10 * n + d) (drop (i + 1) l)
+pub number-go : (l : List ℕ) (i d : ℕ) → d ≡ digit_of (get_or l i 0) → i < length l → (n : ℕ) → d ≤ 9
+    → number_from n (drop i l) ≡ number_from (10 * n + d) (drop (i + 1) l)
 number-go l i d e h n t = rw (add-one, drop-cons l i 0 h, ← e, le-ltb 9 d t)
 
 -- digits after a number that is too large already

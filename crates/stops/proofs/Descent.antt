@@ -1,4 +1,5 @@
--- Frame times: where the answer is 36, the walk for a box that has to be there stopped at a bad header there. Assumes nothing.
+-- Frame times: where the answer is 36, the walk for a box that has to be there stopped at a broken header there.
+-- Assumes nothing.
 use mathlib.Core.Path.{◌≡◌, refl, sym, ap, ◌∙◌, subst}
 use mathlib.Core.Bool.{Bool, false, ◌||◌}
 use mathlib.Core.Logic.{inl, inr}
@@ -73,7 +74,8 @@ module _ (moov : List ℕ) where
       }
 
   -- a box that has to be there is looked for in a part, and what is next doesn't go on in what was found
-  beside : (p : Part) (others : List Search) (test : ℕ → ℕ → ℕ → Bool) (next : ℕ → List ℕ → Outcome) → Lying p → (w : Walk) → first_such test (boxes_of p.bytes) ≡ w
+  beside : (p : Part) (others : List Search) (test : ℕ → ℕ → ℕ → Bool) (next : ℕ → List ℕ → Outcome) → Lying p
+      → (w : Walk) → first_such test (boxes_of p.bytes) ≡ w
       → ((at : ℕ) (s : List ℕ) → Stopped others (next at s)) → Stopped (record { part = p; walk = w } ∷ others) (required p.base w p.bytes next)
   beside p others test next l (Found q) e f =
       let s = bytes_at p.bytes q in
@@ -82,7 +84,8 @@ module _ (moov : List ℕ) where
   beside p others test next l (BadAt at) e f = λ n. inl (stops-in p test at l e)
 
   -- the same, and what is next goes on in the part that was found
-  inward : (p : Part) (inner : Part → List Search) (test : ℕ → ℕ → ℕ → Bool) (next : ℕ → List ℕ → Outcome) → Lying p → (w : Walk) → first_such test (boxes_of p.bytes) ≡ w
+  inward : (p : Part) (inner : Part → List Search) (test : ℕ → ℕ → ℕ → Bool) (next : ℕ → List ℕ → Outcome) → Lying p
+      → (w : Walk) → first_such test (boxes_of p.bytes) ≡ w
       → ((q : Part) → Lying q → Stopped (inner q) (next q.base q.bytes)) → Stopped (and_in (record { part = p; walk = w }) inner) (required p.base w p.bytes next)
   inward p inner test next l (Found q) e f =
       told-weaker reason.Broken (next (p.base + q.start) (bytes_at p.bytes q)).answer (λ i. inr)
@@ -91,13 +94,15 @@ module _ (moov : List ℕ) where
   inward p inner test next l (BadAt at) e f = λ n. inl (stops-in p test at l e)
 
   -- a timescale that isn't whole stops nothing
-  scaled : (l : List Search) (s : Option ℕ) (next : ℕ → Outcome) → ((scale : ℕ) → Stopped l (next scale)) → Stopped l (with_scale s next)
+  scaled : (l : List Search) (s : Option ℕ) (next : ℕ → Outcome) → ((scale : ℕ) → Stopped l (next scale))
+      → Stopped l (with_scale s next)
   scaled l None next f = λ n. absurd (grind arith)
   scaled l (Some scale) next f = f scale
 
   -- of each definition, from the stbl up
   module _ (standard : Bool) (bytes room movie : ℕ) where
-    tables-told : (scale : ℕ) (edts : List ℕ) (p : Part) → Lying p → Stopped (in_tables p) (of_tables standard bytes room movie scale edts p.base p.bytes)
+    tables-told : (scale : ℕ) (edts : List ℕ) (p : Part) → Lying p
+        → Stopped (in_tables p) (of_tables standard bytes room movie scale edts p.base p.bytes)
     unfolding of_tables
     tables-told scale edts p l =
         let offsets = child_of ctts p.bytes in
@@ -105,13 +110,15 @@ module _ (moov : List ℕ) where
         (λ at d. told-weaker reason.Broken (of_durations standard (table_entries d) bytes room movie scale edts offsets d).answer (λ i. absurd)
         (plain-durations standard (table_entries d) bytes room movie scale edts offsets d))
 
-    scale-told : (scale : ℕ) (edts : List ℕ) (p : Part) → Lying p → Stopped (and_in (search_for minf p) in_info) (of_scale standard bytes room movie scale edts p.base p.bytes)
+    scale-told : (scale : ℕ) (edts : List ℕ) (p : Part) → Lying p
+        → Stopped (and_in (search_for minf p) in_info) (of_scale standard bytes room movie scale edts p.base p.bytes)
     scale-told scale edts p l =
         either (Stopped (and_in (search_for minf p) in_info)) (eqb scale 0 || eqb movie 0) (λ t n. absurd (grind arith))
         (λ t. inward p in_info (λ k start len. eqb k minf) _ l _ refl
         (λ q m. inward q in_tables (λ k start len. eqb k stbl) _ m _ refl (tables-told scale edts)))
 
-    media-told : (edts : List ℕ) (p : Part) → Lying p → Stopped (in_media p) (of_media standard bytes room movie edts p.base p.bytes)
+    media-told : (edts : List ℕ) (p : Part) → Lying p
+        → Stopped (in_media p) (of_media standard bytes room movie edts p.base p.bytes)
     unfolding of_media
     media-told edts p l = beside p (and_in (search_for minf p) in_info) (λ k start len. eqb k mdhd) _ l _ refl
         (λ at h. scaled (and_in (search_for minf p) in_info) (timescale h) _ (λ scale. scale-told scale edts p l))
@@ -120,7 +127,8 @@ module _ (moov : List ℕ) where
     unfolding of_track
     track-told p l = inward p in_media (λ k start len. eqb k mdia) _ l _ refl (media-told (child_of edts p.bytes))
 
-  movie-told : (standard : Bool) (room : ℕ) (h : List ℕ) → Stopped (and_in (search_for_video moov) in_track) (of_movie standard moov room h)
+  movie-told : (standard : Bool) (room : ℕ) (h : List ℕ)
+      → Stopped (and_in (search_for_video moov) in_track) (of_movie standard moov room h)
   movie-told standard room h =
       scaled (and_in (search_for_video moov) in_track) (timescale h) _
       (λ movie. inward (whole_part moov) in_track (is_video_track moov) _ whole-lies _ refl (track-told standard (length moov) room movie))

@@ -1,4 +1,4 @@
--- 31 is divided, and nothing else: with 36 taken back every answer is that of document 01. Assumes nothing.
+-- 31 is divided, and nothing else: with 36 taken back every answer is the undivided one. Assumes nothing.
 use Rattle.std.specs.Prelude.{if◌then◌else◌}
 use mathlib.Core.Path.{◌≡◌, refl, ap, ◌∙◌}
 use mathlib.Core.Bool.{Bool, true, false}
@@ -21,7 +21,8 @@ use Rattle.stops.specs.Promises.{ChildPlace, FindBoxPlace, Children, FrameTimesO
 use Rattle.stops.proofs.TakenBack.{moov-back}
 
 -- through a choice
-chosen : {A : Type 0} (f : A → A) (b : Bool) (x y x' y' : A) → f x ≡ x' → f y ≡ y' → f (if b then x else y) ≡ (if b then x' else y')
+chosen : {A : Type 0} (f : A → A) (b : Bool) (x y x' y' : A) → f x ≡ x' → f y ≡ y'
+    → f (if b then x else y) ≡ (if b then x' else y')
 chosen f true x y x' y' e g = e
 chosen f false x y x' y' e g = g
 
@@ -41,7 +42,8 @@ moved_back by (Found p) = refl
 moved_back by End = refl
 moved_back by (BadAt at) = refl
 
-find-box-back : (b : List ℕ) (start end kind : ℕ) (text : Bool) → taken_back (find_box_place b start end kind text) ≡ find_box_undivided b start end kind text
+find-box-back : (b : List ℕ) (start end kind : ℕ) (text : Bool)
+    → taken_back (find_box_place b start end kind text) ≡ find_box_undivided b start end kind text
 unfolding find_box_place find_box_undivided
 find-box-back b start end kind text =
     chosen taken_back (ltb most_bytes (length b)) _ _ _ _ refl
@@ -63,8 +65,8 @@ children-back b at =
 pub dividing : Dividing ChildPlace FindBoxPlace Children FrameTimesOf
 dividing = record {
   child = λ b kind r p. ap taken_back p ∙ child-back b kind;
-  find-box = λ b start end kind text r p. ap taken_back p ∙ find-box-back b start end kind text;
+  find_box = λ b start end kind text r p. ap taken_back p ∙ find-box-back b start end kind text;
   children = λ b at r p. ap taken_back p ∙ children-back b at;
-  frame-times = λ moov standard starts a b starts' a' b' r p.
+  frame_times = λ moov standard starts a b starts' a' b' r p.
       (ap taken_back p.answer ∙ (moov-back standard moov (room starts a b)).answer, p.starts ∙ ap (λ (l : List ℤ). laid l starts) (moov-back standard moov (room starts a b)).starts);
 }

@@ -1,4 +1,4 @@
--- A walk that says it stopped at a bad header came to it, and it is there and bad. Assumes nothing.
+-- A walk that says it stopped at a broken header came to it, and it is there and broken. Assumes nothing.
 use mathlib.Core.Path.{◌≡◌, refl, subst}
 use mathlib.Core.Bool.{Bool, true, false}
 use mathlib.Core.Logic.{inl, inr}
@@ -41,7 +41,8 @@ Ends s clean = Unit {0}
 Ends s (bad at) = (at + 8 ≤ length s) × (header_at s at ≡ Bad)
 Ends s (box at kind start len rest) = (at + 8 ≤ length s) × (kind ≡ be32_at s (at + 4)) × Ends s rest
 
-after-ends : (s : List ℕ) (at : ℕ) (f : ℕ → Boxes) (h : Header) → header_at s at ≡ h → Lies at (length s) h → Typed (be32_at s (at + 4)) h
+after-ends : (s : List ℕ) (at : ℕ) (f : ℕ → Boxes) (h : Header) → header_at s at ≡ h → Lies at (length s) h
+    → Typed (be32_at s (at + 4)) h
     → ((k : ℕ) → Ends s (f k)) → Ends s (after_header h at f)
 after-ends s at f Short e l t r = tt
 after-ends s at f Bad e l t r = (l, e)
@@ -56,7 +57,7 @@ ends : (s : List ℕ) → Ends s (boxes_of s)
 unfolding boxes_at
 ends s = ends-from (length s - 0) s 0
 
--- so where the boxes end at a bad header it is broken, with text types or without
+-- so where the boxes end at a broken header it is broken, with text types or without
 abbrev BrokenAt : Bool → List ℕ → Walk → Type 0
 BrokenAt text s (Found p) = Unit {0}
 BrokenAt text s End = Unit {0}
@@ -86,10 +87,12 @@ first-comes test clean = refl
 first-comes test (bad at) = refl
 first-comes test (box at k start len rest) = either (Comes (ending rest)) (test k start len) (λ t. tt) (λ t. first-comes test rest)
 
-pub walk_ends : (text : Bool) (test : ℕ → ℕ → ℕ → Bool) (s : List ℕ) → first_such test (searched text (boxes_of s)) ≡ End → ending (searched text (boxes_of s)) ≡ End
+pub walk_ends : (text : Bool) (test : ℕ → ℕ → ℕ → Bool) (s : List ℕ)
+    → first_such test (searched text (boxes_of s)) ≡ End → ending (searched text (boxes_of s)) ≡ End
 walk_ends text test s e = let b = searched text (boxes_of s) in subst (Comes (ending b)) e (first-comes test b)
 
-pub stopped-at-bad : (text : Bool) (test : ℕ → ℕ → ℕ → Bool) (s : List ℕ) {at : ℕ} → first_such test (searched text (boxes_of s)) ≡ BadAt at → StopsAt text s at
+pub stopped-at-bad : (text : Bool) (test : ℕ → ℕ → ℕ → Bool) (s : List ℕ) {at : ℕ}
+    → first_such test (searched text (boxes_of s)) ≡ BadAt at → StopsAt text s at
 stopped-at-bad text test s e =
     let b = searched text (boxes_of s) in
     let c = subst (Comes (ending b)) e (first-comes test b) in

@@ -37,11 +37,13 @@ plain-edit : (e : Option Edit) (scale : ℕ) (ds : List ℕ) (os : List ℤ) →
 plain-edit None scale ds os = λ e. grind arith
 plain-edit (Some e) scale ds os = plain-kept scale _ e _
 
-plain-offsets : (standard : Bool) (r : Option ℕ) (ctts edts : List ℕ) (scale movie : ℕ) (ds : List ℕ) → Plain (of_offsets standard r ctts edts scale movie ds)
+plain-offsets : (standard : Bool) (r : Option ℕ) (ctts edts : List ℕ) (scale movie : ℕ) (ds : List ℕ)
+    → Plain (of_offsets standard r ctts edts scale movie ds)
 plain-offsets standard None ctts edts scale movie ds = λ e. grind arith
 plain-offsets standard (Some n) ctts edts scale movie ds = plain-edit (edit_of edts scale movie) scale ds (offsets standard n ctts)
 
-pub plain-durations : (standard : Bool) (r : Option ℕ) (bytes room movie scale : ℕ) (edts ctts stts : List ℕ) → Plain (of_durations standard r bytes room movie scale edts ctts stts)
+pub plain-durations : (standard : Bool) (r : Option ℕ) (bytes room movie scale : ℕ) (edts ctts stts : List ℕ)
+    → Plain (of_durations standard r bytes room movie scale edts ctts stts)
 plain-durations standard None bytes room movie scale edts ctts stts = λ e. grind arith
 plain-durations standard (Some n) bytes room movie scale edts ctts stts =
     either Plain (ltb bytes (entry_total (entries_of n stts))) (λ t e. grind arith)

@@ -1,4 +1,4 @@
--- 36's index is the offset of a header that is there and bad, and the walk had come to it. Assumes nothing.
+-- 36's index is the offset of a header that is there and broken, and the walk had come to it. Assumes nothing.
 use mathlib.Core.Path.{◌≡◌, refl, sym, subst}
 use mathlib.Core.Bool.{Bool, false}
 use mathlib.Core.Logic.{inl}
@@ -47,7 +47,8 @@ module _ (b : List ℕ) (start end kind : ℕ) (text : Bool) where
   abbrev StopsFrom : ℕ → Type 0
   StopsFrom i = (start ≤ i) × (i + 8 ≤ end) × StopsAt text (take (end - start) (drop start b)) (i - start)
 
-  stops-from : end ≤ length b → start ≤ end → (at : ℕ) → first_of kind (searched text (boxes_of (take (end - start) (drop start b)))) ≡ BadAt at → StopsFrom (start + at)
+  stops-from : end ≤ length b → start ≤ end → (at : ℕ)
+      → first_of kind (searched text (boxes_of (take (end - start) (drop start b)))) ≡ BadAt at → StopsFrom (start + at)
   stops-from h k at e =
       let part = take (end - start) (drop start b) in
       let there : at + 8 ≤ length part = search-stays kind text part (sym e) in
@@ -78,7 +79,8 @@ module _ (b : List ℕ) (at : ℕ) where
   abbrev BrokenThere : ℕ → Type 0
   BrokenThere i = (i ≡ at) × Broken false b at
 
-  reached-told : (h : Header) → header_at b at ≡ h → Lies at (length b) h → Told reason.Broken BrokenThere (reached_by h at)
+  reached-told : (h : Header) → header_at b at ≡ h → Lies at (length b) h
+      → Told reason.Broken BrokenThere (reached_by h at)
   reached-told Short e l = λ n. absurd (grind arith)
   reached-told Bad e l = λ n. (refl, (l, inl e))
   reached-told (Whole found) e l = tt
@@ -93,9 +95,9 @@ module _ (b : List ℕ) (at : ℕ) where
 pub stopping : Stopping ChildPlace FindBoxPlace Children FrameTimesOf
 stopping = record {
   child = λ b kind i p. subst (Told reason.Broken (StopsAt false b)) (sym p) (child-told b kind) refl;
-  child-end = λ b kind i p. subst (Told reason.Missing (λ i. AllWalked b false)) (sym p) (child-ended b kind) refl;
-  find-box = λ b start end kind text i p. subst (Told reason.Broken (StopsFrom b start end kind text)) (sym p) (find-box-told b start end kind text) refl;
-  find-box-end = λ b start end kind text i p. subst (Told reason.Missing (λ i. AllWalked (take (end - start) (drop start b)) text)) (sym p) (find-box-ended b start end kind text) refl;
+  child_end = λ b kind i p. subst (Told reason.Missing (λ i. AllWalked b false)) (sym p) (child-ended b kind) refl;
+  find_box = λ b start end kind text i p. subst (Told reason.Broken (StopsFrom b start end kind text)) (sym p) (find-box-told b start end kind text) refl;
+  find_box_end = λ b start end kind text i p. subst (Told reason.Missing (λ i. AllWalked (take (end - start) (drop start b)) text)) (sym p) (find-box-ended b start end kind text) refl;
   children = λ b at i p. subst (Told reason.Broken (BrokenThere b at)) (sym p) (children-told b at) refl;
-  frame-times = λ moov standard starts a b starts' a' b' i p. subst (Told reason.Broken (λ i. OfOne (StopsIn moov i) (searches moov))) (sym p.answer) (moov-told moov standard _) refl;
+  frame_times = λ moov standard starts a b starts' a' b' i p. subst (Told reason.Broken (λ i. OfOne (StopsIn moov i) (searches moov))) (sym p.answer) (moov-told moov standard _) refl;
 }

@@ -9,13 +9,15 @@ use Rattle.refusal.specs.declared.Refusal.{Refusal}
 use Rattle.frame_times.specs.Times.{MoovAnswers}
 
 abbrev pub ChildPlace : List ℕ → ℕ → Result Place Refusal → Type 0
-ChildPlace b kind r = r ≡ child_place b kind
+ChildPlace bytes kind answer = answer ≡ child_place bytes kind
 
 abbrev pub FindBoxPlace : List ℕ → ℕ → ℕ → ℕ → Bool → Result Place Refusal → Type 0
-FindBoxPlace b start end kind text r = r ≡ find_box_place b start end kind text
+FindBoxPlace bytes start end kind text answer = answer ≡ find_box_place bytes start end kind text
 
 abbrev pub Children : List ℕ → ℕ → Result BoxAt Refusal → Type 0
-Children b at r = r ≡ children_at b at
+Children bytes at answer = answer ≡ children_at bytes at
 
-abbrev pub FrameTimesOf : List ℕ → Bool → List ℤ → List ℤ → List ℤ → Result FrameTimes Refusal → List ℤ → List ℤ → List ℤ → Type 0
-FrameTimesOf moov standard starts a b r starts' a' b' = MoovAnswers standard moov starts a b r starts' a' b'
+abbrev pub FrameTimesOf : List ℕ → Bool → List ℤ → List ℤ → List ℤ → Result FrameTimes Refusal
+    → List ℤ → List ℤ → List ℤ → Type 0
+FrameTimesOf moov standard starts first_work second_work answer starts' first_work' second_work' =
+    MoovAnswers standard moov starts first_work second_work answer starts' first_work' second_work'

@@ -1,5 +1,7 @@
--- WHAT 36 SAYS, AND THAT IT ONLY DIVIDES 31 (document 02, g), of any calls that answer by boxes/specs and frame_times/specs. `Child`, `FindBox`, `Children` and `FrameTimesOf`
--- say which answers the calls allow. Every line is proved of the calls' promises, as the contracts of `stops_at_a_bad_header` and `only_divides`, and the audit claims it of the promises in the source.
+-- WHAT 36 SAYS, AND THAT IT ONLY DIVIDES 31 (RULES 7.6), of any calls that answer by boxes/specs and frame_times/specs.
+-- `Child`, `FindBox`, `Children` and `FrameTimesOf` say which answers the calls allow. Every line is proved of the
+-- calls' promises, as the contracts of `stops_at_a_bad_header` and `only_divides`, and the audit claims it of the
+-- promises in the source.
 use Rattle.std.specs.Prelude.{ℕ, ◌+◌, ◌-◌, ◌≤◌, Bool, true, false, List, [], ◌∷◌, ◌⊎◌, ◌≡◌, ℤ, length, take, drop, Result}
 use Rattle.slices.specs.Slices.{laid}
 use Rattle.boxes.specs.Bytes.{be32_at, mdia}
@@ -24,14 +26,17 @@ ending clean = End
 ending (bad at) = BadAt at
 ending (box at kind start len rest) = ending rest
 
--- a bad header: at least 8 bytes are there, and no size is whole there or fits; with text types also one whose type isn't text
+-- a broken header: at least 8 bytes are there, and no size is whole there or fits; with text types also one whose type
+-- isn't text
 abbrev pub Broken : Bool → List ℕ → ℕ → Type 0
-Broken text s at = (at + 8 ≤ length s) × ((header_at s at ≡ Bad) ⊎ ((text ≡ true) × (is_text (be32_at s (at + 4)) ≡ false)))
+Broken text bytes at =
+    (at + 8 ≤ length bytes)
+    × ((header_at bytes at ≡ Bad) ⊎ ((text ≡ true) × (is_text (be32_at bytes (at + 4)) ≡ false)))
 
--- a walk over s, from its start, comes to `at`, and stops at a bad header there
-pub record StopsAt (text : Bool) (s : List ℕ) (at : ℕ) : Type 0 where
-  pub comes : ending (searched text (boxes_of s)) ≡ BadAt at
-  pub broken : Broken text s at
+-- a walk over some bytes, from their start, comes to `at`, and stops at a broken header there
+pub record StopsAt (text : Bool) (bytes : List ℕ) (at : ℕ) : Type 0 where
+  pub comes : ending (searched text (boxes_of bytes)) ≡ BadAt at
+  pub broken : Broken text bytes at
 
 -- a part of a moov, and where it starts there
 pub record Part : Type 0 where
@@ -42,7 +47,7 @@ abbrev pub whole_part : List ℕ → Part
 whole_part moov = record { base = 0; bytes = moov }
 
 abbrev pub inner_part : Part → Place → Part
-inner_part p q = record { base = p.base + q.start; bytes = bytes_at p.bytes q }
+inner_part part place = record { base = part.base + place.start; bytes = bytes_at part.bytes place }
 
 -- a search for a box that has to be there: the part of the moov that is walked over, and how the walk for the box ends
 pub record Search : Type 0 where
@@ -50,30 +55,30 @@ pub record Search : Type 0 where
   pub walk : Walk
 
 abbrev pub search_for : ℕ → Part → Search
-search_for kind p = record { part = p; walk = first_of kind (boxes_of p.bytes) }
+search_for kind part = record { part = part; walk = first_of kind (boxes_of part.bytes) }
 
 -- the searches in the part that a walk found; none where it found none
 abbrev pub found_in : Part → Walk → (Part → List Search) → List Search
-found_in p (Found q) inner = inner (inner_part p q)
-found_in p End inner = []
-found_in p (BadAt at) inner = []
+found_in part (Found place) inner = inner (inner_part part place)
+found_in part End inner = []
+found_in part (BadAt at) inner = []
 
 -- a search, and then those in what it finds
 abbrev pub and_in : Search → (Part → List Search) → List Search
-and_in s inner = s ∷ found_in s.part s.walk inner
+and_in search inner = search ∷ found_in search.part search.walk inner
 
 -- the searches in a stbl, a minf, a mdia, a video track, and in a moov
 abbrev pub in_tables : Part → List Search
-in_tables p = search_for stts p ∷ []
+in_tables part = search_for stts part ∷ []
 
 abbrev pub in_info : Part → List Search
-in_info p = and_in (search_for stbl p) in_tables
+in_info part = and_in (search_for stbl part) in_tables
 
 abbrev pub in_media : Part → List Search
-in_media p = search_for mdhd p ∷ and_in (search_for minf p) in_info
+in_media part = search_for mdhd part ∷ and_in (search_for minf part) in_info
 
 abbrev pub in_track : Part → List Search
-in_track p = and_in (search_for mdia p) in_media
+in_track part = and_in (search_for mdia part) in_media
 
 abbrev pub search_for_video : List ℕ → Search
 search_for_video moov = record { part = whole_part moov; walk = video_track moov }
@@ -81,42 +86,60 @@ search_for_video moov = record { part = whole_part moov; walk = video_track moov
 abbrev pub searches : List ℕ → List Search
 searches moov = search_for mvhd (whole_part moov) ∷ and_in (search_for_video moov) in_track
 
--- a search's walk stops at a bad header, which is at i of the moov
-pub record StopsIn (moov : List ℕ) (i : ℕ) (s : Search) : Type 0 where
-  pub lies : s.part.bytes ≡ take (length s.part.bytes) (drop s.part.base moov)
-  pub from : s.part.base ≤ i
+-- a search's walk stops at a broken header, which is at i of the moov
+pub record StopsIn (moov : List ℕ) (i : ℕ) (search : Search) : Type 0 where
+  pub lies : search.part.bytes ≡ take (length search.part.bytes) (drop search.part.base moov)
+  pub from : search.part.base ≤ i
   pub there : i + 8 ≤ length moov
-  pub walked : s.walk ≡ BadAt (i - s.part.base)
-  pub stops : StopsAt false s.part.bytes (i - s.part.base)
+  pub walked : search.walk ≡ BadAt (i - search.part.base)
+  pub stops : StopsAt false search.part.bytes (i - search.part.base)
 
 -- P holds of one of some searches
 abbrev pub OfOne : (Search → Type 0) → List Search → Type 0
 OfOne P [] = ⊥
-OfOne P (s ∷ l) = P s ⊎ OfOne P l
+OfOne P (search ∷ more) = P search ⊎ OfOne P more
 
--- 36'S INDEX IS THE OFFSET OF A HEADER THAT IS THERE AND BAD, and the walk for the box stopped at it; where `child` or `find_box` answers 31, all boxes were walked to a clean end
+-- 36'S INDEX IS THE OFFSET OF A HEADER THAT IS THERE AND BROKEN, and the walk for the box stopped at it; where `child`
+-- or `find_box` answers 31, all boxes were walked to a clean end
 pub record Stopping
-    (Child : List ℕ → ℕ → Result Place Refusal → Type 0) (FindBox : List ℕ → ℕ → ℕ → ℕ → Bool → Result Place Refusal → Type 0) (Children : List ℕ → ℕ → Result BoxAt Refusal → Type 0)
-    (FrameTimesOf : List ℕ → Bool → List ℤ → List ℤ → List ℤ → Result FrameTimes Refusal → List ℤ → List ℤ → List ℤ → Type 0) : Type 0 where
-  pub child : (b : List ℕ) (kind i : ℕ) → Child b kind (refused reason.Broken i) → StopsAt false b i
-  pub child-end : (b : List ℕ) (kind i : ℕ) → Child b kind (refused reason.Missing i) → ending (boxes_of b) ≡ End
+    (Child : List ℕ → ℕ → Result Place Refusal → Type 0)
+    (FindBox : List ℕ → ℕ → ℕ → ℕ → Bool → Result Place Refusal → Type 0)
+    (Children : List ℕ → ℕ → Result BoxAt Refusal → Type 0)
+    (FrameTimesOf : List ℕ → Bool → List ℤ → List ℤ → List ℤ → Result FrameTimes Refusal
+    → List ℤ → List ℤ → List ℤ → Type 0) : Type 0 where
+  pub child : (bytes : List ℕ) (kind i : ℕ) → Child bytes kind (refused reason.Broken i) → StopsAt false bytes i
+  pub child_end : (bytes : List ℕ) (kind i : ℕ) → Child bytes kind (refused reason.Missing i)
+      → ending (boxes_of bytes) ≡ End
   -- in the range from start to end, at i of the whole
-  pub find-box : (b : List ℕ) (start end kind : ℕ) (text : Bool) (i : ℕ) → FindBox b start end kind text (refused reason.Broken i)
-      → (start ≤ i) × (i + 8 ≤ end) × StopsAt text (take (end - start) (drop start b)) (i - start)
-  pub find-box-end : (b : List ℕ) (start end kind : ℕ) (text : Bool) (i : ℕ) → FindBox b start end kind text (refused reason.Missing i)
-      → ending (searched text (boxes_of (take (end - start) (drop start b)))) ≡ End
+  pub find_box : (bytes : List ℕ) (start end kind : ℕ) (text : Bool) (i : ℕ)
+      → FindBox bytes start end kind text (refused reason.Broken i)
+      → (start ≤ i) × (i + 8 ≤ end) × StopsAt text (take (end - start) (drop start bytes)) (i - start)
+  pub find_box_end : (bytes : List ℕ) (start end kind : ℕ) (text : Bool) (i : ℕ)
+      → FindBox bytes start end kind text (refused reason.Missing i)
+      → ending (searched text (boxes_of (take (end - start) (drop start bytes)))) ≡ End
   -- at the offset that was asked for
-  pub children : (b : List ℕ) (at i : ℕ) → Children b at (refused reason.Broken i) → (i ≡ at) × Broken false b at
-  pub frame-times : (moov : List ℕ) (standard : Bool) (starts a b starts' a' b' : List ℤ) (i : ℕ) → FrameTimesOf moov standard starts a b (refused reason.Broken i) starts' a' b'
+  pub children : (bytes : List ℕ) (at i : ℕ) → Children bytes at (refused reason.Broken i)
+      → (i ≡ at) × Broken false bytes at
+  pub frame_times : (moov : List ℕ) (standard : Bool) (starts first second starts' first' second' : List ℤ) (i : ℕ)
+      → FrameTimesOf moov standard starts first second (refused reason.Broken i) starts' first' second'
       → OfOne (StopsIn moov i) (searches moov)
 
--- 31 IS DIVIDED, AND NOTHING ELSE: with 36 taken back to 31 every answer is the undivided one, which is document 01's, but for frame times with `standard`, and so are the starts. So 31
--- or 36 is given exactly where the undivided answer is 31, and where frame times are given nothing changed
+-- 31 IS DIVIDED, AND NOTHING ELSE: with 36 taken back to 31 every answer is the undivided one, and so are the starts.
+-- So 31 or 36 is given exactly where the undivided answer is 31, and frame times that are given are the undivided ones
 pub record Dividing
-    (Child : List ℕ → ℕ → Result Place Refusal → Type 0) (FindBox : List ℕ → ℕ → ℕ → ℕ → Bool → Result Place Refusal → Type 0) (Children : List ℕ → ℕ → Result BoxAt Refusal → Type 0)
-    (FrameTimesOf : List ℕ → Bool → List ℤ → List ℤ → List ℤ → Result FrameTimes Refusal → List ℤ → List ℤ → List ℤ → Type 0) : Type 0 where
-  pub child : (b : List ℕ) (kind : ℕ) (r : Result Place Refusal) → Child b kind r → taken_back r ≡ child_undivided b kind
-  pub find-box : (b : List ℕ) (start end kind : ℕ) (text : Bool) (r : Result Place Refusal) → FindBox b start end kind text r → taken_back r ≡ find_box_undivided b start end kind text
-  pub children : (b : List ℕ) (at : ℕ) (r : Result BoxAt Refusal) → Children b at r → taken_back r ≡ children_undivided b at
-  pub frame-times : (moov : List ℕ) (standard : Bool) (starts a b starts' a' b' : List ℤ) (r : Result FrameTimes Refusal) → FrameTimesOf moov standard starts a b r starts' a' b'
-      → (taken_back r ≡ (times_undivided standard moov (room starts a b)).answer) × (starts' ≡ laid (times_undivided standard moov (room starts a b)).starts starts)
+    (Child : List ℕ → ℕ → Result Place Refusal → Type 0)
+    (FindBox : List ℕ → ℕ → ℕ → ℕ → Bool → Result Place Refusal → Type 0)
+    (Children : List ℕ → ℕ → Result BoxAt Refusal → Type 0)
+    (FrameTimesOf : List ℕ → Bool → List ℤ → List ℤ → List ℤ → Result FrameTimes Refusal
+    → List ℤ → List ℤ → List ℤ → Type 0) : Type 0 where
+  pub child : (bytes : List ℕ) (kind : ℕ) (answer : Result Place Refusal) → Child bytes kind answer
+      → taken_back answer ≡ child_undivided bytes kind
+  pub find_box : (bytes : List ℕ) (start end kind : ℕ) (text : Bool) (answer : Result Place Refusal)
+      → FindBox bytes start end kind text answer → taken_back answer ≡ find_box_undivided bytes start end kind text
+  pub children : (bytes : List ℕ) (at : ℕ) (answer : Result BoxAt Refusal) → Children bytes at answer
+      → taken_back answer ≡ children_undivided bytes at
+  pub frame_times : (moov : List ℕ) (standard : Bool) (starts first second starts' first' second' : List ℤ)
+      (answer : Result FrameTimes Refusal)
+      → FrameTimesOf moov standard starts first second answer starts' first' second'
+      → (taken_back answer ≡ (times_undivided standard moov (room starts first second)).answer)
+      × (starts' ≡ laid (times_undivided standard moov (room starts first second)).starts starts)

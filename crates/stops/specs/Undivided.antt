@@ -1,6 +1,6 @@
--- The answers of document 01, where 31 isn't divided: however a walk ends without a box that has to be there, it is 31. And 36 taken back to it.
--- Frame times have `standard` as in frame_times/specs/Times.antt: without it they are document 01's.
-use Rattle.std.specs.Prelude.{ℕ, ◌-◌, Bool, ◌||◌, List, length, ltb, eqb, if◌then◌else◌, unwrap_or, Result, Ok, Err}
+-- The undivided answers, in which 31 stands for both 31 and 36 (RULES 7.6): however a walk ends without a box that has
+-- to be there. And 36 taken back to 31. Frame times have `standard` as in frame_times/specs/Times.antt.
+use Rattle.std.specs.Prelude.{ℕ, ◌-◌, Bool, ◌||◌, List, length, if◌then◌else◌, unwrap_or, Result, Ok, Err, ◌==◌, nat_lt}
 use Rattle.std.specs.Option.{ok_or}
 use Rattle.refusal.specs.declared.Reason.{Reason}
 use Rattle.refusal.specs.declared.Reason.TheVariants as reason
@@ -26,23 +26,26 @@ undivided why index = refusal_at why index
 
 -- the same of an answer
 abbrev pub taken_back : {A : Type 0} → Result A Refusal → Result A Refusal
-taken_back (Ok a) = Ok a
+taken_back (Ok answer) = Ok answer
 taken_back (Err refusal) = Err (undivided refusal.reason refusal.index)
 
 -- the place of what a walk found; missing, however it ends without it
 abbrev pub place_undivided : Walk → Result Place Refusal
-place_undivided w = ok_or (found_place w) (refusal_at reason.Missing 0)
+place_undivided walk = ok_or (found_place walk) (refusal_at reason.Missing 0)
 
 -- `child`, `find_box` and `children`
 unfoldable pub child_undivided : List ℕ → ℕ → Result Place Refusal
-child_undivided payload kind = if ltb most_bytes (length payload) then refused reason.TooLong 0 else place_undivided (first_of kind (boxes_of payload))
+child_undivided payload kind =
+    if nat_lt most_bytes (length payload) then refused reason.TooLong 0
+    else place_undivided (first_of kind (boxes_of payload))
 
 unfoldable pub find_box_undivided : List ℕ → ℕ → ℕ → ℕ → Bool → Result Place Refusal
 find_box_undivided bytes start end kind text =
-    if ltb most_bytes (length bytes) then refused reason.TooLong 0
-    else if ltb (length bytes) end then refused reason.BadSearch 0
-    else if ltb end start then refused reason.BadSearch 0
-    else in_part bytes (Ok (place start (end - start))) (λ s. place_undivided (first_of kind (searched text (boxes_of s))))
+    if nat_lt most_bytes (length bytes) then refused reason.TooLong 0
+    else if nat_lt (length bytes) end then refused reason.BadSearch 0
+    else if nat_lt end start then refused reason.BadSearch 0
+    else in_part bytes (Ok (place start (end - start)))
+    (λ part. place_undivided (first_of kind (searched text (boxes_of part))))
 
 abbrev pub reached_undivided : Header → Result BoxAt Refusal
 reached_undivided Short = refused reason.Missing 0
@@ -51,38 +54,47 @@ reached_undivided (Whole found) = Ok found
 
 unfoldable pub children_undivided : List ℕ → ℕ → Result BoxAt Refusal
 children_undivided payload at =
-    if ltb most_bytes (length payload) then refused reason.TooLong 0
-    else if ltb (length payload) at then refused reason.BadSearch 0
+    if nat_lt most_bytes (length payload) then refused reason.TooLong 0
+    else if nat_lt (length payload) at then refused reason.BadSearch 0
     else reached_undivided (header_at payload at)
 
 -- frame times: a box that has to be there goes on with its payload; without it there are no times
 abbrev pub required_undivided : Walk → List ℕ → (List ℕ → Outcome) → Outcome
-required_undivided (Found p) s next = next (bytes_at s p)
-required_undivided End s next = no_times reason.Missing
-required_undivided (BadAt at) s next = no_times reason.Missing
+required_undivided (Found place) bytes next = next (bytes_at bytes place)
+required_undivided End bytes next = no_times reason.Missing
+required_undivided (BadAt at) bytes next = no_times reason.Missing
 
 abbrev pub in_child_undivided : ℕ → List ℕ → (List ℕ → Outcome) → Outcome
-in_child_undivided kind s next = required_undivided (first_of kind (boxes_of s)) s next
+in_child_undivided kind bytes next = required_undivided (first_of kind (boxes_of bytes)) bytes next
 
 -- a timescale; 0 where it isn't whole
 abbrev pub scale_of : List ℕ → ℕ
-scale_of h = unwrap_or (timescale h) 0
+scale_of payload = unwrap_or (timescale payload) 0
 
 unfoldable pub tables_undivided : Bool → ℕ → ℕ → ℕ → ℕ → List ℕ → List ℕ → Outcome
-tables_undivided standard bytes room movie scale edts tables = in_child_undivided stts tables (λ d. of_durations standard (table_entries d) bytes room movie scale edts (child_of ctts tables) d)
+tables_undivided standard bytes room movie scale edts tables =
+    in_child_undivided stts tables
+    (λ payload.
+    of_durations standard (table_entries payload) bytes room movie scale edts (child_of ctts tables) payload)
 
 abbrev pub scale_undivided : Bool → ℕ → ℕ → ℕ → ℕ → List ℕ → List ℕ → Outcome
 scale_undivided standard bytes room movie scale edts media =
-    if eqb scale 0 || eqb movie 0 then no_times reason.Missing
-    else in_child_undivided minf media (λ i. in_child_undivided stbl i (tables_undivided standard bytes room movie scale edts))
+    if scale == 0 || movie == 0 then no_times reason.Missing
+    else in_child_undivided minf media
+    (λ inner. in_child_undivided stbl inner (tables_undivided standard bytes room movie scale edts))
 
 unfoldable pub media_undivided : Bool → ℕ → ℕ → ℕ → List ℕ → List ℕ → Outcome
-media_undivided standard bytes room movie edts media = in_child_undivided mdhd media (λ h. scale_undivided standard bytes room movie (scale_of h) edts media)
+media_undivided standard bytes room movie edts media =
+    in_child_undivided mdhd media
+    (λ payload. scale_undivided standard bytes room movie (scale_of payload) edts media)
 
 unfoldable pub track_undivided : Bool → ℕ → ℕ → ℕ → List ℕ → Outcome
-track_undivided standard bytes room movie track = in_child_undivided mdia track (media_undivided standard bytes room movie (child_of edts track))
+track_undivided standard bytes room movie track =
+    in_child_undivided mdia track (media_undivided standard bytes room movie (child_of edts track))
 
 unfoldable pub times_undivided : Bool → List ℕ → ℕ → Outcome
 times_undivided standard moov room =
-    if ltb most_bytes (length moov) then no_times reason.TooLong
-    else in_child_undivided mvhd moov (λ h. required_undivided (video_track moov) moov (track_undivided standard (length moov) room (scale_of h)))
+    if nat_lt most_bytes (length moov) then no_times reason.TooLong
+    else in_child_undivided mvhd moov
+    (λ payload.
+    required_undivided (video_track moov) moov (track_undivided standard (length moov) room (scale_of payload)))

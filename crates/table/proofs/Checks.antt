@@ -1,4 +1,5 @@
--- How a check is put together: what the steps of front.rt and walk.rt find, and what refuses or accepts the table. Assumes nothing.
+-- How a check is put together: what the steps of front.rt and walk.rt find, and what refuses or accepts the table.
+-- Assumes nothing.
 use Prim.Native.Nat.{ℕ, zero, suc, ◌+◌, ◌-◌, ◌≤◌, ◌<◌, zero-le, suc-le-suc}
 use Rattle.std.proofs.lemmas.Bool.{or_parts}
 use Rattle.std.specs.List.{list_any}
@@ -13,13 +14,12 @@ use lib.ListN.{length, get_or}
 use lib.Dec.{eqb}
 use borrow.Author.Tests.{eqb-true, eqb-false}
 use Rattle.std.specs.Prelude.{Ok, Err}
-use Rattle.conditions.specs.Conditions.{when}
 use Rattle.conditions.proofs.Tests.{decide}
 use Rattle.refusal.specs.declared.Reason.{Reason}
 use Rattle.refusal.specs.declared.Refusal.{Refusal}
 use Rattle.refusal.specs.declared.Reason.TheVariants as reason
 use Rattle.refusal.specs.Refusals.{refused}
-use Rattle.refusal.proofs.Chains.{when-ok, ok-of}
+use Rattle.refusal.proofs.Chains.{if-ok, ok-of}
 use Rattle.refusal.proofs.First.{first-turn, first-hit, first-end}
 use Rattle.rules.specs.declared.Source.{Source}
 use Rattle.rules.specs.declared.Segment.{Segment}
@@ -46,9 +46,10 @@ pub segments-run : (l : List Segment) {m : ℕ} → m ≡ length l → run (nth 
 segments-run l e = rw e (as-run no_segment l)
 
 -- a walk over segments that doesn't stop at one: nothing refuses it
-pub never-goes : (srcs : List Source) (prev : Ends) (e : Segment) {next : Ends} → turn_of srcs prev e ≡ Ok next → segment_refusal srcs prev e ≡ Ok tt
+pub never-goes : (sources : List Source) (previous : Ends) (e : Segment) {next : Ends}
+    → turn_of sources previous e ≡ Ok next → segment_refusal sources previous e ≡ Ok tt
 unfolding turn_of
-never-goes srcs prev e h = (ok-of _ _ _ h).0
+never-goes sources previous e h = (ok-of _ _ _ h).0
 
 pub flag-at : (l : List Segment) (k : ℕ) → k < length l → list_any bad_segment l ≡ false → bad_segment (nth l k) ≡ false
 flag-at [] k h e = absurd (omega arith)
@@ -56,23 +57,26 @@ flag-at (x ∷ l) zero h e = (or_parts (bad_segment x) (list_any bad_segment l) 
 flag-at (x ∷ l) (suc k) h e = flag-at l k (le_of_suc-le-suc h) (or_parts (bad_segment x) (list_any bad_segment l) e).1
 
 -- one more of which neither holds
-pub fine-more : (srcs : List Source) (l : List Segment) (k : ℕ) → ((j : ℕ) → j < k → FineAt srcs l j) → FineAt srcs l k → (j : ℕ) → j < k + 1 → FineAt srcs l j
-fine-more srcs l k h f j b = decide (eqb j k) (λ e. rw (eqb-true j k e) f) (λ e. h j (let n = eqb-false j k e in omega arith))
+pub fine-more : (sources : List Source) (l : List Segment) (k : ℕ) → ((j : ℕ) → j < k → FineAt sources l j)
+    → FineAt sources l k → (j : ℕ) → j < k + 1 → FineAt sources l j
+fine-more sources l k h f j b = decide (eqb j k) (λ e. rw (eqb-true j k e) f) (λ e. h j (let n = eqb-false j k e in omega arith))
 
 -- 1 holds of none
-pub flags-fine : (l : List Segment) → ((k : ℕ) → k < length l → bad_segment (nth l k) ≡ false) → list_any bad_segment l ≡ false
+pub flags-fine : (l : List Segment) → ((k : ℕ) → k < length l → bad_segment (nth l k) ≡ false)
+    → list_any bad_segment l ≡ false
 flags-fine [] h = refl
 flags-fine (x ∷ l) h = rw (h 0 (suc-le-suc zero-le)) (flags-fine l (λ k b. h (suc k) (suc-le-suc b)))
 
 -- the walk comes to a segment before which none is refused
-module _ (srcs : List Source) (l : List Segment) where
-  pub walk-to : (k : ℕ) → k ≤ length l → ((j : ℕ) → j < k → FineAt srcs l j) → Walk srcs (nth l) (length l) k (end_before l k)
+module _ (sources : List Source) (l : List Segment) where
+  pub walk-to : (k : ℕ) → k ≤ length l → ((j : ℕ) → j < k → FineAt sources l j)
+      → Walk sources (nth l) (length l) k (end_before l k)
   unfolding end_before
-  walk-to zero b h = walk_start srcs (nth l) (length l)
+  walk-to zero b h = walk_start sources (nth l) (length l)
   walk-to (suc k) b h =
       let f = h k (omega arith) in
-      rw add-one at (walk-go srcs (nth l) (length l) (walk-to k (omega arith) (λ j c. h j (omega arith))) (omega arith)
-      (turn_on srcs (end_before l k) (nth l k) (record { flagged = f.0; none = f.1; end = refl })))
+      rw add-one at (walk-go sources (nth l) (length l) (walk-to k (omega arith) (λ j c. h j (omega arith))) (omega arith)
+      (turn_on sources (end_before l k) (nth l k) (record { flagged = f.0; none = f.1; end = refl })))
 
 pub before-zero : (l : List Segment) (k : ℕ) → k ≡ 0 → start ≡ end_before l k
 unfolding end_before
@@ -83,9 +87,10 @@ unfolding end_before
 before-more l k h = let e : suc (k - 1) ≡ k = omega arith in ap (end_before l) e
 
 -- 1 to 8 refused nothing: 1 doesn't hold
-front-free : (log : Bool) (text : List ℕ) (srcs : List Source) (bad : Bool) (n : ℕ) → front_refusal log text srcs bad n ≡ Ok tt → bad ≡ false
+front-free : (log : Bool) (text : List ℕ) (sources : List Source) (bad : Bool) (n : ℕ)
+    → front_refusal log text sources bad n ≡ Ok tt → bad ≡ false
 unfolding front_refusal
-front-free log text srcs bad n e = (when-ok bad _ _ tt e).0
+front-free log text sources bad n e = (if-ok bad _ _ tt e).0
 
 module _ (t : Table) where
   -- 1 to 8 refuse nothing
@@ -101,7 +106,7 @@ module _ (t : Table) where
 
   -- 1 refuses lengths
   pub check-uneven : t.uneven ≡ true → refused reason.Malformed 0 ≡ check_of t
-  unfolding malformed front_refusal when
+  unfolding malformed front_refusal
   check-uneven e = check-stops t (rw e)
 
   -- 1 to 8 decide
@@ -119,11 +124,12 @@ module _ (t : Table) where
 
     -- 1 refuses a flag
     pub check-flagged : list_any bad_segment t.segments ≡ true → refused reason.Malformed 0 ≡ check_of t
-    unfolding front_refusal when
+    unfolding front_refusal
     check-flagged b = check-refused (fine ∙ rw b)
 
     -- what refuses the segment at which the walk stopped
-    pub check-at : {k : ℕ} {why : Reason} → Stopped t.sources t.segments k → list_any bad_segment t.segments ≡ false → turn_of t.sources (end_before t.segments k) (segment t k) ≡ Err why → refused why k ≡ check_of t
+    pub check-at : {k : ℕ} {why : Reason} → Stopped t.sources t.segments k → list_any bad_segment t.segments ≡ false
+        → turn_of t.sources (end_before t.segments k) (segment t k) ≡ Err why → refused why k ≡ check_of t
     check-at s b h =
         walk-stop _ _ _ (walk-to _ _ _ (omega (arith, s.inside)) s.before) s.inside h
         ∙ ap (walked t.sources) (segments-run _ refl) ∙ check-goes t (fine ∙ rw b f.none)

@@ -1,4 +1,4 @@
--- Lengths of lent words that condition 1 refuses, in the paper's words. Assumes nothing.
+-- Lengths of lent words that 1 refuses, as specs/Layout.antt has them in words. Assumes nothing.
 use Prim.Native.Nat.{ℕ, ◌/◌, ◌%◌}
 use mathlib.Core.Path.{◌≡◌}
 use mathlib.Core.Bool.{Bool, true, ◌||◌}
@@ -21,6 +21,7 @@ lengths s u t =
     (either (unless (equal (t % segment_stamps) 0)) (unless (equal (u / segment_words) (t / segment_stamps))))))
 
 -- of every table that is lent
-pub uneven : (s u : List ℕ) (t : List ℤ) (log : Bool) (text : List ℕ) → ((table_of s u t log text).uneven ≡ true) ↔ Uneven (length s) (length u) (length t)
+pub uneven : (s u : List ℕ) (t : List ℤ) (log : Bool) (text : List ℕ)
+    → ((table_of s u t log text).uneven ≡ true) ↔ Uneven (length s) (length u) (length t)
 unfolding table_of
 uneven s u t log text = lengths (length s) (length u) (length t)

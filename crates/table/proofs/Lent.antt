@@ -26,7 +26,8 @@ pub segments_length : (u : List ℕ) (t : List ℤ) → length (segments_of u t)
 unfolding segments_of
 segments_length u t = length-map-range_with_len (segment_at u t) 0 (length u / segment_words)
 
-pub segments_get : (u : List ℕ) (t : List ℤ) (k : ℕ) → k < length u / segment_words → get_or (segments_of u t) k no_segment ≡ segment_at u t k
+pub segments_get : (u : List ℕ) (t : List ℤ) (k : ℕ) → k < length u / segment_words
+    → get_or (segments_of u t) k no_segment ≡ segment_at u t k
 unfolding segments_of
 segments_get u t k h = get_or-map-range_with_len (segment_at u t) 0 (length u / segment_words) k _ no_segment h refl ∙ ap (segment_at u t) (zero-add k)
 

@@ -1,4 +1,4 @@
--- T of document 01, and each refusal of a check. They are the contract of `worked_examples_hold`.
+-- T of RULES 3.6, and each refusal of a check: the contract of `worked_examples_hold`.
 use Rattle.std.specs.Prelude.{ℕ, zero, suc, true, false, List, [], ◌∷◌, ◌++◌, ℤ, pos, neg_ℤ, Result, Ok}
 use Rattle.examples.specs.Worked.{Worked, is, AllRight}
 use Rattle.refusal.specs.declared.Reason.TheVariants as reason
@@ -19,14 +19,14 @@ abbrev pub sources : List ℕ
 sources = plain 100 ++ plain 50
 
 abbrev pub words : ℕ → ℕ → ℕ → ℕ → ℕ → List ℕ
-words src first n out flag = src ∷ first ∷ n ∷ out ∷ flag ∷ []
+words source first count out_first flag = source ∷ first ∷ count ∷ out_first ∷ flag ∷ []
 
 abbrev pub segments : List ℕ
 segments = words 0 10 30 0 0 ++ words 1 5 20 30 0
 
 -- out start, duration, and source start; the capture times and the shift are 0
 abbrev pub stamps : ℤ → ℤ → ℤ → List ℤ
-stamps outstart duration srcstart = srcstart ∷ outstart ∷ duration ∷ pos 0 ∷ pos 0 ∷ pos 0 ∷ pos 0 ∷ []
+stamps out_start duration source_start = source_start ∷ out_start ∷ duration ∷ pos 0 ∷ pos 0 ∷ pos 0 ∷ pos 0 ∷ []
 
 abbrev pub first : List ℤ
 first = stamps (pos 0) (pos 1200000) (pos 0)
@@ -37,17 +37,17 @@ times = first ++ stamps (pos 1200000) (pos 800000) (pos 0)
 abbrev pub T : Table
 T = table_of sources segments times false []
 
--- A check of a changed T.
+-- a check of a changed T
 abbrev pub of : List ℕ → List ℕ → List ℤ → Result ℕ Refusal
-of s u t = check_of (table_of s u t false [])
+of sources segments times = check_of (table_of sources segments times false [])
 
 -- its first source another
 abbrev pub from : List ℕ → Result ℕ Refusal
-from s = of (s ++ plain 50) segments times
+from changed = of (changed ++ plain 50) segments times
 
 -- its second segment another
 abbrev pub with : List ℕ → List ℤ → Result ℕ Refusal
-with u t = of sources (words 0 10 30 0 0 ++ u) (first ++ t)
+with changed stamps = of sources (words 0 10 30 0 0 ++ changed) (first ++ stamps)
 
 -- 0000-02-29T00:00:00Z, and then 1900-02-29T00:00:00Z
 abbrev pub text : List ℕ
@@ -70,8 +70,13 @@ clocked kind flag shift =
     of (plain 100 ++ source 50 0 0 kind 1 7) (words 0 10 30 0 0 ++ words 1 5 20 30 flag)
     (first ++ (pos 0 ∷ pos 1200000 ∷ pos 800000 ∷ pos 0 ∷ pos 0 ∷ pos 0 ∷ shift ∷ []))
 
+-- the stamps of T's second segment
 abbrev pub late : List ℤ
 late = stamps (pos 1200000) (pos 800000) (pos 0)
+
+-- the largest i64
+abbrev pub largest : ℤ
+largest = pos 0x7fff_ffff_ffff_ffff
 
 abbrev pub checks : List (Worked (Result ℕ Refusal))
 checks =
@@ -97,10 +102,10 @@ checks =
     ∷ is (with (words 1 0xffff_ffff_ffff_ffff 1 30 0) late) (refused reason.FramesWrap 1)
     ∷ is (with (words 1 31 20 30 0) late) (refused reason.PastSource 1)
     ∷ is (with (words 1 5 20 30 0) (stamps (pos 1200000) (neg_ℤ (pos 1)) (pos 0))) (refused reason.NegativeTime 1)
-    ∷ is (with (words 1 5 20 31 0) (stamps (pos 1200000) (pos 1) (pos 0x7fff_ffff_ffff_ffff))) (refused reason.TooLate 1)
+    ∷ is (with (words 1 5 20 31 0) (stamps (pos 1200000) (pos 1) largest)) (refused reason.TooLate 1)
     ∷ is (with (words 1 5 20 31 0) (stamps (pos 1200001) (pos 800000) (pos 0))) (refused reason.FrameGap 1)
-    ∷ is (with (words 1 5 20 30 0) (stamps (pos 1200001) (pos 0x7fff_ffff_ffff_ffff) (pos 0))) (refused reason.TimeGap 1)
-    ∷ is (with (words 1 5 20 30 0) (stamps (pos 1200000) (pos 0x7fff_ffff_ffff_ffff) (pos 0))) (refused reason.TooLate 1)
+    ∷ is (with (words 1 5 20 30 0) (stamps (pos 1200001) largest (pos 0))) (refused reason.TimeGap 1)
+    ∷ is (with (words 1 5 20 30 0) (stamps (pos 1200000) largest (pos 0))) (refused reason.TooLate 1)
     ∷ is (clocked 0 1 (pos 0)) (refused reason.BadShift 1)
     ∷ is (clocked 1 0 (pos 0)) (refused reason.BadShift 1)
     ∷ is (clocked 1 1 (neg_ℤ (pos 10))) (Ok 50)

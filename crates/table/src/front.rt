@@ -18,8 +18,14 @@ impl<'a, S: Segments> SegmentTable<'a, S> {
         requires { k < length self.now.sources }
         ensures { result ≡ bad_source (length self.now.text) (source self.now k) }
     {
-        let s = self.source(k);
-        rules::bad_words(self.text.len() as u64, s.dated, s.from, s.size, s.kind)
+        let source = self.source(k);
+        rules::bad_words(
+            self.text.len() as u64,
+            source.dated,
+            source.from,
+            source.size,
+            source.kind,
+        )
     }
 
     // 4 to 7 of source k.
@@ -47,20 +53,20 @@ impl<'a, S: Segments> SegmentTable<'a, S> {
         requires { k < length self.now.sources }
         ensures { result ≡ true → FineSource self.now.log self.now.text (source self.now k) }
     {
-        let s = self.source(k);
-        if (s.dated != 0) | (s.kind != 0) {
+        let source = self.source(k);
+        if (source.dated != 0) | (source.kind != 0) {
             return self.is_fine_whole(k);
         }
         if self.log {
             return false;
         }
-        if s.frames == 0 {
+        if source.frames == 0 {
             return false;
         }
-        if s.num == 0 {
+        if source.numerator == 0 {
             return false;
         }
-        s.den != 0
+        source.denominator != 0
     }
 
     // 1, of all sources.
@@ -68,8 +74,8 @@ impl<'a, S: Segments> SegmentTable<'a, S> {
     fn has_bad_source(&self) -> bool
         ensures { result ≡ list_any (bad_source (length self.now.text)) self.now.sources }
     {
-        let m = self.source_count();
-        for k in 0..m {
+        let count = self.source_count();
+        for k in 0..count {
             if self.is_bad(k) {
                 return true;
             }
@@ -83,8 +89,8 @@ impl<'a, S: Segments> SegmentTable<'a, S> {
         requires { self.now.uneven ≡ false }
         ensures { result ≡ list_any bad_segment self.now.segments }
     {
-        let m = self.segment_count();
-        for k in 0..m {
+        let count = self.segment_count();
+        for k in 0..count {
             if self.segment(k).words.flag > 1 {
                 return true;
             }
@@ -104,10 +110,11 @@ impl<'a, S: Segments> SegmentTable<'a, S> {
     // 4 to 7, source by source.
     #[tactic(auto, using(crate::proofs::Checks::loops))]
     fn first_refused_source(&self) -> Result<(), Refusal>
-        ensures { result ≡ first_refused (source_refusal self.now.log self.now.text) 0 self.now.sources }
+        ensures { result
+            ≡ first_refused (source_refusal self.now.log self.now.text) 0 self.now.sources }
     {
-        let m = self.source_count();
-        for k in 0..m {
+        let count = self.source_count();
+        for k in 0..count {
             if let Err(reason) = self.source_refusal(k) {
                 return Err(reason.at(k));
             }
@@ -120,8 +127,8 @@ impl<'a, S: Segments> SegmentTable<'a, S> {
     fn has_fine_sources(&self) -> bool
         ensures { result ≡ true → FineSources self.now }
     {
-        let m = self.source_count();
-        for k in 0..m {
+        let count = self.source_count();
+        for k in 0..count {
             if !self.is_fine(k) {
                 return false;
             }
@@ -129,40 +136,41 @@ impl<'a, S: Segments> SegmentTable<'a, S> {
         true
     }
 
-    // A yes says that none of 2 to 8 refuses, nor 1 of sources. After a no they are tested in order.
+    // A yes says that none of 2 to 8 refuses, nor 1 of sources. After a no they are tested in
+    // order.
     pub(crate) fn has_fine_front(&self) -> bool
         ensures { result ≡ true → FineFront self.now }
     {
-        let m = self.source_count();
-        let n = self.segment_count();
-        if rules::over_limit(m, n) {
+        let sources = self.source_count();
+        let segments = self.segment_count();
+        if rules::over_limit(sources, segments) {
             return false;
         }
-        if (m == 0) | (n == 0) {
+        if (sources == 0) | (segments == 0) {
             return false;
         }
         self.has_fine_sources()
     }
 
     // 1 to 8, of lengths that fit.
-    #[tactic(auto, unfolding(conditions::specs::Conditions::when, rules::specs::Rules::front_refusal))]
+    #[tactic(auto, unfolding(rules::specs::Rules::front_refusal))]
     fn front_refusal(&self) -> Result<(), Refusal>
         requires { self.now.uneven ≡ false }
         ensures { result ≡ front_of self.now }
     {
-        let m = self.source_count();
-        let n = self.segment_count();
+        let sources = self.source_count();
+        let segments = self.segment_count();
         if self.is_malformed() {
             return Err(Reason::Malformed.at(0));
         }
-        if rules::over_limit(m, n) {
+        if rules::over_limit(sources, segments) {
             return Err(Reason::OverLimit.at(0));
         }
-        if m == 0 {
+        if sources == 0 {
             return Err(Reason::NoSources.at(0));
         }
         self.first_refused_source()?;
-        if n == 0 {
+        if segments == 0 {
             return Err(Reason::NoSegments.at(0));
         }
         Ok(())

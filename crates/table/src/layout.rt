@@ -7,14 +7,15 @@ ghost use Rattle.table.specs.Layout.{segment_words, segment_stamps, words_at, st
 
 use rules::{Segment, Stamps, Words};
 
-// Unsigned words of a segment, and signed words.
+// How many unsigned words a segment has, and how many signed ones: RULES 1.3.
 pub const WORDS: usize = 5;
 
 pub const STAMPS: usize = 7;
 
 // Segments, however they are lent. A layout is a view of lent slices.
 pub trait Segments: Copy {
-    // Whether the lent slices' lengths are no whole number of segments, or disagree; then nothing is read of them.
+    // Whether the lent slices' lengths are no whole number of segments, or disagree; then nothing
+    // is read of them.
     ghost uneven: { Self → Bool };
 
     // The segments; where lengths don't fit, `count` alone is held to them.
@@ -40,56 +41,56 @@ pub struct Rows<'a> {
 }
 
 // The unsigned words of segment k.
-fn words_at(u: &[u64], k: usize) -> Words
-    requires { k * segment_words + segment_words ≤ length u.now }
-    ensures { result ≡ words_at u.now k }
+fn words_at(words: &[u64], k: usize) -> Words
+    requires { k * segment_words + segment_words ≤ length words.now }
+    ensures { result ≡ words_at words.now k }
 {
-    let b = k * WORDS;
+    let at = k * WORDS;
     Words {
-        source: u[b],
-        first: u[b + 1],
-        count: u[b + 2],
-        out: u[b + 3],
-        flag: u[b + 4],
+        source: words[at],
+        first: words[at + 1],
+        count: words[at + 2],
+        out: words[at + 3],
+        flag: words[at + 4],
     }
 }
 
 // Its signed words.
-fn stamps_at(t: &[i64], k: usize) -> Stamps
-    requires { k * segment_stamps + segment_stamps ≤ length t.now }
-    ensures { result ≡ stamps_at t.now k }
+fn stamps_at(stamps: &[i64], k: usize) -> Stamps
+    requires { k * segment_stamps + segment_stamps ≤ length stamps.now }
+    ensures { result ≡ stamps_at stamps.now k }
 {
-    let b = k * STAMPS;
+    let at = k * STAMPS;
     Stamps {
-        srcstart: t[b],
-        outstart: t[b + 1],
-        duration: t[b + 2],
-        srccap: t[b + 3],
-        outcap: t[b + 4],
-        capdur: t[b + 5],
-        shift: t[b + 6],
+        source_start: stamps[at],
+        out_start: stamps[at + 1],
+        duration: stamps[at + 2],
+        source_capture_start: stamps[at + 3],
+        out_capture_start: stamps[at + 4],
+        capture_duration: stamps[at + 5],
+        shift: stamps[at + 6],
     }
 }
 
 // Whether the lengths aren't whole or disagree: the second is the first and two more a segment.
-fn uneven_rows(u: usize, t: usize) -> bool
-    ensures { result ≡ uneven_rows u t }
+fn uneven_rows(words: usize, stamps: usize) -> bool
+    ensures { result ≡ uneven_rows words stamps }
 {
-    let m = u / WORDS;
-    if m * WORDS != u {
+    let count = words / WORDS;
+    if count * WORDS != words {
         return true;
     }
-    if t < u {
+    if stamps < words {
         return true;
     }
-    t - u != m * 2
+    stamps - words != count * 2
 }
 
 #[tactic(auto, using(crate::proofs::Lent::segments_length, crate::proofs::Lent::segments_get, crate::proofs::Lent::even))]
 impl Segments for Rows<'_> {
-    ghost uneven = { λ r. uneven_rows (length r.words.now) (length r.stamps.now) };
+    ghost uneven = { λ rows. uneven_rows (length rows.words.now) (length rows.stamps.now) };
 
-    ghost listed = { λ r. segments_of r.words.now r.stamps.now };
+    ghost listed = { λ rows. segments_of rows.words.now rows.stamps.now };
 
     fn is_uneven(&self) -> bool {
         uneven_rows(self.words.len(), self.stamps.len())

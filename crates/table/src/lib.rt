@@ -1,4 +1,5 @@
-// A table as it is lent, and its check: once for every layout of its segments. The Rust's SegmentTable.
+// A table as it is lent, RULES 1.4, and its check: once for every layout of its segments. The
+// Rust's `SegmentTable`.
 #![tactic(auto)]
 
 ghost use Rattle.std.specs.Prelude.{◌≡◌, false, ◌<◌, length};
@@ -19,7 +20,8 @@ use sources::Sources;
 use std::marker::Model;
 use walk::Walked;
 
-// A table as it is lent. In a contract it is the records that it holds, whatever the layout of its segments.
+// A table as it is lent. In a contract it is the records that it holds, whatever the layout of its
+// segments.
 #[derive(Drop)]
 pub struct SegmentTable<'a, S: Segments> {
     pub sources: Sources<'a>,
@@ -33,7 +35,8 @@ pub struct SegmentTable<'a, S: Segments> {
 impl<'a, S: Segments> Model for SegmentTable<'a, S> {
     ghost Value = { Table };
 
-    ghost view = { λ t. table_with t.sources.words.now (S.uneven t.segments) (S.listed t.segments) t.log t.text.now };
+    ghost view = { λ table. table_with table.sources.words.now (S.uneven table.segments)
+        (S.listed table.segments) table.log table.text.now };
 }
 
 // What is a table in contracts. Crates above add methods by traits over this one.
@@ -43,7 +46,7 @@ pub trait Tabled {
 }
 
 impl<S: Segments> Tabled for SegmentTable<'_, S> {
-    ghost table = { λ t. t };
+    ghost table = { λ table. table };
 }
 
 impl<'a> SegmentTable<'a, Rows<'a>> {
@@ -110,7 +113,8 @@ impl<'a, S: Segments> SegmentTable<'a, S> {
         self.segments.segment(k)
     }
 
-    // Checks the table: its frame total, or why it is refused. Most tables are accepted: that is asked first. The Rust's check.
+    // Checks the table: its frame total, or why it is refused, RULES 3. Most tables are accepted:
+    // that is asked first. The Rust's `check`.
     #[inline(always)]
     #[tactic(auto, unfolding(crate::specs::FirstWalk::FirstWalk))]
     pub fn check(&self) -> Result<u64, Refusal>
@@ -126,10 +130,16 @@ impl<'a, S: Segments> SegmentTable<'a, S> {
 
 // The check of a table that is lent as words.
 #[inline(always)]
-pub fn check(sources: &[u64], u: &[u64], t: &[i64], log: bool, text: &[u8]) -> Result<u64, Refusal>
-    ensures { result ≡ check_of (table_of sources.now u.now t.now log text.now) }
+pub fn check(
+    sources: &[u64],
+    words: &[u64],
+    stamps: &[i64],
+    log: bool,
+    text: &[u8],
+) -> Result<u64, Refusal>
+    ensures { result ≡ check_of (table_of sources.now words.now stamps.now log text.now) }
 {
-    SegmentTable::of_words(sources, u, t, log, text).check()
+    SegmentTable::of_words(sources, words, stamps, log, text).check()
 }
 
 // The definitions give the numbers of specs/Examples.antt.

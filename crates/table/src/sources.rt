@@ -1,4 +1,4 @@
-// How a table's sources are lent: ten words each, one after another.
+// How a table's sources are lent: ten words each, RULES 1.2, one after another.
 
 ghost use Rattle.std.specs.Prelude.{◌≡◌, ◌+◌, ◌*◌, ◌≤◌, ◌<◌, length, get_or};
 ghost use Rattle.rules.specs.Records.{no_source};
@@ -6,31 +6,31 @@ ghost use Rattle.table.specs.Layout.{source_words, source_at, sources_of, uneven
 
 use rules::Source;
 
-// Words of a source.
-const SOURCE: usize = 10;
+// How many words a source has.
+const SOURCE_WORDS: usize = 10;
 
 #[derive(Clone, Copy)]
 pub struct Sources<'a> {
     pub words: &'a [u64],
 }
 
-// Source k of some words.
-fn source_at(s: &[u64], k: usize) -> Source
-    requires { k * source_words + source_words ≤ length s.now }
-    ensures { result ≡ source_at s.now k }
+// Source k.
+fn source_at(sources: &[u64], k: usize) -> Source
+    requires { k * source_words + source_words ≤ length sources.now }
+    ensures { result ≡ source_at sources.now k }
 {
-    let b = k * SOURCE;
+    let at = k * SOURCE_WORDS;
     Source {
-        frames: s[b],
-        num: s[b + 1],
-        den: s[b + 2],
-        dated: s[b + 3],
-        from: s[b + 4],
-        size: s[b + 5],
-        kind: s[b + 6],
-        ticks: s[b + 7],
-        per: s[b + 8],
-        modulus: s[b + 9],
+        frames: sources[at],
+        numerator: sources[at + 1],
+        denominator: sources[at + 2],
+        dated: sources[at + 3],
+        from: sources[at + 4],
+        size: sources[at + 5],
+        kind: sources[at + 6],
+        ticks: sources[at + 7],
+        per: sources[at + 8],
+        modulus: sources[at + 9],
     }
 }
 
@@ -40,14 +40,14 @@ impl Sources<'_> {
     pub fn is_uneven(&self) -> bool
         ensures { result ≡ uneven_sources (length self.now.words.now) }
     {
-        self.count() * SOURCE != self.words.len()
+        self.count() * SOURCE_WORDS != self.words.len()
     }
 
     // How many there are.
     pub fn count(&self) -> usize
         ensures { result ≡ length (sources_of self.now.words.now) }
     {
-        self.words.len() / SOURCE
+        self.words.len() / SOURCE_WORDS
     }
 
     // Source k.

@@ -10,8 +10,9 @@ use crate::layout::Segments;
 use refusal::{Reason, Refusal};
 use rules::{Ends, Segment};
 
-// What a walk finds that asks only whether nothing refuses: the table's frames; the first segment that is refused; or that something before the segments may be,
-// so that 1 to 8 are tested in their order.
+// What a walk finds that asks only whether nothing refuses: the table's frames; the first segment
+// that is refused; or that something before the segments may be, so that 1 to 8 are tested in their
+// order.
 pub(crate) enum Walked {
     Frames(u64),
     Stopped(usize),
@@ -19,49 +20,56 @@ pub(crate) enum Walked {
 }
 
 impl<'a, S: Segments> SegmentTable<'a, S> {
-    // 9 to 17 of a segment, after one that ends at prev, and where it ends.
+    // 9 to 17 of a segment, after one that ends at `previous`, and where it ends.
     #[tactic(auto, using(crate::proofs::Checks::turns))]
-    fn turn_of(&self, prev: Ends, e: Segment) -> Result<Ends, Reason>
-        ensures { result ≡ turn_of self.now.sources prev e }
+    fn turn_of(&self, previous: Ends, segment: Segment) -> Result<Ends, Reason>
+        ensures { result ≡ turn_of self.now.sources previous segment }
     {
-        let from = e.words.source as usize;
+        let from = segment.words.source as usize;
         if from >= self.source_count() {
             return Err(Reason::NoSuchSource);
         }
-        rules::turn_of(self.source(from), prev, e.words, rules::times_of(e.stamps))
+        rules::turn_of(
+            self.source(from),
+            previous,
+            segment.words,
+            rules::times_of(segment.stamps),
+        )
     }
 
-    // Passes a segment, after one that ends at prev: where it ends, or no end where 1 or one of 9 to 17 refuses it.
-    fn pass(&self, prev: Ends, e: Segment) -> Ends
-        ensures { PassingOf self.now.sources prev e result }
+    // Passes a segment, after one that ends at `previous`: where it ends, or no end where 1 or one
+    // of 9 to 17 refuses it.
+    fn pass(&self, previous: Ends, segment: Segment) -> Ends
+        ensures { PassingOf self.now.sources previous segment result }
     {
-        let from = e.words.source as usize;
+        let from = segment.words.source as usize;
         if from >= self.source_count() {
             return rules::no_end();
         }
-        rules::pass(self.source(from), prev, e)
+        rules::pass(self.source(from), previous, segment)
     }
 
-    // The frames of segments that all pass, or the first that 1 or one of 9 to 17 refuses. Which one does isn't asked, so that few tests are needed: most
-    // tables are accepted.
+    // The frames of segments that all pass, or the first that 1 or one of 9 to 17 refuses. Which
+    // one does isn't asked, so that few tests are needed: most tables are accepted.
     #[inline(always)]
     fn walk(&self) -> Result<u64, usize>
         requires { self.now.uneven ≡ false }
         ensures { Passed self.now.sources self.now.segments result }
     {
-        let m = self.segment_count();
-        let mut prev = rules::no_end();
-        for k in 0..m {
-            let next = self.pass(prev, self.segment(k));
+        let count = self.segment_count();
+        let mut previous = rules::no_end();
+        for k in 0..count {
+            let next = self.pass(previous, self.segment(k));
             if !next.some {
                 return Err(k);
             }
-            prev = next;
+            previous = next;
         }
-        Ok(prev.frame)
+        Ok(previous.frame)
     }
 
-    // Asks whether nothing refuses the table. A function of its own, so that the walk has the registers to itself.
+    // Asks whether nothing refuses the table. A function of its own, so that the walk has the
+    // registers to itself.
     #[inline(never)]
     #[tactic(auto, using(crate::proofs::Checks::checks), unfolding(crate::specs::FirstWalk::Passed, crate::specs::FirstWalk::FirstWalk))]
     pub(crate) fn first_walk(&self) -> Walked
@@ -106,7 +114,8 @@ impl<'a, S: Segments> SegmentTable<'a, S> {
         rules::end_of(self.segment(k - 1))
     }
 
-    // Refuses a table whose walk stopped at segment k: by 1, of any segment, or by what refuses that one, since nothing refuses those before it.
+    // Refuses a table whose walk stopped at segment k: by 1, of any segment, or by what refuses
+    // that one, since nothing refuses those before it.
     #[cold]
     #[inline(never)]
     #[tactic(auto, using(crate::proofs::Checks::stops))]

@@ -8,7 +8,7 @@ use lib.ListN.{length, get_or, length-map}
 use lib.Dec.{eqb}
 use borrow.Author.Tests.{eq-eqb, ne_eqb, lt-ltb, eqb-true, eqb-false}
 use Rattle.conditions.proofs.Sums.{not-past}
-use Rattle.conditions.specs.Conditions.{when, max_u64}
+use Rattle.conditions.specs.Conditions.{max_u64}
 use Rattle.conditions.proofs.Tests.{decide}
 use Rattle.rows.specs.Rows.{ok_shift, ok_row, WellFrom}
 use Rattle.rows.specs.Rows as rows
@@ -20,7 +20,7 @@ use Rattle.table_rows.specs.Rows.{row_of, rows_of}
 use Rattle.table_rows.specs.Mapped.{RowsAreMap}
 
 shift-ok : (e : Segment) → e.words.flag ≤ 1 → ok_shift (row_of e) ≡ true
-unfolding row_of when
+unfolding row_of
 shift-ok e h =
     decide (eqb e.words.flag 0)
     (λ q. rw (q, ne_eqb e.words.flag 1 (λ z. omega (arith, eqb-true e.words.flag 0 q))))
@@ -45,7 +45,8 @@ row_ok p e g o =
     )
     (shift-ok e g.flag)
 
-rows_ok : (p : ℕ) (l : List Segment) → ((k : ℕ) → k < length l → Good (get_or l k no_segment)) → (0 < length l → (get_or l 0 no_segment).words.out ≡ p)
+rows_ok : (p : ℕ) (l : List Segment) → ((k : ℕ) → k < length l → Good (get_or l k no_segment))
+    → (0 < length l → (get_or l 0 no_segment).words.out ≡ p)
     → ((k : ℕ) → suc k < length l → (get_or l (suc k) no_segment).words.out ≡ out_end (get_or l k no_segment)) → WellFrom p (map row_of l)
 unfolding row_of
 rows_ok p [] g z n = tt

@@ -10,15 +10,14 @@ use mathlib.Core.List.{List, [], ◌∷◌, ◌++◌, map, map-append}
 use lib.ListN.{length, get_or, set, take, length-map}
 use lib.Seq.{sets, take-suc, length-take-le}
 use lib.IntN.{ℤ}
-use Rattle.std.specs.Prelude.{Result, Ok, Err}
+use Rattle.std.specs.Prelude.{Result, Ok, Err, if◌then◌else◌}
 use Rattle.refusal.specs.declared.Refusal.{Refusal}
 use Rattle.refusal.specs.declared.Reason.TheVariants as reason
 use Rattle.refusal.specs.Refusals.{refused}
-use Rattle.conditions.specs.Conditions.{when}
 use Rattle.slices.specs.Slices.{laid}
 use Rattle.slices.proofs.Laid.{set-laid, sets-laid}
 use Rattle.rows.specs.declared.Row.{Row}
-use Rattle.rows.specs.Lent.{words, words_of, shifts_of}
+use Rattle.rows.specs.Lent.{row_words, words_of, shifts_of}
 use Rattle.rows.proofs.Flat.{words_append, shifts-append, length-words, length-shifts, five_at, words-read}
 use Rattle.rules.specs.declared.Segment.{Segment}
 use Rattle.rules.specs.Records.{Table, no_segment, nth}
@@ -29,7 +28,7 @@ use Rattle.table.proofs.Lent.{even, segments_length}
 use Rattle.table_rows.specs.Rows.{row_of, rows_of, too_small, rows_refusal, Rowed}
 
 -- ---- words
-read : (u : List ℕ) (t : List ℤ) (k : ℕ) → words (row_of (segment_at u t k)) ≡ five_at u k
+read : (u : List ℕ) (t : List ℤ) (k : ℕ) → row_words (row_of (segment_at u t k)) ≡ five_at u k
 unfolding row_of
 read u t k =
     let e : k * 5 ≡ 5 * k = omega arith in
@@ -54,15 +53,17 @@ module _ (l : List Segment) (k : ℕ) (h : k < length l) where
   length-so_far : length so_far ≡ k
   length-so_far = length-map (take k l) row_of ∙ length-take-le k l (omega arith)
 
-  pub words-more : (o : List ℕ) {a b : List ℕ} → length l * 5 ≤ length o → a ≡ laid (words_of so_far) o → b ≡ sets a (k * 5) (words (row_of (nth l k)))
+  pub words-more : (o : List ℕ) {a b : List ℕ} → 5 * length l ≤ length o → a ≡ laid (words_of so_far) o
+      → b ≡ sets a (5 * k) (row_words (row_of (nth l k)))
       → b ≡ laid (words_of (map row_of (take (k + 1) l))) o
   words-more o room s e =
       let x = row_of (nth l k) in
       let n = length-words so_far in
-      let u : k * 5 ≡ length (words_of so_far) = omega (arith, length-so_far) in
-      rw (e, s, u, one-more, words_append so_far (x ∷ [])) (sets-laid (words x) (words_of so_far) o (omega arith))
+      let u : 5 * k ≡ length (words_of so_far) = omega (arith, length-so_far) in
+      rw (e, s, u, one-more, words_append so_far (x ∷ [])) (sets-laid (row_words x) (words_of so_far) o (omega arith))
 
-  pub shifts-more : (o : List ℤ) {a b : List ℤ} → length l ≤ length o → a ≡ laid (shifts_of so_far) o → b ≡ set a k (row_of (nth l k)).shift
+  pub shifts-more : (o : List ℤ) {a b : List ℤ} → length l ≤ length o → a ≡ laid (shifts_of so_far) o
+      → b ≡ set a k (row_of (nth l k)).shift
       → b ≡ laid (shifts_of (map row_of (take (k + 1) l))) o
   shifts-more o room s e =
       let x = row_of (nth l k) in
@@ -80,17 +81,17 @@ module _ (t : Table) (ou : List ℕ) (os : List ℤ) where
 
   -- of n segments
   module _ {N n : ℕ} (e : check_of t ≡ Ok N) (m : n ≡ length t.segments) where
-    then-room : {b : Bool} → too_small n (length ou) (length os) ≡ b → at (when b (refused reason.NoRoom 0) (Ok tt))
+    then-room : {b : Bool} → too_small n (length ou) (length os) ≡ b → at (if b then refused reason.NoRoom 0 else Ok tt)
     unfolding at rows_refusal
     then-room h = then-rest _ _ e ∙ rw (← m, h)
 
     pub rows-small : too_small n (length ou) (length os) ≡ true → Rowed t ou os (refused reason.NoRoom 0) ou os
-    unfolding at when
+    unfolding at
     rows-small h = let q = then-room h in record { answer = rw q; words = rw q; shifts = rw q }
 
     pub rows_written : {ou' : List ℕ} {os' : List ℤ} → too_small n (length ou) (length os) ≡ false
         → ou' ≡ laid (words_of (map row_of t.segments)) ou → os' ≡ laid (shifts_of (map row_of t.segments)) os → Rowed t ou os (Ok n) ou' os'
-    unfolding at when rows_of
+    unfolding at rows_of
     rows_written h w v = let q = then-room h in record { answer = rw (q, m); words = rw q w; shifts = rw q v }
 
 -- what the loops that write take from a turn, and what lent words are written by

@@ -6,10 +6,11 @@ use Rattle.rules.specs.Records.{Table}
 use Rattle.rules.specs.Rules.{check_of}
 use Rattle.table_rows.specs.Rows.{rows_of}
 
--- the rows of an accepted table of N frames are a well-formed map of N frames, one row a segment: the contract of `accepted_rows_are_a_map`
-pub record RowsAreMap (t : Table) : Type 0 where
-  pub well : (N : ℕ) → check_of t ≡ Ok N → WellFormed (rows_of t)
-  pub frames : (N : ℕ) → check_of t ≡ Ok N → total (rows_of t) ≡ N
-  pub each : length (rows_of t) ≡ length t.segments
+-- the rows of an accepted table of N frames are a well-formed map of N frames, one row a segment (RULES 13.3): the
+-- contract of `accepted_rows_are_a_map`
+pub record RowsAreMap (table : Table) : Type 0 where
+  pub well : (N : ℕ) → check_of table ≡ Ok N → WellFormed (rows_of table)
+  pub frames : (N : ℕ) → check_of table ≡ Ok N → total (rows_of table) ≡ N
+  pub each : length (rows_of table) ≡ length table.segments
   -- the words and shifts that are written, lent as a map again, are these rows
-  pub read : rows (words_of (rows_of t)) (shifts_of (rows_of t)) ≡ rows_of t
+  pub read : rows (words_of (rows_of table)) (shifts_of (rows_of table)) ≡ rows_of table

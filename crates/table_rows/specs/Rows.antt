@@ -1,7 +1,6 @@
--- The rows of an accepted table: one a segment, an absent shift as 0; and what `rows_of_table` answers and leaves in the lent room.
-use Rattle.std.specs.Prelude.{ℕ, ◌*◌, Bool, ◌||◌, List, map, ◌≡◌, length, eqb, ltb, ℤ, pos, Result, Ok}
+-- RULES 4.6: the rows of an accepted table, and what `rows_of_table` answers and leaves in the lent room.
+use Rattle.std.specs.Prelude.{ℕ, ◌*◌, Bool, ◌||◌, List, map, ◌≡◌, length, ℤ, pos, Result, Ok, ◌==◌, nat_lt, if◌then◌else◌}
 use Rattle.std.specs.Result.{result_and}
-use Rattle.conditions.specs.Conditions.{when}
 use Rattle.refusal.specs.declared.Refusal.{Refusal}
 use Rattle.refusal.specs.declared.Reason.TheVariants as reason
 use Rattle.refusal.specs.Refusals.{refused}
@@ -14,33 +13,36 @@ use Rattle.rules.specs.Rules.{refusal}
 
 -- the row of a segment
 unfoldable pub row_of : Segment → Row
-row_of e = record {
-  source = e.words.source;
-  first = e.words.first;
-  count = e.words.count;
-  out = e.words.out;
-  flag = e.words.flag;
-  shift = when (eqb e.words.flag 0) (pos 0) e.stamps.shift;
+row_of segment = record {
+  source = segment.words.source;
+  first = segment.words.first;
+  count = segment.words.count;
+  out = segment.words.out;
+  flag = segment.words.flag;
+  shift = if segment.words.flag == 0 then pos 0 else segment.stamps.shift;
 }
 
 -- the rows of a table, one a segment
 unfoldable pub rows_of : Table → List Row
-rows_of t = map row_of t.segments
+rows_of table = map row_of table.segments
 
--- words of a row as it is lent
-abbrev pub row_words : ℕ
-row_words = 5
-
--- n rows don't go into nu words and ns shifts
+-- n rows don't go into so much room for words and for shifts
 abbrev pub too_small : ℕ → ℕ → ℕ → Bool
-too_small n nu ns = ltb nu (n * row_words) || ltb ns n
+too_small n word_room shift_room = nat_lt word_room (5 * n) || nat_lt shift_room n
 
--- 1 to 17, then 32: lent room too small
+-- the check's, then 32: lent room too small
 unfoldable pub rows_refusal : Table → ℕ → ℕ → Result (Unit {0}) Refusal
-rows_refusal t nu ns = result_and (refusal t) (when (too_small (length t.segments) nu ns) (refused reason.NoRoom 0) (Ok tt))
+rows_refusal table word_room shift_room =
+    result_and (refusal table)
+    (if too_small (length table.segments) word_room shift_room then refused reason.NoRoom 0 else Ok tt)
 
--- the rows of t were asked for: the answer r, which is how many there are, and the words and shifts lent for them, before and afterwards
-pub record Rowed (t : Table) (ou : List ℕ) (os : List ℤ) (r : Result ℕ Refusal) (ou' : List ℕ) (os' : List ℤ) : Type 0 where
-  pub answer : r ≡ result_and (rows_refusal t (length ou) (length os)) (Ok (length t.segments))
-  pub words : ou' ≡ after (rows_refusal t (length ou) (length os)) (words_of (rows_of t)) ou
-  pub shifts : os' ≡ after (rows_refusal t (length ou) (length os)) (shifts_of (rows_of t)) os
+-- the rows of a table were asked for: the answer, which is how many there are, and the words and shifts lent for them,
+-- before and afterwards
+pub record Rowed (table : Table) (out_words : List ℕ) (out_shifts : List ℤ) (result : Result ℕ Refusal)
+    (out_words' : List ℕ) (out_shifts' : List ℤ) : Type 0 where
+  pub answer : result
+      ≡ result_and (rows_refusal table (length out_words) (length out_shifts)) (Ok (length table.segments))
+  pub words : out_words'
+      ≡ after (rows_refusal table (length out_words) (length out_shifts)) (words_of (rows_of table)) out_words
+  pub shifts : out_shifts'
+      ≡ after (rows_refusal table (length out_words) (length out_shifts)) (shifts_of (rows_of table)) out_shifts

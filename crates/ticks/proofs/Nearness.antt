@@ -87,7 +87,8 @@ pub record Compared (us nominal : ℤ) (n s a b plus minus : ℕ) : Type 0 where
   pub room : Addable a b plus minus
 
 -- as the program makes them: u the magnitude of us, p its product with the scale
-pub compared : {us nominal : ℤ} {n s u p a b plus minus : ℕ} → u < 2 ^ 64 → s < 2 ^ 32 → n < 2 ^ 96 → u ≡ nat_abs us → p ≡ u * s → a ≡ p * 2 → b ≡ n * 2000000 →
+pub compared : {us nominal : ℤ} {n s u p a b plus minus : ℕ} → u < 2 ^ 64 → s < 2 ^ 32 → n < 2 ^ 96 → u ≡ nat_abs us
+    → p ≡ u * s → a ≡ p * 2 → b ≡ n * 2000000 →
     pos plus -ℤ pos minus ≡ pos 2 *ℤ nominal *ℤ pos 1000000 +ℤ pos s → plus < 2 ^ 118 → minus < 2 ^ 118 → Compared us nominal n s a b plus minus
 compared {us} {nominal} {n} {s} {u} {p} fu fs fn eu ep ea eb ey hp hm = record {
   a-is = ea ∙ ap (λ (x : ℕ). x * 2) (ep ∙ ap (λ (x : ℕ). x * s) eu) ∙ omega arith;
@@ -96,21 +97,24 @@ compared {us} {nominal} {n} {s} {u} {p} fu fs fn eu ep ea eb ey hp hm = record {
   room = record {
     a_lt = let h : u * s < 2 ^ 96 = grind arith in omega arith;
     b_lt = omega arith;
-    plus-lt = hp;
-    minus-lt = hm;
+    plus_lt = hp;
+    minus_lt = hm;
   };
 }
 
 module _ {us nominal : ℤ} {n s a b plus minus : ℕ} (neg : Bool) (C : Compared us nominal n s a b plus minus) where
-  by-distance : (d : ℕ) → nat_abs (with_sign (lt_z us (pos 0)) a -ℤ with_sign neg b) ≡ d → leb (d + minus) plus ≡ ends_near us (with_sign neg n) nominal s
+  by-distance : (d : ℕ) → nat_abs (with_sign (lt_z us (pos 0)) a -ℤ with_sign neg b) ≡ d
+      → leb (d + minus) plus ≡ ends_near us (with_sign neg n) nominal s
   unfolding ends_near
   by-distance d e =
       at-most-difference d plus minus
       ∙ (λ i. le_z (pos (sym e i)) (C.by-is i))
       ∙ (λ i. le_z (pos (nat_abs ((ap (with_sign (lt_z us (pos 0))) C.a-is ∙ sym (doubled-of us s)) i -ℤ (ap (with_sign neg) C.b-is ∙ sym (doubled neg n 1000000)) i))) (pos 2 *ℤ nominal *ℤ pos 1000000 +ℤ pos s))
 
-  pub near-beside-is : {r : Bool} → beq (lt_z us (pos 0)) neg ≡ true → r ≡ leb (a - b + (b - a) + minus) plus → r ≡ ends_near us (with_sign neg n) nominal s
+  pub near-beside-is : {r : Bool} → beq (lt_z us (pos 0)) neg ≡ true → r ≡ leb (a - b + (b - a) + minus) plus
+      → r ≡ ends_near us (with_sign neg n) nominal s
   near-beside-is e t = t ∙ by-distance (a - b + (b - a)) (ap (λ (s : Bool). nat_abs (with_sign s a -ℤ with_sign neg b)) (same_sign (lt_z us (pos 0)) neg e) ∙ beside neg a b)
 
-  pub near-across-is : {r : Bool} → beq (lt_z us (pos 0)) neg ≡ false → r ≡ leb (a + b + minus) plus → r ≡ ends_near us (with_sign neg n) nominal s
+  pub near-across-is : {r : Bool} → beq (lt_z us (pos 0)) neg ≡ false → r ≡ leb (a + b + minus) plus
+      → r ≡ ends_near us (with_sign neg n) nominal s
   near-across-is e t = t ∙ by-distance (a + b) (across (lt_z us (pos 0)) neg a b e)

@@ -1,4 +1,4 @@
--- The numbers of document 01 on ticks and near ends, those that it marks and some at the limits. They are the contract of `worked_examples_hold`.
+-- The examples of RULES 5.2 and 6.5, and some at the limits. They are the contract of `worked_examples_hold`.
 use Rattle.std.specs.Prelude.{Bool, true, false, List, [], ◌∷◌, ℕ, ◌*◌, pos, neg_ℤ, ℤ, Option, Some, None, Result, Ok}
 use Rattle.examples.specs.Worked.{Worked, is, AllRight}
 use Rattle.refusal.specs.declared.Reason.TheVariants as reason

@@ -1,7 +1,8 @@
-// Time of a frame: ticks in microseconds, what is near the end of a video, an edit's time in media ticks.
+// Time of a frame: ticks in microseconds, what is near the end of a video, an edit's time in media
+// ticks.
 #![tactic(auto)]
 
-ghost use Rattle.std.specs.Prelude.{◌≡◌, ◌+◌, ◌-◌, ◌^◌, ◌≤◌, ◌<◌, leb, pos, nat_abs, ◌+ℤ◌, ◌*ℤ◌};
+ghost use Rattle.std.specs.Prelude.{◌≡◌, ◌+◌, ◌-◌, ◌^◌, ◌≤◌, ◌<◌, pos, ◌+ℤ◌, ◌*ℤ◌, nat_le, unsigned_abs};
 ghost use Rattle.signed.specs.Rounded.{rounded};
 ghost use Rattle.wide.specs.Value.{value, number};
 ghost use Rattle.ticks.specs.Ticks.{micros_of, ticks_to_us, ends_near, media_ticks};
@@ -17,7 +18,8 @@ pub const LARGEST_SCALE: u64 = 4_294_967_295;
 // The most ticks whose product with 1,000,000 fits 63 bits with its sign.
 const SMALL_TICKS: u64 = 4_611_686_018_427;
 
-// The frame times of a video or a recording, beside the starts: how many frames, the ticks a second, how long a frame is as a rule, and where the last one ends.
+// The frame times of a video or a recording, beside the starts: how many frames, the ticks a
+// second, how long a frame is as a rule, and where the last one ends.
 #[derive(Clone, Copy)]
 pub struct FrameTimes {
     pub frames: usize,
@@ -34,17 +36,21 @@ struct Allowance {
 }
 
 // An i64 as a sign and a magnitude.
-pub fn big_of(x: i64) -> Big
-    ensures { result ≡ big_of x }
+pub fn big_of(integer: i64) -> Big
+    ensures { result ≡ big_of integer }
 {
-    let m = x.unsigned_abs();
+    let magnitude = integer.unsigned_abs();
     Big {
-        negative: x < 0,
-        magnitude: Wide { hi: 0, lo: m },
+        negative: integer < 0,
+        magnitude: Wide {
+            high: 0,
+            low: magnitude,
+        },
     }
 }
 
-// Ticks of a scale in microseconds, from `ticks_to_us` of the Rust, which takes 128 bits: half the scale is added before the division.
+// Ticks of a scale in microseconds, from `ticks_to_us` of the Rust, which takes 128 bits: half the
+// scale is added before the division.
 pub fn micros(ticks: Big, scale: u64) -> Option<i64>
     requires { (value ticks.magnitude < 2 ^ 96) × (scale < 2 ^ 32) }
     ensures { result ≡ micros_of (number ticks) scale }
@@ -54,26 +60,28 @@ pub fn micros(ticks: Big, scale: u64) -> Option<i64>
     }
     let magnitude = ticks.magnitude;
     let half = Wide {
-        hi: 0,
-        lo: scale / 2,
+        high: 0,
+        low: scale / 2,
     };
-    let q = wide::quotient(wide::add(wide::times(magnitude, 1_000_000), half), scale);
-    if q.hi != 0 {
+    let time = wide::quotient(wide::add(wide::times(magnitude, 1_000_000), half), scale);
+    if time.high != 0 {
         return None;
     }
-    signed::with_sign(ticks.negative, q.lo)
+    signed::with_sign(ticks.negative, time.low)
 }
 
-// The same of few ticks, by signed negation and division; their product with 1,000,000 fits 63 bits.
+// The same of few ticks, by signed negation and division; their product with 1,000,000 fits 63
+// bits.
 fn small_micros(ticks: i64, scale: u64) -> i64
-    requires { (nat_abs ticks ≤ small_ticks) × (0 < scale) × (scale < 2 ^ 32) }
+    requires { (unsigned_abs ticks ≤ small_ticks) × (0 < scale) × (scale < 2 ^ 32) }
     ensures { result ≡ rounded (ticks *ℤ pos 1000000) scale }
 {
     signed::rounded_div(ticks * 1_000_000, scale as i64)
 }
 
-// Ticks of a scale in microseconds, from `ticks_to_us` of the Rust: few ticks by signed division, the rest by two words.
-#[tactic(auto, unfolding(crate::specs::Ticks::ticks_to_us, crate::specs::Ticks::us_of, crate::specs::Ticks::micros_of, conditions::specs::Conditions::when))]
+// Ticks of a scale in microseconds, from `ticks_to_us` of the Rust: few ticks by signed division,
+// the rest by two words.
+#[tactic(auto, unfolding(crate::specs::Ticks::ticks_to_us, crate::specs::Ticks::us_of, crate::specs::Ticks::micros_of))]
 pub fn ticks_to_us(ticks: i64, scale: u64) -> Result<i64, Refusal>
     ensures { result ≡ ticks_to_us ticks scale }
 {
@@ -87,7 +95,7 @@ pub fn ticks_to_us(ticks: i64, scale: u64) -> Result<i64, Refusal>
         return Ok(small_micros(ticks, scale));
     }
     match micros(big_of(ticks), scale) {
-        Some(us) => Ok(us),
+        Some(time) => Ok(time),
         None => Err(Reason::NoFrameTime.at(0)),
     }
 }
@@ -97,21 +105,27 @@ fn allowed(nominal: i64, scale: u64) -> Allowance
     requires { scale < 2 ^ 32 }
     ensures { Allowed (pos 2 *ℤ nominal *ℤ pos 1000000 +ℤ pos scale) result }
 {
-    let n = wide::product(nominal.unsigned_abs(), 2_000_000);
-    let s = Wide { hi: 0, lo: scale };
+    let frame = wide::product(nominal.unsigned_abs(), 2_000_000);
+    let rounding = Wide {
+        high: 0,
+        low: scale,
+    };
     if nominal < 0 {
-        return Allowance { plus: s, minus: n };
+        return Allowance {
+            plus: rounding,
+            minus: frame,
+        };
     }
     Allowance {
-        plus: wide::add(n, s),
-        minus: Wide { hi: 0, lo: 0 },
+        plus: wide::add(frame, rounding),
+        minus: Wide { high: 0, low: 0 },
     }
 }
 
 // Whether a and b, on one side of 0, are at most plus - minus apart; nothing is subtracted.
 fn near_beside(a: Wide, b: Wide, plus: Wide, minus: Wide) -> bool
     requires { Addable (value a) (value b) (value plus) (value minus) }
-    ensures { result ≡ leb (value a - value b + (value b - value a) + value minus) (value plus) }
+    ensures { result ≡ nat_le (value a - value b + (value b - value a) + value minus) (value plus) }
 {
     if wide::at_most(wide::add(a, minus), wide::add(b, plus)) {
         return wide::at_most(wide::add(b, minus), wide::add(a, plus));
@@ -122,51 +136,53 @@ fn near_beside(a: Wide, b: Wide, plus: Wide, minus: Wide) -> bool
 // The same of a and b on both sides of 0.
 fn near_across(a: Wide, b: Wide, plus: Wide, minus: Wide) -> bool
     requires { Addable (value a) (value b) (value plus) (value minus) }
-    ensures { result ≡ leb (value a + value b + value minus) (value plus) }
+    ensures { result ≡ nat_le (value a + value b + value minus) (value plus) }
 {
     wide::at_most(wide::add(wide::add(a, b), minus), plus)
 }
 
-// Whether us microseconds are near the end of a video, from `ends_near` of the Rust. Nothing passes 118 bits.
-pub fn ends_near(us: i64, end: Big, nominal: i64, scale: u64) -> bool
+// Whether so many microseconds are near the end of a video, from `ends_near` of the Rust. Nothing
+// passes 118 bits.
+pub fn ends_near(end_us: i64, end: Big, nominal: i64, scale: u64) -> bool
     requires { (value end.magnitude < 2 ^ 96) × (scale < 2 ^ 32) }
-    ensures { result ≡ ends_near us (number end) nominal scale }
+    ensures { result ≡ ends_near end_us (number end) nominal scale }
 {
     let magnitude = end.magnitude;
-    let a = wide::times(wide::product(us.unsigned_abs(), scale), 2);
+    let a = wide::times(wide::product(end_us.unsigned_abs(), scale), 2);
     let b = wide::times(magnitude, 2_000_000);
-    let by = allowed(nominal, scale);
-    let plus = by.plus;
-    let minus = by.minus;
-    if (us < 0) == end.negative {
+    let allowance = allowed(nominal, scale);
+    let plus = allowance.plus;
+    let minus = allowance.minus;
+    if (end_us < 0) == end.negative {
         return near_beside(a, b, plus, minus);
     }
     near_across(a, b, plus, minus)
 }
 
-// A duration of the movie in the media's ticks, where an i64 holds it, from `video_frame_times_of_moov` of the Rust.
+// A duration of the movie in the media's ticks, where an i64 holds it, from
+// `video_frame_times_of_moov` of the Rust.
 #[tactic(auto, using(crate::proofs::Edits::quotients))]
 pub fn edit_ticks(duration: u64, scale: u64, movie: u64) -> Option<u64>
     requires { (scale < 2 ^ 32) × (0 < movie) × (movie < 2 ^ 32) }
     ensures { result ≡ media_ticks duration scale movie }
 {
     let half = Wide {
-        hi: 0,
-        lo: movie / 2,
+        high: 0,
+        low: movie / 2,
     };
-    let t = wide::quotient(wide::add(wide::product(duration, scale), half), movie);
-    if t.hi != 0 {
+    let ticks = wide::quotient(wide::add(wide::product(duration, scale), half), movie);
+    if ticks.high != 0 {
         return None;
     }
-    let lo = t.lo;
-    if lo < 0x8000_0000_0000_0000 {
-        return Some(lo);
+    let low = ticks.low;
+    if low < 0x8000_0000_0000_0000 {
+        return Some(low);
     }
     None
 }
 
 // The definitions give the numbers of specs/Examples.antt.
-#[tactic(auto, unfolding(crate::specs::Ticks::ticks_to_us, crate::specs::Ticks::us_of, crate::specs::Ticks::micros_of, crate::specs::Ticks::ends_near, crate::specs::Ticks::media_ticks, conditions::specs::Conditions::when))]
+#[tactic(auto, unfolding(crate::specs::Ticks::ticks_to_us, crate::specs::Ticks::us_of, crate::specs::Ticks::micros_of, crate::specs::Ticks::ends_near, crate::specs::Ticks::media_ticks))]
 pub fn worked_examples_hold()
     ensures { WorkedExamples }
 {}

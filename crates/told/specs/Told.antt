@@ -1,5 +1,6 @@
--- WHAT A C CALLER IS TOLD OF ANY ANSWER: the number (a refusal's, or 0), what the words that are lent for its value hold afterwards, and the refusal's index, or 0.
-use Rattle.std.specs.Prelude.{ℕ, Bool, cond, ℤ, Result, Ok, Err}
+-- WHAT A C CALLER IS TOLD OF ANY ANSWER (RULES 2.6): the number (a refusal's, or 0), what the words that are lent for
+-- its value hold afterwards, and the refusal's index, or 0.
+use Rattle.std.specs.Prelude.{ℕ, Bool, if◌then◌else◌, ℤ, Result, Ok, Err}
 use Rattle.refusal.specs.declared.Refusal.{Refusal}
 use Rattle.refusal.specs.Reasons.{number}
 use Rattle.ticks.specs.declared.FrameTimes.{FrameTimes}
@@ -16,15 +17,15 @@ told words (Err refusal) old = (number refusal.reason, old, refusal.index)
 -- ---- the words of each value
 -- a number is itself: a frame total, a segment, how many rows or indices, a time
 abbrev pub itself : {A : Type 0} → A → A
-itself a = a
+itself value = value
 
 -- 1 for yes, 0 for no
 abbrev pub yes_or_no : Bool → ℕ
-yes_or_no b = cond b 1 0
+yes_or_no answer = if answer then 1 else 0
 
 -- nothing of it is told
 abbrev pub unsaid : {A : Type 0} → A → Unit {0}
-unsaid a = tt
+unsaid value = tt
 
 -- a box's size, its header's
 abbrev pub size_words : BoxSize → ℕ × ℕ

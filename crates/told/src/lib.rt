@@ -1,10 +1,10 @@
-// What a C caller is told of an answer: the number, the words that are lent for the value, and the index. Lent words may be unset, so that none is read:
-// on a refusal they are left alone.
+// What a C caller is told of an answer: the number, the words that are lent for the value, and the
+// index. Lent words may be unset, so that none is read: on a refusal they are left alone.
 #![tactic(auto)]
 
 pub mod several;
 
-ghost use Rattle.std.specs.Prelude.{◌≡◌, cond};
+ghost use Rattle.std.specs.Prelude.{◌≡◌, if◌then◌else◌};
 ghost use Rattle.refusal.specs.Reasons.{number};
 ghost use Rattle.told.specs.Told.{told, unsaid};
 
@@ -54,7 +54,7 @@ impl Word for i64 {
 impl Word for bool {
     type Word = u64;
 
-    ghost word = { λ yes. cond yes 1 0 };
+    ghost word = { λ yes. if yes then 1 else 0 };
 
     fn word(self) -> u64 {
         self as u64

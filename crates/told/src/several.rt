@@ -16,7 +16,8 @@ pub fn tell_size(
     header: &mut u64,
     index: &mut u64,
 ) -> u64
-    ensures { (result, (size.new, header.new), index.new) ≡ told size_words answer (size.old, header.old) }
+    ensures { (result, (size.new, header.new), index.new)
+        ≡ told size_words answer (size.old, header.old) }
 {
     match answer {
         Ok(found) => {
@@ -38,7 +39,8 @@ pub fn tell_box(
     next: &mut u64,
     index: &mut u64,
 ) -> u64
-    ensures { (result, (kind.new, start.new, length.new, next.new), index.new) ≡ told box_words answer (kind.old, start.old, length.old, next.old) }
+    ensures { (result, (kind.new, start.new, length.new, next.new), index.new)
+        ≡ told box_words answer (kind.old, start.old, length.old, next.old) }
 {
     match answer {
         Ok(found) => {
@@ -60,7 +62,8 @@ pub fn tell_place(
     length: &mut u64,
     index: &mut u64,
 ) -> u64
-    ensures { (result, (start.new, length.new), index.new) ≡ told place_words answer (start.old, length.old) }
+    ensures { (result, (start.new, length.new), index.new)
+        ≡ told place_words answer (start.old, length.old) }
 {
     match answer {
         Ok(place) => {
@@ -82,7 +85,8 @@ pub fn tell_origin(
     shift: &mut i64,
     index: &mut u64,
 ) -> u64
-    ensures { (result, (source.new, source_frame.new, flag.new, shift.new), index.new) ≡ told origin_words answer (source.old, source_frame.old, flag.old, shift.old) }
+    ensures { (result, (source.new, source_frame.new, flag.new, shift.new), index.new)
+        ≡ told origin_words answer (source.old, source_frame.old, flag.old, shift.old) }
 {
     match answer {
         Ok(origin) => {
@@ -106,7 +110,8 @@ pub fn tell_times(
     end: &mut i64,
     index: &mut u64,
 ) -> u64
-    ensures { (result, (frames.new, scale.new, nominal.new, end.new), index.new) ≡ told times_words answer (frames.old, scale.old, nominal.old, end.old) }
+    ensures { (result, (frames.new, scale.new, nominal.new, end.new), index.new)
+        ≡ told times_words answer (frames.old, scale.old, nominal.old, end.old) }
 {
     match answer {
         Ok(times) => {

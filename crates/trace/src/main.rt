@@ -1,12 +1,14 @@
-// The first lesson: steps on a frame map, one a line on standard input, and what each of them gives.
+// The first lesson: steps on a frame map, one a line on standard input, and what each gives.
 //
 //     row SOURCE FIRST COUNT [shift SHIFT]   the map with a row more; its out first is chained
 //     cut A B                                the frames A to B of the map
-//     join                                   the rows that follow, up to another step, are a second map, joined to the first
+//     join                                   the rows that follow, up to another step, are a
+//                                            second map, joined to the first
 //     merge                                  one row of neighbours that continue
 //     origin FRAME                           where a frame comes from
 //
-// Every map goes through the proved calls, and every refusal is theirs, that of a 1,025th row too; this program only holds the rows and prints.
+// Every map goes through the proved calls, and every refusal is theirs, that of a 1,025th row too;
+// this program only holds the rows and prints.
 #![tactic(auto)]
 
 ghost use Rattle.std.specs.Prelude.{ℕ, ◌≤◌, Ok};
@@ -24,7 +26,8 @@ const FILE_BYTES: usize = 65_536;
 // The words of as many rows as a map may have.
 const MOST_WORDS: usize = ROW_WORDS * MOST_ROWS;
 
-// A frame map: the words of its rows, a shift a row, and how many rows it has. What lies past them is no part of it.
+// A frame map: the words of its rows, a shift a row, and how many rows it has. What lies past them
+// is no part of it.
 #[derive(Drop)]
 struct Map {
     words: [u64; MOST_WORDS],
@@ -54,12 +57,15 @@ impl Map {
         map
     }
 
-    // The map that a call writes over lent words and shifts, of as many rows as it answers; or its refusal.
+    // The map that a call writes over lent words and shifts, of as many rows as it answers; or its
+    // refusal.
     fn written<F>(call: F) -> Result<Map, Refusal>
     where
         F: FnOnce(&mut [u64], &mut [i64]) -> Result<usize, Refusal>,
         requires callable { F.IsAlwaysCallable call }
-        requires few { (words shifts : _) (rows : ℕ) (words' shifts' : _) → F.post call words shifts (Ok rows) words' shifts' → rows ≤ most_rows }
+        requires few { (words shifts : _) (rows : ℕ) (words' shifts' : _)
+            → F.post call words shifts (Ok rows) words' shifts'
+            → rows ≤ most_rows }
     {
         let mut words = [0; MOST_WORDS];
         let mut shifts = [0; MOST_ROWS];
@@ -112,7 +118,8 @@ impl Map {
         maps::origin(self.words(), self.shifts(), frame)
     }
 
-    // This map with a row more. Nothing joins a map of no rows, so that the first row is tested by a merge of it alone.
+    // This map with a row more. Nothing joins a map of no rows, so that the first row is tested by
+    // a merge of it alone.
     fn with_row(&self, row: Row) -> Result<Map, Refusal> {
         let row = Map::of_row(row);
         if self.rows == 0 {
@@ -200,7 +207,13 @@ impl Lesson {
     fn line(&mut self, rt: &impl Print, number: usize, text: &[u8]) {
         match steps::parse(text) {
             Step::Nothing => {}
-            Step::Row(source, first, count, flag, shift) => {
+            Step::Row {
+                source,
+                first,
+                count,
+                flag,
+                shift,
+            } => {
                 let row = Row {
                     source,
                     first,
@@ -251,7 +264,8 @@ fn say_row_step(rt: &impl Print, row: Row) {
     };
 }
 
-// The whole lines of an input that is too long, and that it is. What comes after them is left unread: an input may never end.
+// The whole lines of an input that is too long, and that it is. What comes after them is left
+// unread: an input may never end.
 fn too_long(rt: &impl Print, text: &[u8]) {
     let end = text
         .iter()

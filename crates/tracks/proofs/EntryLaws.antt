@@ -7,6 +7,8 @@ use lib.ListN.{length, take, drop, replicate, length-append, length-replicate, l
 use lib.Seq.{take-append_seam, drop-append_seam, drop-drop}
 use lib.IntN.{ℤ, pos}
 use Rattle.slices.specs.Slices.{laid}
+use Rattle.std.proofs.lemmas.List.Concat.{length-flat_map}
+use Rattle.std.proofs.lemmas.List.Sums.{sum_by-cons}
 use Rattle.boxes.specs.Bytes.{be32_at}
 use Rattle.tracks.specs.declared.entries.Run.{Run}
 use Rattle.tracks.specs.Tables.{entries_from, entry_total, per_frame}
@@ -26,15 +28,19 @@ pub ruleset runs = (runs-none, runs-step)
 
 pub length-per-frame : (es : List Run) → length (per_frame es) ≡ entry_total es
 unfolding per_frame entry_total
-length-per-frame [] = refl
-length-per-frame (e ∷ es) = length-append (replicate e.count e.value) (per_frame es) ∙ (λ i. length-replicate e.count e.value i + length-per-frame es i)
+length-per-frame es = simp (length-flat_map, length-replicate)
+
+pub total-more : {left rest : List Run} {r : Run} → left ≡ r ∷ rest → entry_total left ≡ r.count + entry_total rest
+unfolding entry_total
+total-more {rest = rest} {r} e = ap entry_total e ∙ sum_by-cons (λ (run : Run). run.count) r rest
 
 pub map-replicate : {A B : Type 0} (f : A → B) (n : ℕ) (x : A) → map f (replicate n x) ≡ replicate n (f x)
 map-replicate f zero x = refl
 map-replicate f (suc n) x = ap (λ l. f x ∷ l) (map-replicate f n x)
 
 -- values filled in at the end of what is laid
-filled : (a q b ds : List ℤ) (n m : ℕ) → n ≡ length a + length q → m ≡ length q → take n (a ++ (q ++ drop m b)) ++ laid ds (drop n (a ++ (q ++ drop m b))) ≡ a ++ laid (q ++ ds) b
+filled : (a q b ds : List ℤ) (n m : ℕ) → n ≡ length a + length q → m ≡ length q
+    → take n (a ++ (q ++ drop m b)) ++ laid ds (drop n (a ++ (q ++ drop m b))) ≡ a ++ laid (q ++ ds) b
 filled a q b ds n m en em =
     let s : a ++ (q ++ drop m b) ≡ (a ++ q) ++ drop (length q) b = rw em (sym (append_assoc a q (drop (length q) b))) in
     let l : n ≡ length (a ++ q) = en ∙ sym (length-append a q) in
@@ -43,7 +49,8 @@ filled a q b ds n m en em =
     rw (t, d) (simp (append_assoc, drop-drop, length-append))
 
 -- an entry's frames filled in after what is laid
-pub lay-fill : (out : List ℤ) {part whole : List ℤ} {n : ℕ} {z : ℤ} {r : Run} {left rest : List Run} → (n ≤ length out → take n out ++ laid (map pos (per_frame left)) (drop n out) ≡ whole) → left ≡ r ∷ rest
+pub lay-fill : (out : List ℤ) {part whole : List ℤ} {n : ℕ} {z : ℤ} {r : Run} {left rest : List Run}
+    → (n ≤ length out → take n out ++ laid (map pos (per_frame left)) (drop n out) ≡ whole) → left ≡ r ∷ rest
     → n + r.count ≤ length out → part ≡ replicate (length (take (n + r.count - n) (drop n out))) z → z ≡ pos r.value
     → take (n + r.count) (take n out ++ (part ++ drop (n + r.count - n) (drop n out))) ++ laid (map pos (per_frame rest)) (drop (n + r.count) (take n out ++ (part ++ drop (n + r.count - n) (drop n out)))) ≡ whole
 unfolding per_frame

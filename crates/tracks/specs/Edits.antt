@@ -1,5 +1,5 @@
--- The edit list (ISO/IEC 14496-12, 8.6.6): none, one edit of the media, or an empty edit and then one.
-use Rattle.std.specs.Prelude.{Option, Some, None, ℕ, ◌+◌, ◌*◌, ◌^◌, Bool, true, false, List, length, get_or, ℤ, pos, negsuc, ltb, eqb, if◌then◌else◌}
+-- The edit list: none, one edit of the media, or an empty edit and then one. RULES 8.5, of ISO/IEC 14496-12, 8.6.6.
+use Rattle.std.specs.Prelude.{Option, Some, None, ℕ, ◌+◌, ◌*◌, ◌^◌, Bool, true, false, List, length, get_or, ℤ, pos, negsuc, if◌then◌else◌, ◌==◌, nat_lt}
 use Rattle.std.specs.Ordering.{int_eq}
 use Rattle.std.specs.Int.{cast_signed, w32, w64}
 use Rattle.ticks.specs.Ticks.{media_ticks}
@@ -19,8 +19,16 @@ rate_one = 0x10000
 
 -- the entry at `at`, in version 1 (`true`) or another
 unfoldable pub entry_at : Bool → List ℕ → ℕ → EditEntry
-entry_at true p at = record { duration = be64_at p at; time = cast_signed w64 (be64_at p (at + 8)); rate = be32_at p (at + 16) }
-entry_at false p at = record { duration = be32_at p at; time = cast_signed w32 (be32_at p (at + 4)); rate = be32_at p (at + 8) }
+entry_at true payload at = record {
+  duration = be64_at payload at;
+  time = cast_signed w64 (be64_at payload (at + 8));
+  rate = be32_at payload (at + 16);
+}
+entry_at false payload at = record {
+  duration = be32_at payload at;
+  time = cast_signed w32 (be32_at payload (at + 4));
+  rate = be32_at payload (at + 8);
+}
 
 -- 20-byte entries for version 1, else 12
 abbrev pub entry_bytes : Bool → ℕ
@@ -34,48 +42,55 @@ no_edit = record { edited = false; time = pos 0; end = None; empty = pos 0 }
 -- an edit from `time` on that ends so many ticks later, where an i64 holds that
 abbrev pub ending_after : Option ℕ → ℕ → ℤ → Option Edit
 ending_after None time empty = None
-ending_after (Some d) time empty =
-    if ltb (time + d) (2 ^ 63) then Some (record { edited = true; time = pos time; end = Some (pos (time + d)); empty = empty }) else None
+ending_after (Some span) time empty =
+    if nat_lt (time + span) (2 ^ 63) then
+    Some (record { edited = true; time = pos time; end = Some (pos (time + span)); empty = empty })
+    else None
 
 -- an edit from a time on, which isn't below 0; duration 0 is open, and any other is converted to the media's ticks
 abbrev pub from_time : ℤ → ℕ → ℕ → ℕ → ℤ → Option Edit
-from_time (negsuc t) duration scale movie empty = None
-from_time (pos t) duration scale movie empty =
-    if eqb duration 0 then Some (record { edited = true; time = pos t; end = None; empty = empty })
-    else ending_after (media_ticks duration scale movie) t empty
+from_time (negsuc below) duration scale movie empty = None
+from_time (pos time) duration scale movie empty =
+    if duration == 0 then Some (record { edited = true; time = pos time; end = None; empty = empty })
+    else ending_after (media_ticks duration scale movie) time empty
 
 -- the entry that is kept, after so many empty ticks: its rate is 1
 unfoldable pub kept_entry : EditEntry → ℕ → ℕ → ℤ → Option Edit
-kept_entry entry scale movie empty = if eqb entry.rate rate_one then from_time entry.time entry.duration scale movie empty else None
+kept_entry entry scale movie empty =
+    if entry.rate == rate_one then from_time entry.time entry.duration scale movie empty
+    else None
 
 -- the same after an empty edit, whose ticks an i64 holds
 abbrev pub after_empty : Option ℕ → EditEntry → ℕ → ℕ → Option Edit
 after_empty None entry scale movie = None
-after_empty (Some d) entry scale movie = kept_entry entry scale movie (pos d)
+after_empty (Some empty) entry scale movie = kept_entry entry scale movie (pos empty)
 
 -- two entries: the first has the time -1 and a duration that an i64 holds, and its rate isn't looked at
 unfoldable pub two_entries : EditEntry → EditEntry → ℕ → ℕ → Option Edit
 two_entries first second scale movie =
     if int_eq first.time (negsuc 0) then
-    if ltb first.duration (2 ^ 63) then after_empty (media_ticks first.duration scale movie) second scale movie
-    else None else None
+    (if nat_lt first.duration (2 ^ 63) then after_empty (media_ticks first.duration scale movie) second scale movie
+    else None)
+    else None
 
--- n entries; more than two are refused, and so is one that isn't whole
+-- so many entries; more than two are refused, and so is one that isn't whole
 unfoldable pub edit_of_entries : ℕ → Bool → List ℕ → ℕ → ℕ → Option Edit
-edit_of_entries n long p scale movie =
-    if eqb n 0 then Some no_edit
-    else if ltb 2 n then None
-    else if ltb (length p) (8 + n * entry_bytes long) then None
-    else if eqb n 1 then kept_entry (entry_at long p 8) scale movie (pos 0)
-    else two_entries (entry_at long p 8) (entry_at long p (8 + entry_bytes long)) scale movie
+edit_of_entries entries long payload scale movie =
+    if entries == 0 then Some no_edit
+    else if nat_lt 2 entries then None
+    else if nat_lt (length payload) (8 + entries * entry_bytes long) then None
+    else if entries == 1 then kept_entry (entry_at long payload 8) scale movie (pos 0)
+    else two_entries (entry_at long payload 8) (entry_at long payload (8 + entry_bytes long)) scale movie
 
 -- an elst's payload: version and flags, then how many entries there are
 unfoldable pub elst_of : List ℕ → ℕ → ℕ → Option Edit
-elst_of p scale movie = if ltb (length p) 8 then None else edit_of_entries (be32_at p 4) (eqb (get_or p 0 0) 1) p scale movie
+elst_of payload scale movie =
+    if nat_lt (length payload) 8 then None
+    else edit_of_entries (be32_at payload 4) (get_or payload 0 0 == 1) payload scale movie
 
 -- the edit of an elst at a place; no edit where there is none
 abbrev pub found_edit : Option Place → List ℕ → ℕ → ℕ → Option Edit
-found_edit (Some p) edts scale movie = elst_of (bytes_at edts p) scale movie
+found_edit (Some place) edts scale movie = elst_of (bytes_at edts place) scale movie
 found_edit None edts scale movie = Some no_edit
 
 -- the edit of an edts' payload, with the media's timescale and the movie's

@@ -7,8 +7,8 @@ use Rattle.tracks.specs.Tables.{entries_from, per_frame}
 
 -- the entries
 abbrev pub runs_left : Runs → List Run
-runs_left r = entries_from ((r.end - r.at) / 8) r.payload.now r.at
+runs_left runs = entries_from ((runs.end - runs.at) / 8) runs.payload.now runs.at
 
 -- the values of the frames
 abbrev pub frames_left : Frames → List ℕ
-frames_left f = replicate f.run.count f.run.value ++ per_frame (runs_left f.after)
+frames_left frames = replicate frames.run.count frames.run.value ++ per_frame (runs_left frames.after)

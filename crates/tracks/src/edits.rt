@@ -1,4 +1,4 @@
-// The edit list.
+// The edit list: RULES 8.5.
 ghost use Rattle.std.specs.Prelude.{Some, IfSome, ◌≡◌, ◌+◌, ◌≤◌, ◌<◌, ◌^◌, length};
 ghost use Rattle.tracks.specs.Edits.{entry_at, entry_bytes, no_edit, ending_after, from_time, kept_entry, two_entries, edit_of_entries, elst_of, edit_of};
 ghost use Rattle.tracks.specs.SoundEdits.{EditTicks, Sound};
@@ -24,23 +24,23 @@ fn entry_bytes(long: bool) -> usize
     12
 }
 
-// The entry at at: the closure entry of video_frame_times_of_moov.
+// The entry at an offset: the closure entry of video_frame_times_of_moov.
 #[tactic(auto, using(conditions::proofs::Tests::tests), unfolding(crate::specs::Edits::entry_at))]
-fn entry_at(long: bool, p: &[u8], at: usize) -> EditEntry
-    requires { at + entry_bytes long ≤ length p.now }
-    ensures { result ≡ entry_at long p.now at }
+fn entry_at(long: bool, payload: &[u8], at: usize) -> EditEntry
+    requires { at + entry_bytes long ≤ length payload.now }
+    ensures { result ≡ entry_at long payload.now at }
 {
     if long {
         return EditEntry {
-            duration: be64(p, at),
-            time: be64(p, at + 8).cast_signed(),
-            rate: be32(p, at + 16),
+            duration: be64(payload, at),
+            time: be64(payload, at + 8).cast_signed(),
+            rate: be32(payload, at + 16),
         };
     }
     EditEntry {
-        duration: be32(p, at) as u64,
-        time: be32(p, at + 4).cast_signed() as i64,
-        rate: be32(p, at + 8),
+        duration: be32(payload, at) as u64,
+        time: be32(payload, at + 4).cast_signed() as i64,
+        rate: be32(payload, at + 8),
     }
 }
 
@@ -57,17 +57,17 @@ fn no_edit() -> Edit
     }
 }
 
-// The edit from t on that ends so many ticks later.
-fn ending_after(n: u64, t: u64, empty: i64) -> Option<Edit>
-    requires { (t < 2 ^ 63) × EditTicks empty }
-    ensures is { result ≡ ending_after (Some n) t empty }
+// The edit from a time on that ends so many ticks later.
+fn ending_after(span: u64, time: u64, empty: i64) -> Option<Edit>
+    requires { (time < 2 ^ 63) × EditTicks empty }
+    ensures is { result ≡ ending_after (Some span) time empty }
     ensures sound { IfSome result Sound }
 {
-    if n < TOP - t {
+    if span < TOP - time {
         return Some(Edit {
             edited: true,
-            time: t as i64,
-            end: Some((t + n) as i64),
+            time: time as i64,
+            end: Some((time + span) as i64),
             empty,
         });
     }
@@ -75,24 +75,24 @@ fn ending_after(n: u64, t: u64, empty: i64) -> Option<Edit>
 }
 
 // The edit from a time on, over a duration of the movie.
-fn from_time(t: i64, duration: u64, scale: u64, movie: u64, empty: i64) -> Option<Edit>
+fn from_time(time: i64, duration: u64, scale: u64, movie: u64, empty: i64) -> Option<Edit>
     requires { (scale < 2 ^ 32) × (0 < movie) × (movie < 2 ^ 32) × EditTicks empty }
-    ensures is { result ≡ from_time t duration scale movie empty }
+    ensures is { result ≡ from_time time duration scale movie empty }
     ensures sound { IfSome result Sound }
 {
-    if t < 0 {
+    if time < 0 {
         return None;
     }
     if duration == 0 {
         return Some(Edit {
             edited: true,
-            time: t,
+            time,
             end: None,
             empty,
         });
     }
-    let n = ticks::edit_ticks(duration, scale, movie)?;
-    ending_after(n, t as u64, empty)
+    let span = ticks::edit_ticks(duration, scale, movie)?;
+    ending_after(span, time as u64, empty)
 }
 
 // The edit of the entry that is kept.
@@ -108,7 +108,7 @@ fn kept_entry(entry: EditEntry, scale: u64, movie: u64, empty: i64) -> Option<Ed
     None
 }
 
-// The edit of two entries, the first an empty edit, whose rate isn't looked at.
+// The edit of two entries, of which the first has to be an empty edit.
 #[tactic(auto, using(crate::proofs::EditLaws::twos), unfolding(crate::specs::Edits::two_entries))]
 fn two_entries(first: EditEntry, second: EditEntry, scale: u64, movie: u64) -> Option<Edit>
     requires { (scale < 2 ^ 32) × (0 < movie) × (movie < 2 ^ 32) }
@@ -125,44 +125,57 @@ fn two_entries(first: EditEntry, second: EditEntry, scale: u64, movie: u64) -> O
     kept_entry(second, scale, movie, empty as i64)
 }
 
-// The edit of an edit list's n entries.
+// The edit of an edit list's entries.
 #[tactic(auto, using(conditions::proofs::Tests::tests), unfolding(crate::specs::Edits::edit_of_entries))]
-fn edit_of_entries(n: usize, long: bool, p: &[u8], scale: u64, movie: u64) -> Option<Edit>
+fn edit_of_entries(
+    entries: usize,
+    long: bool,
+    payload: &[u8],
+    scale: u64,
+    movie: u64,
+) -> Option<Edit>
     requires { (scale < 2 ^ 32) × (0 < movie) × (movie < 2 ^ 32) }
-    ensures is { result ≡ edit_of_entries n long p.now scale movie }
+    ensures is { result ≡ edit_of_entries entries long payload.now scale movie }
     ensures sound { IfSome result Sound }
 {
-    if n == 0 {
+    if entries == 0 {
         return Some(no_edit());
     }
-    if 2 < n {
+    if 2 < entries {
         return None;
     }
     let width = entry_bytes(long);
-    if p.len() < 8 + n * width {
+    if payload.len() < 8 + entries * width {
         return None;
     }
-    if n == 1 {
-        return kept_entry(entry_at(long, p, 8), scale, movie, 0);
+    if entries == 1 {
+        return kept_entry(entry_at(long, payload, 8), scale, movie, 0);
     }
-    let first = entry_at(long, p, 8);
-    two_entries(first, entry_at(long, p, 8 + width), scale, movie)
+    let first = entry_at(long, payload, 8);
+    two_entries(first, entry_at(long, payload, 8 + width), scale, movie)
 }
 
 // The edit of an elst's payload.
 #[tactic(auto, using(conditions::proofs::Tests::tests), unfolding(crate::specs::Edits::elst_of))]
-fn elst(p: &[u8], scale: u64, movie: u64) -> Option<Edit>
+fn elst(payload: &[u8], scale: u64, movie: u64) -> Option<Edit>
     requires { (scale < 2 ^ 32) × (0 < movie) × (movie < 2 ^ 32) }
-    ensures is { result ≡ elst_of p.now scale movie }
+    ensures is { result ≡ elst_of payload.now scale movie }
     ensures sound { IfSome result Sound }
 {
-    if p.len() < 8 {
+    if payload.len() < 8 {
         return None;
     }
-    edit_of_entries(be32(p, 4) as usize, p[0] == 1, p, scale, movie)
+    edit_of_entries(
+        be32(payload, 4) as usize,
+        payload[0] == 1,
+        payload,
+        scale,
+        movie,
+    )
 }
 
-// The edit of an edts' payload, which is empty where a track has none: the edit list of video_frame_times_of_moov.
+// The edit of an edts' payload, which is empty where a track has none: the edit list of
+// video_frame_times_of_moov.
 #[tactic(auto, using(conditions::proofs::Tests::tests), unfolding(crate::specs::Edits::edit_of))]
 pub fn edit_of(edts: &[u8], scale: u64, movie: u64) -> Option<Edit>
     requires { (scale < 2 ^ 32) × (0 < movie) × (movie < 2 ^ 32) }

@@ -1,4 +1,5 @@
-// What the boxes of a track say (ISO/IEC 14496-12): its timescale, its tables of durations and offsets, its edit list.
+// What the boxes of a track say (ISO/IEC 14496-12): its timescale, its tables of durations and
+// offsets, its edit list. RULES 8.2 to 8.5.
 #![tactic(auto)]
 
 pub mod edits;
@@ -13,7 +14,8 @@ pub struct EditEntry {
     pub rate: u32,
 }
 
-// What an edit list says: whether there is an edit, from where in the media, to where, which is none where it is open, and after how many empty ticks.
+// What an edit list says: whether there is an edit, from where in the media, to where, which is
+// none where it is open, and after how many empty ticks.
 #[derive(Clone, Copy)]
 pub struct Edit {
     pub edited: bool,

@@ -1,29 +1,32 @@
-// Timescales, and the tables that have a count and a value in each entry: durations (stts) and offsets (ctts).
+// Timescales, and the tables that have a count and a value in each entry: durations (stts) and
+// offsets (ctts). RULES 8.2 to 8.4.
 ghost use Rattle.std.specs.Prelude.{◌≡◌, ◌≤◌, ◌<◌, ◌^◌, ℕ, Bool};
+ghost use Rattle.boxes.specs.Boxes.{most_bytes};
 ghost use Rattle.tracks.specs.Tables.{timescale, is_unsigned, offset_of};
 ghost use Rattle.tracks.specs.Opening.{Spread, offset_wrap, wrapped};
 
 use crate::entries::Table;
 use boxes::read::be32;
 
-// The timescale of a mvhd or mdhd: full_box and be_u32, as video_frame_times_of_moov of the Rust calls them. Where it isn't whole, the Rust looks for no track.
+// The timescale of a mvhd or mdhd, none where it isn't whole: the Rust's full_box and be_u32, as
+// video_frame_times_of_moov calls them.
 #[tactic(auto, using(conditions::proofs::Tests::tests), unfolding(crate::specs::Tables::timescale))]
-pub fn timescale(p: &[u8]) -> Option<u32>
-    ensures { result ≡ timescale p.now }
+pub fn timescale(payload: &[u8]) -> Option<u32>
+    ensures { result ≡ timescale payload.now }
 {
-    if p.len() < 16 {
+    if payload.len() < 16 {
         return None;
     }
-    if p[0] == 1 {
-        if p.len() < 24 {
+    if payload[0] == 1 {
+        if payload.len() < 24 {
             return None;
         }
-        return Some(be32(p, 20));
+        return Some(be32(payload, 20));
     }
-    Some(be32(p, 12))
+    Some(be32(payload, 12))
 }
 
-// Whether the offsets of a ctts are unsigned: by the standard those of version 0, by the Rust none. An absent ctts has no offsets; its version counts as 0.
+// Whether the offsets of a ctts are unsigned. An absent ctts has none; its version counts as 0.
 fn is_unsigned(standard: bool, ctts: &[u8]) -> bool
     ensures { result ≡ is_unsigned standard ctts.now }
 {
@@ -33,7 +36,8 @@ fn is_unsigned(standard: bool, ctts: &[u8]) -> bool
     standard & (ctts[0] == 0)
 }
 
-// What is taken off an offset of a ctts whose top bit is set. It is found once, so that either reading costs the same for each frame.
+// What is taken off an offset of a ctts whose top bit is set. It is found once, so that either
+// reading costs the same for each frame.
 pub fn offset_wrap(standard: bool, ctts: &[u8]) -> u64
     ensures { result ≡ offset_wrap (is_unsigned standard ctts.now) }
 {
@@ -43,28 +47,32 @@ pub fn offset_wrap(standard: bool, ctts: &[u8]) -> u64
     0x1_0000_0000
 }
 
-// An offset of a ctts, by what is taken off: where offsets are signed, the Rust's `as i32 as i64`.
-pub fn offset(wrap: u64, x: u32) -> i64
+// An offset of a ctts, by what is taken off: where offsets are signed, the Rust's
+// `as i32 as i64`.
+pub fn offset(wrap: u64, word: u32) -> i64
     requires { wrap ≤ 2 ^ 32 }
-    ensures { result ≡ wrapped wrap x }
+    ensures { result ≡ wrapped wrap word }
 {
-    if x < 0x8000_0000 {
-        return x as i64;
+    if word < 0x8000_0000 {
+        return word as i64;
     }
-    (x as i64) - (wrap as i64)
+    (word as i64) - (wrap as i64)
 }
 
-// An offset, less what is taken off it where its top bit is set, is what the definition reads, unsigned or signed.
+// An offset, less what is taken off it where its top bit is set, is what the definition reads,
+// unsigned or signed.
 #[tactic(auto, using(crate::proofs::OffsetLaws::offset_wrapped))]
 pub fn wrapped_offsets_are_right()
-    ensures { (unsigned : Bool) (x : ℕ) → x < 2 ^ 32 → wrapped (offset_wrap unsigned) x ≡ offset_of unsigned x }
+    ensures { (unsigned : Bool) (word : ℕ) → word < 2 ^ 32
+        → wrapped (offset_wrap unsigned) word ≡ offset_of unsigned word }
 {}
 
-// Lays a table's values over out, each as often as its entry says, and answers how often that is together: the first loop of
-// video_frame_times_of_moov. Over most it stops, and answers most + 1; what doesn't fit out isn't laid.
+// Lays a table's values over out, each as often as its entry says, and answers how often that is
+// together: the first loop of video_frame_times_of_moov. Over most it stops, and answers most + 1;
+// what doesn't fit out isn't laid.
 #[tactic(auto, unfolding(crate::specs::Tables::entry_total, crate::specs::Tables::per_frame))]
 pub fn lay(table: Table<'_>, most: usize, out: &mut [i64]) -> usize
-    requires { most ≤ 16777216 }
+    requires { most ≤ most_bytes }
     ensures { Spread table.entry.payload.now table.entry.entries most result out.old out.new }
 {
     let mut sum: usize = 0;

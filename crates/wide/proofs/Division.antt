@@ -2,7 +2,8 @@
 use Rattle.std.proofs.Common.{◌≡◌, ℕ, ◌+◌, ◌*◌, ◌/◌, ◌<◌, ap, arith}
 
 -- the upper word, then the lower one after its remainder, in any base P
-pub both_words : (P hi lo d q₁ r₁ q₀ r₀ : ℕ) → q₁ * d + r₁ ≡ 0 * P + hi → q₀ * d + r₀ ≡ r₁ * P + lo → (q₁ * P + q₀) * d + r₀ ≡ hi * P + lo
+pub both_words : (P hi lo d q₁ r₁ q₀ r₀ : ℕ) → q₁ * d + r₁ ≡ 0 * P + hi → q₀ * d + r₀ ≡ r₁ * P + lo
+    → (q₁ * P + q₀) * d + r₀ ≡ hi * P + lo
 both_words P hi lo d q₁ r₁ q₀ r₀ e₁ e₀ = omega (arith, ap (λ (x : ℕ). x * P) e₁)
 
 -- where q times d leaves less than d, q is the quotient

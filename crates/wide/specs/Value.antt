@@ -4,14 +4,14 @@ use Rattle.signed.specs.Signed.{with_sign}
 use Rattle.wide.specs.declared.Wide.{Wide}
 use Rattle.wide.specs.declared.Big.{Big}
 
--- hi * 2^64 + lo
+-- high * 2^64 + low
 abbrev pub value : Wide → ℕ
-value w = w.hi * 2 ^ 64 + w.lo
+value a = a.high * 2 ^ 64 + a.low
 
 -- the integer of a sign and a magnitude
 abbrev pub number : Big → ℤ
-number b = with_sign b.negative (value b.magnitude)
+number big = with_sign big.negative (value big.magnitude)
 
 -- numbers whose lower words fit are the same where their values are
 abbrev pub OneForm : Type 0
-OneForm = (a b : Wide) → a.lo < 2 ^ 64 → b.lo < 2 ^ 64 → value a ≡ value b → a ≡ b
+OneForm = (a b : Wide) → a.low < 2 ^ 64 → b.low < 2 ^ 64 → value a ≡ value b → a ≡ b

@@ -5,11 +5,11 @@ ghost use Rattle.std.specs.Prelude.{◌≡◌, ◌+◌, ◌*◌, ◌/◌, ◌^�
 ghost use Rattle.wide.specs.Value.{value, OneForm};
 ghost use Rattle.wide.specs.Divided.{Divided, OneWord};
 
-// hi * 2^64 + lo
+// high * 2^64 + low
 #[derive(Clone, Copy)]
 pub struct Wide {
-    pub hi: u64,
-    pub lo: u64,
+    pub high: u64,
+    pub low: u64,
 }
 
 // An integer of a sign and a magnitude.
@@ -31,31 +31,31 @@ pub fn add(a: Wide, b: Wide) -> Wide
     requires { value a + value b < 2 ^ 128 }
     ensures { value result ≡ value a + value b }
 {
-    let lo = a.lo.wrapping_add(b.lo);
-    let carry = (lo < a.lo) as u64;
+    let low = a.low.wrapping_add(b.low);
+    let carry = (low < a.low) as u64;
     Wide {
-        hi: a.hi + b.hi + carry,
-        lo,
+        high: a.high + b.high + carry,
+        low,
     }
 }
 
 // The whole product of two words.
-pub fn product(u: u64, v: u64) -> Wide
-    ensures { value result ≡ u * v }
+pub fn product(a: u64, b: u64) -> Wide
+    ensures { value result ≡ a * b }
 {
-    let (lo, hi) = u.carrying_mul(v, 0);
-    Wide { hi, lo }
+    let (low, high) = a.carrying_mul(b, 0);
+    Wide { high, low }
 }
 
-// w * m.
-pub fn times(w: Wide, m: u64) -> Wide
-    requires { value w * m < 2 ^ 128 }
-    ensures { value result ≡ value w * m }
+// a * b.
+pub fn times(a: Wide, b: u64) -> Wide
+    requires { value a * b < 2 ^ 128 }
+    ensures { value result ≡ value a * b }
 {
-    let low = product(w.lo, m);
+    let lower = product(a.low, b);
     Wide {
-        hi: low.hi + w.hi * m,
-        lo: low.lo,
+        high: lower.high + a.high * b,
+        low: lower.low,
     }
 }
 
@@ -63,62 +63,64 @@ pub fn times(w: Wide, m: u64) -> Wide
 pub fn at_most(a: Wide, b: Wide) -> bool
     ensures { result ≡ nat_le (value a) (value b) }
 {
-    if a.hi == b.hi {
-        a.lo <= b.lo
+    if a.high == b.high {
+        a.low <= b.low
     } else {
-        a.hi < b.hi
+        a.high < b.high
     }
 }
 
-// One step of a long division by d: the remainder so far and the next digit of 32 bits fit one word. A word below d is the
-// remainder again, and nothing is divided.
-fn next_digit(rest: u64, digit: u64, d: u64) -> Digit
-    requires { (rest < d) × (digit < 2 ^ 32) × (d < 2 ^ 32) }
-    ensures { Divided rest digit d result }
+// One step of a long division: the remainder so far and the next digit of 32 bits fit one word. A
+// word below the divisor is the remainder again, and nothing is divided.
+fn next_digit(rest: u64, digit: u64, divisor: u64) -> Digit
+    requires { (rest < divisor) × (digit < 2 ^ 32) × (divisor < 2 ^ 32) }
+    ensures { Divided rest digit divisor result }
 {
-    let n = rest * 0x1_0000_0000 + digit;
-    if n < d {
+    let dividend = rest * 0x1_0000_0000 + digit;
+    if dividend < divisor {
         return Digit {
             quotient: 0,
-            rest: n,
+            rest: dividend,
         };
     }
     Digit {
-        quotient: n / d,
-        rest: n % d,
+        quotient: dividend / divisor,
+        rest: dividend % divisor,
     }
 }
 
 // The same with a word for the next digit, in two steps of 32 bits.
-fn next_word(rest: u64, word: u64, d: u64) -> Digit
-    requires { (rest < d) × (d < 2 ^ 32) }
-    ensures { (result.quotient * d + result.rest ≡ rest * 2 ^ 64 + word) × (result.rest < d) }
+fn next_word(rest: u64, word: u64, divisor: u64) -> Digit
+    requires { (rest < divisor) × (divisor < 2 ^ 32) }
+    ensures { (result.quotient * divisor + result.rest ≡ rest * 2 ^ 64 + word)
+        × (result.rest < divisor) }
 {
-    let q1 = next_digit(rest, word / 0x1_0000_0000, d);
-    let q0 = next_digit(q1.rest, word % 0x1_0000_0000, d);
+    let upper = next_digit(rest, word / 0x1_0000_0000, divisor);
+    let lower = next_digit(upper.rest, word % 0x1_0000_0000, divisor);
     Digit {
-        quotient: q1.quotient * 0x1_0000_0000 + q0.quotient,
-        rest: q0.rest,
+        quotient: upper.quotient * 0x1_0000_0000 + lower.quotient,
+        rest: lower.rest,
     }
 }
 
-// w / d, by long division with digits of 32 bits and one running remainder. An upper word below d is that remainder already.
-pub fn quotient(w: Wide, d: u64) -> Wide
-    requires { (0 < d) × (d < 2 ^ 32) }
-    ensures { value result ≡ value w / d }
+// dividend / divisor, by long division with digits of 32 bits and one running remainder. An upper
+// word below the divisor is that remainder already.
+pub fn quotient(dividend: Wide, divisor: u64) -> Wide
+    requires { (0 < divisor) × (divisor < 2 ^ 32) }
+    ensures { value result ≡ value dividend / divisor }
 {
-    if w.hi < d {
-        let only = next_word(w.hi, w.lo, d);
+    if dividend.high < divisor {
+        let only = next_word(dividend.high, dividend.low, divisor);
         return Wide {
-            hi: 0,
-            lo: only.quotient,
+            high: 0,
+            low: only.quotient,
         };
     }
-    let upper = next_word(0, w.hi, d);
-    let lower = next_word(upper.rest, w.lo, d);
+    let upper = next_word(0, dividend.high, divisor);
+    let lower = next_word(upper.rest, dividend.low, divisor);
     Wide {
-        hi: upper.quotient,
-        lo: lower.quotient,
+        high: upper.quotient,
+        low: lower.quotient,
     }
 }
 

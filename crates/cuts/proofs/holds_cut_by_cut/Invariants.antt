@@ -9,6 +9,6 @@ invariant-loop-k l =
     record {
       within : l.k ≤ l.n;
       same :
-          leb (length (rest (rows l.u l.s) (range_at l.ranges) l.k l.n)) l.left
-          ≡ leb (length (concat (cuts_of (rows l.u l.s) (ranges_of l.ranges)))) l.room;
+          leb (length (rest (rows l.words l.shifts) (range_at l.ranges) l.k l.n)) l.left
+          ≡ leb (length (concat (cuts_of (rows l.words l.shifts) (ranges_of l.ranges)))) l.room;
     }

@@ -8,5 +8,5 @@ abbrev pub invariant-loop-k : goal.invariant-loop-k
 invariant-loop-k l =
     record {
       within : l.k ≤ l.n;
-      left : first_refused (range_refusal l.t) l.k (run (range_at l.ranges) l.k (l.n - l.k)) ≡ ranges_refusal l.t l.ranges;
+      left : first_refused (range_refusal l.frames) l.k (run (range_at l.ranges) l.k (l.n - l.k)) ≡ ranges_refusal l.frames l.ranges;
     }

@@ -13,12 +13,12 @@ use Rattle.cuts.proofs.write_cuts.Goals as goal
 
 pub write_cut-requires : goal.write_cut-requires
 write_cut-requires c =
-    let m = rows c.args.u.now c.args.s.now in
-    let r = c.range_at-r.result in
+    let m = rows c.args.words.now c.args.shifts.now in
+    let r = c.range_at-range.result in
     let later = rest m (range_at c.args.ranges.now) (c.loop-k.k + 1) (length c.args.ranges.now / 2) in
     let next =
     rest-next m (range_at c.args.ranges.now) c.loop-k.k (length c.args.ranges.now / 2) (omega arith)
-    ∙ ap (λ (x : Range). cut x.from x.to m ++ later) (sym c.range_at-r.ensures) in (
+    ∙ ap (λ (x : Range). cut x.from x.to m ++ later) (sym c.range_at-range.ensures) in (
       c.requires.0.sound,
       c.part_of-part.ensures,
       part_room (cut r.from r.to m) later c.requires.1 c.loop-k.invariant.written next (span-length c.part_of-part.ensures),
@@ -26,17 +26,17 @@ write_cut-requires c =
 
 pub loop-k-preserved : goal.loop-k-preserved
 loop-k-preserved c =
-    let m = rows c.args.u.now c.args.s.now in
-    let r = c.range_at-r.result in
+    let m = rows c.args.words.now c.args.shifts.now in
+    let r = c.range_at-range.result in
     let n = length c.args.ranges.now / 2 in
     let later = rest m (range_at c.args.ranges.now) (c.loop-k.k + 1) n in
     let next =
-    rest-next m (range_at c.args.ranges.now) c.loop-k.k n (omega arith) ∙ ap (λ (x : Range). cut x.from x.to m ++ later) (sym c.range_at-r.ensures) in
+    rest-next m (range_at c.args.ranges.now) c.loop-k.k n (omega arith) ∙ ap (λ (x : Range). cut x.from x.to m ++ later) (sym c.range_at-range.ensures) in
     let long = span-length c.part_of-part.ensures in
     let lengths = map length (cuts_of m (ranges_of c.args.ranges.now)) in
     let many = length-map (cuts_of m (ranges_of c.args.ranges.now)) length ∙ length-cuts m c.args.ranges.now in
     let is : c.part_of-part.result.count ≡ get_or lengths c.loop-k.k 0 =
-    sym long ∙ ap (λ (x : Range). length (cut x.from x.to m)) c.range_at-r.ensures
+    sym long ∙ ap (λ (x : Range). length (cut x.from x.to m)) c.range_at-range.ensures
     ∙ sym (count_at m (range_at c.args.ranges.now) n c.loop-k.k (omega arith)) in
     record {
       within = omega arith;
@@ -48,7 +48,7 @@ loop-k-preserved c =
 
 pub returns : goal.returns
 returns c =
-    let m = rows c.args.u.now c.args.s.now in
+    let m = rows c.args.words.now c.args.shifts.now in
     let l = c.loop-k in
     let none = rest-none m (range_at c.args.ranges.now) l.k (length c.args.ranges.now / 2) (omega arith) in
     let all = written_all l.invariant.written none in

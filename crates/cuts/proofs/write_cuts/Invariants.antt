@@ -10,6 +10,8 @@ invariant-loop-k l =
     record {
       within : l.k ≤ l.n;
       written :
-          Written (concat (cuts_of (rows l.u l.s) (ranges_of l.ranges))) (rest (rows l.u l.s) (range_at l.ranges) l.k l.n) l.fn.ou l.fn.os l.ou l.os l.w;
-      counted : l.counts ≡ take l.k (map length (cuts_of (rows l.u l.s) (ranges_of l.ranges))) ++ drop l.k l.fn.counts;
+          Written (concat (cuts_of (rows l.words l.shifts) (ranges_of l.ranges)))
+          (rest (rows l.words l.shifts) (range_at l.ranges) l.k l.n)
+          l.fn.out_words l.fn.out_shifts l.out_words l.out_shifts l.done;
+      counted : l.counts ≡ take l.k (map length (cuts_of (rows l.words l.shifts) (ranges_of l.ranges))) ++ drop l.k l.fn.counts;
     }

@@ -9,5 +9,5 @@ use Rattle.judge.proofs.first_start.Given as goal
 abbrev pub invariant-loop-k : goal.invariant-loop-k
 invariant-loop-k g l =
     let v = shown_by l.video l.starts in
-    let segs = l.table.segments in
-    first_refused (start_refusal v) l.k (run (nth segs) l.k (l.m - l.k)) ≡ first_refused (start_refusal v) 0 segs
+    let segments = l.table.segments in
+    first_refused (start_refusal v) l.k (run (nth segments) l.k (l.count - l.k)) ≡ first_refused (start_refusal v) 0 segments

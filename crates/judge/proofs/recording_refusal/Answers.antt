@@ -2,7 +2,6 @@ use Rattle.std.proofs.Common.{◌≡◌, sym, rules}
 use Rattle.std.specs.Prelude.{Ok}
 use borrow.Author.Tests.{ne_eqb}
 use lib.Seq.{length-take-le}
-use Rattle.conditions.specs.Conditions.{when}
 use Rattle.signed.proofs.Bits.{reads, fits-of}
 use Rattle.judge.specs.Video.{shown_by}
 use Rattle.judge.specs.Judge.{times_refusal, recording_refusal}
@@ -20,7 +19,7 @@ slice_bounds-video_refusal-end-2 g c =
     sym (length-take-le _ _ (starts-room c.mcraw_times-answer.ensures k))
 
 pub returns : goal.returns
-unfolding shown_by recording_refusal times_refusal when
+unfolding shown_by recording_refusal times_refusal
 returns g c =
     let k : c.mcraw_times-answer.result ≡ Ok c.in_ok-times.times = search rules in
     let m = c.mcraw_times-answer.ensures in

@@ -7,4 +7,4 @@ pub returns : goal.returns
 unfolding segment_runs_on
 returns c =
     let a = c.args in
-    rw (c.same_shift-shifts.ensures, back a.p.stamps.shift (omega arith), back a.e.stamps.shift (omega arith)) (search rules)
+    rw (c.same_shift-shifts.ensures, back a.previous.stamps.shift (omega arith), back a.segment.stamps.shift (omega arith)) (search rules)

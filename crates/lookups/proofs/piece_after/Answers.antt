@@ -7,7 +7,7 @@ use Rattle.lookups.proofs.piece_after.Goals as goal
 
 pub returns-then-has : goal.returns-then-has
 returns-then-has g c =
-    let p : Covers c.args.table.now c.piece_at-next.result = rw c.piece_at-next.ensures (covers _ c.requires.chained _ (omega (arith, c.segment_count-m.ensures))) in
+    let p : Covers c.args.table.now c.piece_at-next.result = rw c.piece_at-next.ensures (covers _ c.requires.chained _ (omega (arith, c.segment_count-count.ensures))) in
     (p, hit _ _ _ p (called c.has.ensures c.if-has.true))
 
 pub piece_at-requires-clause-inside : goal.piece_at-requires-clause-inside

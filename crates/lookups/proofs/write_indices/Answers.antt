@@ -8,7 +8,7 @@ use Rattle.lookups.proofs.Pieces.{covers}
 use Rattle.lookups.proofs.write_indices.Goals as goal
 
 pub loop-k-init : goal.loop-k-init
-loop-k-init g c = (zero-le, refl, rw c.piece_at-p.ensures (covers _ c.requires.chained 0 c.requires.chained.some))
+loop-k-init g c = (zero-le, refl, rw c.piece_at-piece.ensures (covers _ c.requires.chained 0 c.requires.chained.some))
 
 pub loop-k-preserved : goal.loop-k-preserved
 loop-k-preserved g c =
@@ -16,7 +16,7 @@ loop-k-preserved g c =
     let v = c.args in
     let index = index_in v.table.now in
     let n = length-map v.frames.now index in
-    let r = c.piece_of-p in
+    let r = c.piece_of-piece in
     let is : r.result.index ≡ get_or (map index v.frames.now) l.k 0 = r.ensures.1 ∙ sym (get_or-map index v.frames.now l.k 0 0 c.loop-k-test.true) in (
       omega arith,
       (λ i. set (l.invariant.1 i) l.k (is i)) ∙ copy_more (map index v.frames.now) v.out.now l.k 0 (omega (arith, n)) (omega (arith, c.requires.room)),

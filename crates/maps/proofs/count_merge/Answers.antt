@@ -8,8 +8,8 @@ loop-i-init c =
     record {
       within = omega (arith, c.requires.some);
       fewer = omega arith;
-      fits = row-source c.requires 0 c.row_at-c.result c.row_at-c.ensures c.requires.some;
-      left = omega (arith, ap length (merge-start c.args.u.now c.args.s.now c.row_at-c.result c.row_at-c.ensures c.requires.some));
+      fits = row-source c.requires 0 c.row_at-current.result c.row_at-current.ensures c.requires.some;
+      left = omega (arith, ap length (merge-start c.args.words.now c.args.shifts.now c.row_at-current.result c.row_at-current.ensures c.requires.some));
     }
 
 pub loop-i-preserved-then-runs_on : goal.loop-i-preserved-then-runs_on

@@ -8,8 +8,10 @@ use Rattle.maps.proofs.count_merge.Given as goal
 abbrev pub invariant-loop-i : goal.invariant-loop-i
 invariant-loop-i l =
     record {
-      within : l.i ≤ length l.s;
-      fewer : l.w < l.i;
-      fits : l.c.first + l.c.count ≤ max_u64;
-      left : l.w + length (merge_into l.c (run (row_at l.u l.s) l.i (length l.s - l.i))) ≡ length (merge (rows l.u l.s));
+      within : l.i ≤ length l.shifts;
+      fewer : l.done < l.i;
+      fits : l.current.first + l.current.count ≤ max_u64;
+      left :
+          l.done + length (merge_into l.current (run (row_at l.words l.shifts) l.i (length l.shifts - l.i)))
+          ≡ length (merge (rows l.words l.shifts));
     }

@@ -10,8 +10,10 @@ use Rattle.maps.proofs.judge.Given as goal
 abbrev pub invariant-loop-i : goal.invariant-loop-i
 invariant-loop-i l =
     record {
-      within : l.i ≤ length l.s;
+      within : l.i ≤ length l.shifts;
       left :
-          result_and (first_bad l.p l.i (run (row_at l.u l.s) l.i (length l.s - l.i))) (Ok (l.p + total (run (row_at l.u l.s) l.i (length l.s - l.i))))
-          ≡ result_and (first_bad 0 0 (rows l.u l.s)) (Ok (total (rows l.u l.s)));
+          result_and
+          (first_bad l.next l.i (run (row_at l.words l.shifts) l.i (length l.shifts - l.i)))
+          (Ok (l.next + total (run (row_at l.words l.shifts) l.i (length l.shifts - l.i))))
+          ≡ result_and (first_bad 0 0 (rows l.words l.shifts)) (Ok (total (rows l.words l.shifts)));
     }

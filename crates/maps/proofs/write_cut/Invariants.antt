@@ -5,10 +5,10 @@ use Rattle.rows.specs.Rows.{clip}
 use Rattle.rows.specs.Lent.{row_at, words_of, shifts_of}
 use Rattle.maps.proofs.write_cut.Given as goal
 
-abbrev pub invariant-loop-w : goal.invariant-loop-w
-invariant-loop-w l =
+abbrev pub invariant-loop-j : goal.invariant-loop-j
+invariant-loop-j l =
     record {
-      within : l.w ≤ l.k;
-      words : l.ou ≡ laid (words_of (run (λ j. clip l.a l.b (row_at l.u l.s (l.i + j))) 0 l.w)) l.fn.ou;
-      shifts : l.os ≡ laid (shifts_of (run (λ j. clip l.a l.b (row_at l.u l.s (l.i + j))) 0 l.w)) l.fn.os;
+      within : l.j ≤ l.k;
+      words : l.out_words ≡ laid (words_of (run (λ j. clip l.start l.end (row_at l.words l.shifts (l.i + j))) 0 l.j)) l.fn.out_words;
+      shifts : l.out_shifts ≡ laid (shifts_of (run (λ j. clip l.start l.end (row_at l.words l.shifts (l.i + j))) 0 l.j)) l.fn.out_shifts;
     }

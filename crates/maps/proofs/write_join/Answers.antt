@@ -5,6 +5,8 @@ pub returns : goal.returns
 returns c =
     let a = c.args in
     let p = c.requires in (
-      join-words a.u.now a.s.now a.v.now a.t.now a.ou.now a.os.now p.4 p.0.sizes _ _ c.copy.ensures c.copy-2.ensures a.d p.2 _ c.write_moved.ensures,
-      join-shifts a.u.now a.s.now a.v.now a.t.now a.ou.now a.os.now p.4 p.0.sizes _ _ c.copy.ensures c.copy-2.ensures a.d p.2 _ c.copy-3.ensures,
+      join-words a.words.now a.shifts.now a.second_words.now a.second_shifts.now a.out_words.now a.out_shifts.now
+          p.4 p.0.sizes _ _ c.copy.ensures c.copy-2.ensures a.later_by p.2 _ c.write_moved.ensures,
+      join-shifts a.words.now a.shifts.now a.second_words.now a.second_shifts.now a.out_words.now a.out_shifts.now
+          p.4 p.0.sizes _ _ c.copy.ensures c.copy-2.ensures a.later_by p.2 _ c.copy-3.ensures,
     )

@@ -10,54 +10,51 @@ loop-i-init c =
     record {
       within = omega (arith, m.some);
       fewer = omega arith;
-      fits = row-source m 0 c.row_at-c.result c.row_at-c.ensures m.some;
-      written = written_none _ _ (merge-start c.args.u.now c.args.s.now c.row_at-c.result c.row_at-c.ensures m.some);
+      fits = row-source m 0 c.row_at-current.result c.row_at-current.ensures m.some;
+      written = written_none _ _ (merge-start c.args.words.now c.args.shifts.now c.row_at-current.result c.row_at-current.ensures m.some);
     }
 
-pub glued-c-requires : goal.glued-c-requires
-glued-c-requires c = grind (arith, merging)
+pub glued-current-requires : goal.glued-current-requires
+glued-current-requires c = grind (arith, merging)
 
 pub loop-i-preserved-then-runs_on : goal.loop-i-preserved-then-runs_on
 loop-i-preserved-then-runs_on c =
     let l = c.loop-i in
-    let r = c.row_at-r.result in
-    let e = c.row_at-r.ensures in
+    let r = c.row_at-row.result in
+    let e = c.row_at-row.ensures in
     let b = sym c.if-runs_on.ensures in
     record {
       within = omega arith;
       fewer = omega arith;
       fits = grind (arith, merging);
-      written = rw c.glued-c.ensures (rw (merge-glues _ l.i (length c.args.s.now) l.c r e (omega arith) b) at l.invariant.written);
+      written = rw c.glued-current.ensures (rw (merge-glues _ l.i (length c.args.shifts.now) l.current r e (omega arith) b) at l.invariant.written);
     }
 
 pub put_row-requires : goal.put_row-requires
 put_row-requires c =
     let l = c.loop-i in
     put-room c.requires.1 l.invariant.written
-    (merge-parts _ l.i _ l.c c.row_at-r.result c.row_at-r.ensures (omega arith) (sym c.if-runs_on.ensures))
+    (merge-parts _ l.i _ l.current c.row_at-row.result c.row_at-row.ensures (omega arith) (sym c.if-runs_on.ensures))
 
 pub loop-i-preserved : goal.loop-i-preserved
 loop-i-preserved c =
     let l = c.loop-i in
-    let r = c.row_at-r.result in
-    let e = c.row_at-r.ensures in
+    let r = c.row_at-row.result in
+    let e = c.row_at-row.ensures in
     record {
       within = omega arith;
       fewer = omega arith;
       fits = grind (arith, merging);
       written =
-          put_step c.requires.1 l.invariant.written (merge-parts _ l.i _ l.c r e (omega arith) (sym c.if-runs_on.ensures)) _ _
+          put_step c.requires.1 l.invariant.written (merge-parts _ l.i _ l.current r e (omega arith) (sym c.if-runs_on.ensures)) _ _
           c.put_row.ensures.0 c.put_row.ensures.1;
     }
-
-pub put_row-requires-2 : goal.put_row-requires-2
-put_row-requires-2 c = put-room c.requires.1 c.loop-i.invariant.written (merge-end _ c.loop-i.i _ c.loop-i.c (omega arith))
 
 pub returns : goal.returns
 returns c =
     let l = c.loop-i in
     let w =
-    put_step c.requires.1 l.invariant.written (merge-end (row_at c.args.u.now c.args.s.now) l.i _ l.c (omega arith)) _ _ c.put_row-2.ensures.0
+    put_step c.requires.1 l.invariant.written (merge-end (row_at c.args.words.now c.args.shifts.now) l.i _ l.current (omega arith)) _ _ c.put_row-2.ensures.0
     c.put_row-2.ensures.1 in
     let a = written_all w refl in
     (omega (arith, rows_all c.requires.1 w), a.0, a.1)

@@ -9,8 +9,11 @@ use Rattle.maps.proofs.write_merge.Given as goal
 abbrev pub invariant-loop-i : goal.invariant-loop-i
 invariant-loop-i l =
     record {
-      within : l.i ≤ length l.s;
-      fewer : l.w < l.i;
-      fits : l.c.first + l.c.count ≤ max_u64;
-      written : Written (merge (rows l.u l.s)) (merge_into l.c (run (row_at l.u l.s) l.i (length l.s - l.i))) l.fn.ou l.fn.os l.ou l.os l.w;
+      within : l.i ≤ length l.shifts;
+      fewer : l.done < l.i;
+      fits : l.current.first + l.current.count ≤ max_u64;
+      written :
+          Written (merge (rows l.words l.shifts))
+          (merge_into l.current (run (row_at l.words l.shifts) l.i (length l.shifts - l.i)))
+          l.fn.out_words l.fn.out_shifts l.out_words l.out_shifts l.done;
     }

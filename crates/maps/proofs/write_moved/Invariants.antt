@@ -8,6 +8,6 @@ use Rattle.maps.proofs.write_moved.Given as goal
 abbrev pub invariant-loop-i : goal.invariant-loop-i
 invariant-loop-i l =
     record {
-      within : l.i ≤ length l.s;
-      written : l.ou ≡ laid (words_of (run (λ j. moved l.d (row_at l.u l.s j)) 0 l.i)) l.fn.ou;
+      within : l.i ≤ length l.shifts;
+      written : l.out_words ≡ laid (words_of (run (λ j. moved l.later_by (row_at l.words l.shifts j)) 0 l.i)) l.fn.out_words;
     }

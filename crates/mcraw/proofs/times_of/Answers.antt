@@ -14,31 +14,31 @@ use Rattle.mcraw.proofs.times_of.Goals as goal
 pub middle_interval-nominal-requires : goal.middle_interval-nominal-requires
 unfolding fall_of
 middle_interval-nominal-requires c =
-    let ts = c.args.ts.now in
-    let sp = span-held ts c.checked_sub.result c.in-Some.span (omega arith) (omega arith) c.checked_sub.ensures c.in-Some.is in
-    (omega arith, simp length-take (grind (arith, or_parts, ltb-false)), gaps-fit ts (no-fall ts 1 (sym c.in_ok-first_fall.ensures)) (inside (span ts) sp.0))
+    let timestamps = c.args.timestamps.now in
+    let sp = span-held timestamps c.checked_sub.result c.in-Some.span (omega arith) (omega arith) c.checked_sub.ensures c.in-Some.is in
+    (omega arith, simp length-take (grind (arith, or_parts, ltb-false)), gaps-fit timestamps (no-fall timestamps 1 (sym c.in_ok-first_fall.ensures)) (inside (span timestamps) sp.0))
 
 pub returns-in_default-checked_add : goal.returns-in_default-checked_add
 returns-in_default-checked_add c =
-    let ts = c.args.ts.now in
-    let sp = span-held ts c.checked_sub.result c.in-Some.span (omega arith) (omega arith) c.checked_sub.ensures c.in-Some.is in
-    let s-in : FitsSigned w64 c.in-Some.span = rw sp.1 (record { sfits = inside (span ts) sp.0 }) in
+    let timestamps = c.args.timestamps.now in
+    let sp = span-held timestamps c.checked_sub.result c.in-Some.span (omega arith) (omega arith) c.checked_sub.ensures c.in-Some.is in
+    let s-in : FitsSigned w64 c.in-Some.span = rw sp.1 (record { sfits = inside (span timestamps) sp.0 }) in
     let m = c.middle_interval-nominal in
     let m-in : FitsSigned w64 m.result = record { sfits = m.type_inv } in
     ap Err c.at-in_default-checked_add.ensures
-    ∙ late ts c.args.room (length c.args.work.now) (omega arith) (omega arith) (sym c.in_ok-first_fall.ensures) sp.0 c.if-room-n.false
-    (moves ts m.result m.ensures c.if-nominal-eq0.false)
-    (end-lost ts c.in-Some.span m.result s-in m-in sp.1 m.ensures c.checked_add.result c.checked_add.ensures c.in_default-checked_add.is)
+    ∙ late timestamps c.args.room (length c.args.work.now) (omega arith) (omega arith) (sym c.in_ok-first_fall.ensures) sp.0 c.if-room-n.false
+    (moves timestamps m.result m.ensures c.if-nominal-eq0.false)
+    (end-lost timestamps c.in-Some.span m.result s-in m-in sp.1 m.ensures c.checked_add.result c.checked_add.ensures c.in_default-checked_add.is)
 
 pub returns : goal.returns
 unfolding times_of
 returns c =
-    let ts = c.args.ts.now in
-    let sp = span-held ts c.checked_sub.result c.in-Some.span (omega arith) (omega arith) c.checked_sub.ensures c.in-Some.is in
-    let s-in : FitsSigned w64 c.in-Some.span = rw sp.1 (record { sfits = inside (span ts) sp.0 }) in
+    let timestamps = c.args.timestamps.now in
+    let sp = span-held timestamps c.checked_sub.result c.in-Some.span (omega arith) (omega arith) c.checked_sub.ensures c.in-Some.is in
+    let s-in : FitsSigned w64 c.in-Some.span = rw sp.1 (record { sfits = inside (span timestamps) sp.0 }) in
     let m = c.middle_interval-nominal in
     let m-in : FitsSigned w64 m.result = record { sfits = m.type_inv } in
-    let e = end-held ts c.in-Some.span m.result s-in m-in sp.1 m.ensures c.checked_add.result c.checked_add.ensures c.in-Some-checked_add.end c.in-Some-checked_add.is in
-    (λ i. Ok (record { frames = length ts; scale = 1000000000; nominal = (back m.result m.type_inv ∙ m.ensures) i; end = (back c.in-Some-checked_add.end (rw e.1 (inside (end ts) e.0)) ∙ e.1) i }))
-    ∙ timed ts c.args.room (length c.args.work.now) (omega arith) (omega arith) (sym c.in_ok-first_fall.ensures) sp.0 c.if-room-n.false
-    (moves ts m.result m.ensures c.if-nominal-eq0.false) e.0
+    let e = end-held timestamps c.in-Some.span m.result s-in m-in sp.1 m.ensures c.checked_add.result c.checked_add.ensures c.in-Some-checked_add.end c.in-Some-checked_add.is in
+    (λ i. Ok (record { frames = length timestamps; scale = 1000000000; nominal = (back m.result m.type_inv ∙ m.ensures) i; end = (back c.in-Some-checked_add.end (rw e.1 (inside (end timestamps) e.0)) ∙ e.1) i }))
+    ∙ timed timestamps c.args.room (length c.args.work.now) (omega arith) (omega arith) (sym c.in_ok-first_fall.ensures) sp.0 c.if-room-n.false
+    (moves timestamps m.result m.ensures c.if-nominal-eq0.false) e.0

@@ -4,4 +4,4 @@ use Rattle.mcraw.proofs.write_intervals.Given as goal
 
 -- the first i - 1 intervals are written
 abbrev pub invariant-loop-i : goal.invariant-loop-i
-invariant-loop-i l = l.out ≡ take (l.i - 1) (gaps l.ts) ++ drop (l.i - 1) l.fn.out
+invariant-loop-i l = l.out ≡ take (l.i - 1) (gaps l.timestamps) ++ drop (l.i - 1) l.fn.out

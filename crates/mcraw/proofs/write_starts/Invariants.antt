@@ -4,4 +4,4 @@ use Rattle.mcraw.proofs.write_starts.Given as goal
 
 -- the first i starts are written
 abbrev pub invariant-loop-i : goal.invariant-loop-i
-invariant-loop-i l = l.starts ≡ take l.i (starts_of l.ts) ++ drop l.i l.fn.starts
+invariant-loop-i l = l.starts ≡ take l.i (starts_of l.timestamps) ++ drop l.i l.fn.starts

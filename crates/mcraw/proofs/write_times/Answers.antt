@@ -8,6 +8,6 @@ use Rattle.mcraw.proofs.write_times.Goals as goal
 pub write_starts-requires : goal.write_starts-requires
 unfolding fall_of
 write_starts-requires c =
-    let ts = c.args.ts.now in
-    let a = accepted ts (length c.args.starts.now) (length c.args.work.now) c.in_ok-times.times (sym c.in_ok-times.ensures) in
-    (a.room, starts_fit ts (no-fall ts 1 a.rise) a.near)
+    let timestamps = c.args.timestamps.now in
+    let a = accepted timestamps (length c.args.starts.now) (length c.args.work.now) c.in_ok-times.times (sym c.in_ok-times.ensures) in
+    (a.room, starts_fit timestamps (no-fall timestamps 1 a.rise) a.near)

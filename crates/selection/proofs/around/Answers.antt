@@ -7,41 +7,41 @@ use Rattle.selection.proofs.around.Goals as goal
 pub overflow_sub-result : goal.overflow_sub-result
 overflow_sub-result c =
     let xs = c.args.xs.now in
-    let a = c.args.a in
-    let r = c.between-r in
-    let least = c.least-lo in
-    let n-is : r.result.below ≡ count_lt a xs = r.ensures.0.below-is ∙ ap (λ (v : ℤ). count_lt v xs) (r.ensures.1 ∙ back a c.ranges.a.sfits) in
-    let d = previous xs c.args.k a c.ranges.a.sfits least.result least.type_inv least.ensures r.result.below n-is c.if-k-r.true in
-    rw (back a c.ranges.a.sfits) (record { sfits = d.inside })
+    let a = c.args.low in
+    let r = c.between-bounds in
+    let least = c.least-lowest in
+    let n-is : r.result.below ≡ count_lt a xs = r.ensures.0.below_is ∙ ap (λ (v : ℤ). count_lt v xs) (r.ensures.1 ∙ back a c.ranges.low.sfits) in
+    let d = previous xs c.args.k a c.ranges.low.sfits least.result least.type_inv least.ensures r.result.below n-is c.if-k-bounds.true in
+    rw (back a c.ranges.low.sfits) (record { sfits = d.inside })
 
-pub returns-then-k-r : goal.returns-then-k-r
-returns-then-k-r c =
+pub returns-then-k-bounds : goal.returns-then-k-bounds
+returns-then-k-bounds c =
     let xs = c.args.xs.now in
-    let a = c.args.a in
-    let r = c.between-r in
-    let least = c.least-lo in
-    let n-is : r.result.below ≡ count_lt a xs = r.ensures.0.below-is ∙ ap (λ (v : ℤ). count_lt v xs) (r.ensures.1 ∙ back a c.ranges.a.sfits) in
-    let d = previous xs c.args.k a c.ranges.a.sfits least.result least.type_inv least.ensures r.result.below n-is c.if-k-r.true in
-    rw (back a c.ranges.a.sfits, back least.result least.type_inv, back (a -ℤ pos 1) d.inside)
-    (holds-below xs c.args.k a c.ranges.a.sfits least.result least.type_inv least.ensures r.result.below n-is c.if-k-r.true)
+    let a = c.args.low in
+    let r = c.between-bounds in
+    let least = c.least-lowest in
+    let n-is : r.result.below ≡ count_lt a xs = r.ensures.0.below_is ∙ ap (λ (v : ℤ). count_lt v xs) (r.ensures.1 ∙ back a c.ranges.low.sfits) in
+    let d = previous xs c.args.k a c.ranges.low.sfits least.result least.type_inv least.ensures r.result.below n-is c.if-k-bounds.true in
+    rw (back a c.ranges.low.sfits, back least.result least.type_inv, back (a -ℤ pos 1) d.inside)
+    (holds-below xs c.args.k a c.ranges.low.sfits least.result least.type_inv least.ensures r.result.below n-is c.if-k-bounds.true)
 
 pub overflow_add-result : goal.overflow_add-result
 overflow_add-result c =
     let xs = c.args.xs.now in
-    let b = c.args.b in
-    let r = c.between-r in
-    let greatest = c.greatest-hi in
-    let n-is : r.result.upto ≡ count_le b xs = r.ensures.0.upto_is ∙ ap (λ (v : ℤ). count_le v xs) (r.ensures.2 ∙ back b c.ranges.b.sfits) in
-    let s = following xs c.args.k b c.ranges.b.sfits greatest.result greatest.type_inv greatest.ensures c.requires r.result.upto n-is c.if-r-k.true in
-    rw (back b c.ranges.b.sfits) (record { sfits = s.inside })
+    let b = c.args.high in
+    let r = c.between-bounds in
+    let greatest = c.greatest-highest in
+    let n-is : r.result.up_to ≡ count_le b xs = r.ensures.0.up_to_is ∙ ap (λ (v : ℤ). count_le v xs) (r.ensures.2 ∙ back b c.ranges.high.sfits) in
+    let s = following xs c.args.k b c.ranges.high.sfits greatest.result greatest.type_inv greatest.ensures c.requires r.result.up_to n-is c.if-bounds-k.true in
+    rw (back b c.ranges.high.sfits) (record { sfits = s.inside })
 
-pub returns-then-r-k : goal.returns-then-r-k
-returns-then-r-k c =
+pub returns-then-bounds-k : goal.returns-then-bounds-k
+returns-then-bounds-k c =
     let xs = c.args.xs.now in
-    let b = c.args.b in
-    let r = c.between-r in
-    let greatest = c.greatest-hi in
-    let n-is : r.result.upto ≡ count_le b xs = r.ensures.0.upto_is ∙ ap (λ (v : ℤ). count_le v xs) (r.ensures.2 ∙ back b c.ranges.b.sfits) in
-    let s = following xs c.args.k b c.ranges.b.sfits greatest.result greatest.type_inv greatest.ensures c.requires r.result.upto n-is c.if-r-k.true in
-    rw (back b c.ranges.b.sfits, back greatest.result greatest.type_inv, back (b +ℤ pos 1) s.inside)
-    (holds-above xs c.args.k b c.ranges.b.sfits greatest.result greatest.type_inv greatest.ensures c.requires r.result.upto n-is c.if-r-k.true)
+    let b = c.args.high in
+    let r = c.between-bounds in
+    let greatest = c.greatest-highest in
+    let n-is : r.result.up_to ≡ count_le b xs = r.ensures.0.up_to_is ∙ ap (λ (v : ℤ). count_le v xs) (r.ensures.2 ∙ back b c.ranges.high.sfits) in
+    let s = following xs c.args.k b c.ranges.high.sfits greatest.result greatest.type_inv greatest.ensures c.requires r.result.up_to n-is c.if-bounds-k.true in
+    rw (back b c.ranges.high.sfits, back greatest.result greatest.type_inv, back (b +ℤ pos 1) s.inside)
+    (holds-above xs c.args.k b c.ranges.high.sfits greatest.result greatest.type_inv greatest.ensures c.requires r.result.up_to n-is c.if-bounds-k.true)

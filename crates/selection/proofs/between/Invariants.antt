@@ -7,7 +7,7 @@ abbrev pub invariant-loop-i : goal.invariant-loop-i
 invariant-loop-i l = record {
   inside : l.i ≤ length l.xs;
   below-few : l.below ≤ l.i;
-  upto_few : l.upto ≤ l.i;
-  below-is : l.below ≡ count_by (λ x. lt_z x l.a) (take l.i l.xs);
-  upto_is : l.upto ≡ count_by (λ x. le_z x l.b) (take l.i l.xs);
+  up_to_few : l.up_to ≤ l.i;
+  below_is : l.below ≡ count_by (λ x. lt_z x l.low) (take l.i l.xs);
+  up_to_is : l.up_to ≡ count_by (λ x. le_z x l.high) (take l.i l.xs);
 }

@@ -3,4 +3,4 @@ use Rattle.std.specs.Int.Signed.{le_z}
 use Rattle.selection.proofs.greatest.Given as goal
 
 abbrev pub invariant-loop-i : goal.invariant-loop-i
-invariant-loop-i l = (l.i ≤ length l.xs) × ((j : ℕ) → j < l.i → le_z (get_or l.xs j (pos 0)) l.hi ≡ true)
+invariant-loop-i l = (l.i ≤ length l.xs) × ((j : ℕ) → j < l.i → le_z (get_or l.xs j (pos 0)) l.highest ≡ true)

@@ -4,7 +4,7 @@ use Rattle.std.proofs.lemmas.List.Filters.{FiltersInPlace-more_set, FiltersInPla
 use Rattle.signed.proofs.Bits.{reads, back}
 use Rattle.selection.specs.Keeping.{from_to}
 use Rattle.selection.proofs.Keeping.{spare}
-use Rattle.selection.proofs.keep.Goals.{then-lo-x, else-lo-x}
+use Rattle.selection.proofs.keep.Goals.{then-low-x, else-low-x}
 use Rattle.selection.proofs.keep.Goals as goal
 
 pub loop-i-preserved : goal.loop-i-preserved
@@ -13,13 +13,13 @@ loop-i-preserved c =
     let x = get_or l.xs l.i (pos 0) in
     let e = back x (omega arith) in
     let is = get_or_default l.xs l.i (pos 0) x (omega arith) in
-    elim c.if-lo-x.branch [
-      | then-lo-x w ↦ rw (e, w.j-is) (FiltersInPlace-more_set l.invariant (omega arith) (rw e at w.if-lo-x.true) is)
-      | else-lo-x w ↦ rw (e, w.j-is) (spare _ c.args.xs.now l.xs l.j (l.i + 1) x (FiltersInPlace-more_no l.invariant (omega arith) (rw e at w.if-lo-x.false) is) (omega arith))
+    elim c.if-low-x.branch [
+      | then-low-x w ↦ rw (e, w.kept-is) (FiltersInPlace-more_set l.invariant (omega arith) (rw e at w.if-low-x.true) is)
+      | else-low-x w ↦ rw (e, w.kept-is) (spare _ c.args.xs.now l.xs l.kept (l.i + 1) x (FiltersInPlace-more_no l.invariant (omega arith) (rw e at w.if-low-x.false) is) (omega arith))
     ]
 
 pub returns : goal.returns
 returns c =
     let l = c.loop-i in
-    let kept : take l.j l.xs ≡ from_to c.args.lo c.args.hi c.args.xs.now = rw (← reads c.ranges.lo, ← reads c.ranges.hi) (FiltersInPlace-all l.invariant (omega arith)) in
-    (sym (length-take-le l.j l.xs (omega arith)) ∙ ap length kept, kept)
+    let kept : take l.kept l.xs ≡ from_to c.args.low c.args.high c.args.xs.now = rw (← reads c.ranges.low, ← reads c.ranges.high) (FiltersInPlace-all l.invariant (omega arith)) in
+    (sym (length-take-le l.kept l.xs (omega arith)) ∙ ap length kept, kept)

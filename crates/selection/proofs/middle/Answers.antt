@@ -3,7 +3,7 @@ use Rattle.std.specs.Int.Signed.{le_z, lt_z, shr_z}
 use Rattle.signed.specs.Fits.{I64}
 use Rattle.signed.proofs.Bits.{back}
 use Rattle.signed.proofs.Up.{up, up_top, lt_up, gt-up, ge-up, up_le, up_lt, up-half, in-half, Sum, sum, Difference, difference}
-use Rattle.selection.proofs.middle.Goals.{then-lo-lt0+else-hi-ge0, else-lo-lt0}
+use Rattle.selection.proofs.middle.Goals.{then-low-lt0+else-high-ge0, else-low-lt0}
 use Rattle.selection.proofs.middle.Goals as goal
 
 -- the two are on one side of 0: the difference is in range
@@ -30,13 +30,13 @@ module _ (lo hi : ℤ) (l : I64 lo) (h : I64 hi) (lt : lt_z lo hi ≡ true) (sid
 
 pub returns : goal.returns
 returns c =
-    let lo = c.args.lo in
-    let hi = c.args.hi in
-    let l = c.ranges.lo.sfits in
-    let h = c.ranges.hi.sfits in
-    let side : (2 ^ 63 ≤ up lo) ⊎ (up hi < 2 ^ 63) = elim c.if-lo-lt0.branch [
-      | then-lo-lt0+else-hi-ge0 w ↦ inr (gt-up (pos 0) hi h (rw (back hi h) at w.if-hi-ge0.false))
-      | else-lo-lt0 w ↦ inl (ge-up lo (pos 0) (rw (back lo l) at w.if-lo-lt0.false))
+    let lo = c.args.low in
+    let hi = c.args.high in
+    let l = c.ranges.low.sfits in
+    let h = c.ranges.high.sfits in
+    let side : (2 ^ 63 ≤ up lo) ⊎ (up hi < 2 ^ 63) = elim c.if-low-lt0.branch [
+      | then-low-lt0+else-high-ge0 w ↦ inr (gt-up (pos 0) hi h (rw (back hi h) at w.if-high-ge0.false))
+      | else-low-lt0 w ↦ inl (ge-up lo (pos 0) (rw (back lo l) at w.if-low-lt0.false))
     ] in
     let d = (apart lo hi l h c.requires side).inside in
     let m = (moved lo hi l h c.requires side).inside in

@@ -1,9 +1,10 @@
 use Rattle.std.proofs.Common.{length, ◌+◌, ◌-◌, ◌≡◌, drop, ◌≤◌}
-use Rattle.steps.specs.Words.{leading_of}
+use Rattle.std.specs.List.{prefix_len}
+use Rattle.steps.specs.Words.{passing}
 use Rattle.steps.proofs.leading.Given as goal
 
 abbrev pub invariant-loop-i : goal.invariant-loop-i
-invariant-loop-i l = (l.i ≤ length l.l) × (l.i + leading_of l.k (drop l.i l.l) ≡ leading_of l.k l.l)
+invariant-loop-i l = (l.i ≤ length l.text) × (l.i + prefix_len (passing l.kind) (drop l.i l.text) ≡ prefix_len (passing l.kind) l.text)
 
 abbrev pub decreases-loop-i : goal.decreases-loop-i
-decreases-loop-i l = length l.l - l.i
+decreases-loop-i l = length l.text - l.i

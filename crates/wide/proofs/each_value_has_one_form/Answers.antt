@@ -4,6 +4,6 @@ use Rattle.wide.proofs.each_value_has_one_form.Goals as goal
 
 pub returns : goal.returns
 returns c a b f g e =
-    let h : a.hi ≡ b.hi = omega arith in
-    let l : a.lo ≡ b.lo = omega arith in
-    λ i. record { hi = h i; lo = l i }
+    let h : a.high ≡ b.high = omega arith in
+    let l : a.low ≡ b.low = omega arith in
+    λ i. record { high = h i; low = l i }

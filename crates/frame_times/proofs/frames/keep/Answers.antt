@@ -11,7 +11,7 @@ pub loop-duration-preserved-then-in_edit : goal.loop-duration-preserved-then-in_
 loop-duration-preserved-then-in_edit c =
     let l = c.loop-duration in
     let next = taken _ _ _ _ c.next-in-loop-duration.ensures.steps c.unwrap_or.ensures (omega (arith, c.unwrap_or.type_inv)) c.offset_wrap-wrap.ensures c.offset.ensures in
-    rw c.with_frame-k.ensures (kept-turn l.invariant (omega (arith, c.requires.1, l.auto.times)) c.in-Some.ensures.steps (omega arith) next (sym c.in_edit.ensures ∙ c.if-in_edit.true))
+    rw c.with_frame-kept.ensures (kept-turn l.invariant (omega (arith, c.requires.1, l.auto.times)) c.in-Some.ensures.steps (omega arith) next (sym c.in_edit.ensures ∙ c.if-in_edit.true))
 
 pub loop-duration-preserved : goal.loop-duration-preserved
 loop-duration-preserved c =

@@ -8,4 +8,4 @@ use Rattle.frame_times.proofs.frames.keep.Given as goal
 abbrev pub invariant-loop-duration : goal.invariant-loop-duration
 invariant-loop-duration l =
     let offsets = map (offset_of (is_unsigned l.timing.standard l.timing.offsets.payload.now)) (frames_left l.offsets) in
-    Keeping l.timing.edit (frames_kept l.timing) l.times (frames_left l.duration-iterator) offsets l.k l.t
+    Keeping l.timing.edit (frames_kept l.timing) l.times (frames_left l.duration-iterator) offsets l.kept l.passed

@@ -1,7 +1,8 @@
 use Rattle.std.proofs.Common.{ℕ, ◌+◌, ◌≤◌, ◌<◌, true, false}
 use Rattle.rows.proofs.halving.last_that.Given as goal
 
--- number `at` has begun, or is the first; where others follow the ones that are left, one after `at` and up to the first of those has not
+-- number `at` has begun, or is the first; where others follow the ones that are left, one after `at` and up to the
+-- first of those has not
 abbrev pub invariant-loop-left : goal.invariant-loop-left
 invariant-loop-left g l = record {
   some : 0 < l.left;

@@ -8,5 +8,5 @@ use Rattle.table.proofs.SegmentTable.first_refused_source.Given as goal
 abbrev pub invariant-loop-k : goal.invariant-loop-k
 invariant-loop-k g l =
     let t = l.self in
-    (l.k ≤ l.m)
-    × (first_refused (source_refusal t.log t.text) l.k (run (nth_source t.sources) l.k (l.m - l.k)) ≡ first_refused (source_refusal t.log t.text) 0 t.sources)
+    (l.k ≤ l.count)
+    × (first_refused (source_refusal t.log t.text) l.k (run (nth_source t.sources) l.k (l.count - l.k)) ≡ first_refused (source_refusal t.log t.text) 0 t.sources)

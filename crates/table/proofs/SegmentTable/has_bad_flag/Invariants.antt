@@ -6,4 +6,4 @@ use Rattle.rules.specs.Records.{nth}
 use Rattle.table.proofs.SegmentTable.has_bad_flag.Given as goal
 
 abbrev pub invariant-loop-k : goal.invariant-loop-k
-invariant-loop-k g l = (l.k ≤ l.m) × (list_any bad_segment (run (nth l.self.segments) l.k (l.m - l.k)) ≡ list_any bad_segment l.self.segments)
+invariant-loop-k g l = (l.k ≤ l.count) × (list_any bad_segment (run (nth l.self.segments) l.k (l.count - l.k)) ≡ list_any bad_segment l.self.segments)

@@ -8,5 +8,5 @@ use Rattle.table.proofs.SegmentTable.has_bad_source.Given as goal
 abbrev pub invariant-loop-k : goal.invariant-loop-k
 invariant-loop-k g l =
     let t = l.self in
-    (l.k ≤ l.m)
-    × (list_any (bad_source (length t.text)) (run (nth_source t.sources) l.k (l.m - l.k)) ≡ list_any (bad_source (length t.text)) t.sources)
+    (l.k ≤ l.count)
+    × (list_any (bad_source (length t.text)) (run (nth_source t.sources) l.k (l.count - l.k)) ≡ list_any (bad_source (length t.text)) t.sources)

@@ -9,6 +9,6 @@ returns g c = λ e.
     record {
       words = f.words;
       none =
-          front-none _ _ _ _ (rw (c.source_count-m.ensures, c.segment_count-n.ensures) at (called c.over_limit.ensures c.if-over_limit.false))
-          (rw (c.source_count-m.ensures, c.segment_count-n.ensures) at c.if-m-n.false) (sym f.none);
+          front-none _ _ _ _ (rw (c.source_count-sources.ensures, c.segment_count-segments.ensures) at (called c.over_limit.ensures c.if-over_limit.false))
+          (rw (c.source_count-sources.ensures, c.segment_count-segments.ensures) at c.if-sources-segments.false) (sym f.none);
     }

@@ -6,4 +6,4 @@ use Rattle.table.proofs.SegmentTable.is_fine.Goals as goal
 pub returns : goal.returns
 returns g c = λ e.
     let log = sym (ap (λ (t : Table). t.log) c.self.view_is) ∙ c.if-self.false in
-    rw (← c.source-s.ensures) (plain-source _ _ _ c.if-s.false log c.if-s-eq0.false c.if-s-eq0-2.false e)
+    rw (← c.source-source.ensures) (plain-source _ _ _ c.if-source.false log c.if-source-eq0.false c.if-source-eq0-2.false e)

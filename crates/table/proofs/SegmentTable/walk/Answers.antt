@@ -10,14 +10,14 @@ use borrow.Author.Tests.{not-false, not-true}
 
 pub loop-k-init : goal.loop-k-init
 unfolding end_before
-loop-k-init g c = (omega arith, c.no_end-prev.ensures, λ j h. absurd (omega arith))
+loop-k-init g c = (omega arith, c.no_end-previous.ensures, λ j h. absurd (omega arith))
 
 pub returns-then-not-next : goal.returns-then-not-next
 unfolding Passed
 returns-then-not-next g c =
     let l = c.loop-k.invariant in
     let p = rw (c.segment.ensures, l.1) at (c.pass-next.ensures.1 (not-true _ c.if-not-next.true)) in
-    record { inside = rw c.segment_count-m.ensures at c.loop-k-test.true; before = l.2; refused = λ f. p f.0 f.1 }
+    record { inside = rw c.segment_count-count.ensures at c.loop-k-test.true; before = l.2; refused = λ f. p f.0 f.1 }
 
 pub loop-k-preserved : goal.loop-k-preserved
 unfolding end_before
@@ -32,8 +32,8 @@ returns g c =
     let l = c.loop-k.invariant in
     let t = c.args.self.now in
     let k = c.loop-k.k in
-    let h : (j : ℕ) → j < length t.segments → FineAt t.sources t.segments j = λ j b. l.2 j (omega (arith, c.segment_count-m.ensures, c.loop-k-test.false)) in
+    let h : (j : ℕ) → j < length t.segments → FineAt t.sources t.segments j = λ j b. l.2 j (omega (arith, c.segment_count-count.ensures, c.loop-k-test.false)) in
     record {
       flags = flags-fine _ (λ j b. (h j b).0);
-      frames = rw l.1 (walk_end _ _ _ (walk-to t.sources t.segments k (omega (arith, c.segment_count-m.ensures, l.0)) l.2) (omega (arith, c.segment_count-m.ensures, c.loop-k-test.false)) ∙ ap (walked t.sources) (segments-run _ refl));
+      frames = rw l.1 (walk_end _ _ _ (walk-to t.sources t.segments k (omega (arith, c.segment_count-count.ensures, l.0)) l.2) (omega (arith, c.segment_count-count.ensures, c.loop-k-test.false)) ∙ ap (walked t.sources) (segments-run _ refl));
     }

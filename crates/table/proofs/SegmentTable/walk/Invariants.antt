@@ -6,4 +6,4 @@ use Rattle.table.proofs.SegmentTable.walk.Given as goal
 abbrev pub invariant-loop-k : goal.invariant-loop-k
 invariant-loop-k g l =
     let t = l.self in
-    (l.k ≤ l.m) × (l.prev ≡ end_before t.segments l.k) × ((j : ℕ) → j < l.k → FineAt t.sources t.segments j)
+    (l.k ≤ l.count) × (l.previous ≡ end_before t.segments l.k) × ((j : ℕ) → j < l.k → FineAt t.sources t.segments j)

@@ -11,9 +11,9 @@ pub returns-in_err-check : goal.returns-in_err-check
 returns-in_err-check g c =
     let p = err_from_is_err_and c.from_residual.result c.from_residual.ensures.1 in rw (p.1, p.2) (rows-refused _ _ _ (sym c.in_err-check.ensures))
 
-pub returns-then-ou-n : goal.returns-then-ou-n
-returns-then-ou-n g c = rw c.at.ensures (rows-small _ _ _ (sym c.in_ok-check.ensures) c.segment_count-n.ensures c.if-ou-n.true)
+pub returns-then-out_words-n : goal.returns-then-out_words-n
+returns-then-out_words-n g c = rw c.at.ensures (rows-small _ _ _ (sym c.in_ok-check.ensures) c.segment_count-n.ensures c.if-out_words-n.true)
 
 pub returns : goal.returns
-returns g c = rows_written _ _ _ (sym c.in_ok-check.ensures) c.segment_count-n.ensures c.if-ou-n.false
-    (c.write_words.ensures ∙ ap (λ (t : Table). laid (words_of (map row_of t.segments)) c.args.ou.now) c.self.view_is) c.write_shifts.ensures
+returns g c = rows_written _ _ _ (sym c.in_ok-check.ensures) c.segment_count-n.ensures c.if-out_words-n.false
+    (c.write_words.ensures ∙ ap (λ (t : Table). laid (words_of (map row_of t.segments)) c.args.out_words.now) c.self.view_is) c.write_shifts.ensures

@@ -216,7 +216,7 @@ fn plain_side(case: &Case) -> Work<'_> {
     }
 }
 
-/// Whether the plain Rust of a map answers what document 01 says
+/// Whether the plain Rust of a map answers what the rules say
 fn plain_agrees(case: &Case) -> bool {
     let mut out = Vec::new();
     let done = match case {

@@ -1,5 +1,5 @@
-//! A case is a call with its arguments; an answer is what document 01 says of it, or for a list of frames, a bad header and the
-//! standard's offsets document 02, or for cuts the header; an outcome is the answer together with every lent word and slice afterwards.
+//! A case is a call with its arguments; an answer is what the rules (docs/RULES.md) say of it; an outcome is the answer
+//! together with every lent word and slice afterwards.
 
 use std::{ cell::OnceCell, hash::{ DefaultHasher, Hash, Hasher }, rc::Rc };
 use oracle::segment_table::SegmentTable;
@@ -116,7 +116,7 @@ pub struct Map {
     pub shifts: Vec<i64>,
 }
 
-/// One row: document 01's six numbers
+/// One row: the six numbers of RULES 10.1
 #[derive(Clone, Copy, Debug, PartialEq)]
 pub struct Row {
     pub source: u64,
@@ -334,7 +334,7 @@ pub fn lent_words(len: usize) -> Vec<u64> { (0..len as u64).map(|k| 0xb000_0000_
 /// What a slice of signed words holds when it is lent
 pub fn lent_longs(len: usize) -> Vec<i64> { (0..len as i64).map(|k| -0x3000_0000_0000_0001 - k * 5).collect() }
 
-/// The outcome of an answer by document 01's rule: written is the answer alone, and only where accepted; values and
+/// The outcome of an answer by RULES 2.3: written is the answer alone, and only where accepted; values and
 /// outputs stay as lent otherwise; working slices are all zero
 pub fn outcome(case: &Case, answer: &Answer) -> Outcome {
     let call = case.call();

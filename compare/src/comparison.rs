@@ -6,7 +6,7 @@ use crate::{ case::{ Answer, Call, Case, Map, Outcome, Row, outcome }, generate,
 /// How a case differs
 #[derive(Debug)]
 pub enum Difference {
-    /// The reading of document 01 and the Rust
+    /// The reading of the rules and the Rust
     Reading { rust: Said, reading: Answer },
     /// The library and what is expected of it
     Library { expected: Box<Outcome>, library: Box<Outcome> },
@@ -21,7 +21,7 @@ pub enum Difference {
 /// A child's type, and its payload's start and length
 type Child = (i128, i128, i128);
 
-/// Numbers outside the domain of demand 2, the room for an answer aside
+/// Numbers outside the domain of RULES 13.2, the room for an answer aside
 const OUTSIDE: [u64; 6] = [1, 2, 20, 30, 34, 42];
 
 /// Numbers of a table's own refusals, which come before the room
@@ -112,7 +112,7 @@ fn one_by_one(map: &Map, ranges: &[[u64; 2]], counts: &[u64]) -> Answer {
 
 fn rows_of(rows: Vec<Row>) -> Answer { reference::maps::write(rows, &[usize::MAX; 2], 52).unwrap_or_else(Answer::refused) }
 
-/// The library's outcome; without it, that of the reading of document 01
+/// The library's outcome; without it, that of the reading of the rules
 fn answered(case: &Case) -> Outcome {
     match ours::Lent::of(case) {
         Some(mut lent) => { let number = lent.call(case); lent.outcome(case, number) }
@@ -206,7 +206,7 @@ pub fn show(case: &Case) -> bool {
     println!("{}", shown(text::case_line(case)));
     let compared = compare(case);
     match &compared {
-        Err(Difference::Reading { rust, reading }) => println!("  differs: the Rust says      {}\n           document 01 says   {}", shown(format!("{rust:?}")), shown(format!("{reading:?}"))),
+        Err(Difference::Reading { rust, reading }) => println!("  differs: the Rust says      {}\n           the rules say      {}", shown(format!("{rust:?}")), shown(format!("{reading:?}"))),
         Err(Difference::Library { expected, library }) => println!("  differs: expected           {}\n           the library says   {}", shown(format!("{expected:?}")), shown(format!("{library:?}"))),
         Err(Difference::Written) => println!("  differs: the library wrote into what it may only read"),
         Err(Difference::Walk { rust, reached }) => println!("  differs: the Rust's children {}\n           reached are        {}", shown(format!("{rust:?}")), shown(format!("{reached:?}"))),

@@ -1,5 +1,5 @@
-//! The numbers that document 01 works out, those of docs/AUDIT.md and crates/audit/specs/Examples.antt, lists of frames, offsets and
-//! bad headers by requests a, d and g of document 02, and lists of cuts, each with its answer in the form of `text`.
+//! Numbers that docs/RULES.md, docs/AUDIT.md and crates/audit/specs/Examples.antt work out, lists of frames, offsets by the
+//! standard, broken headers and lists of cuts, each with its answer in the form of `text`.
 
 use std::rc::Rc;
 use crate::{ case::{ Case, Lent, Map, Table }, comparison, generate::{ moovs::{ self, Moov }, offsets::Offsets, tables, videos }, reference::boxes::code, text };
@@ -221,7 +221,7 @@ fn lasting(durations: &[u32]) -> Case {
 }
 
 /// M2 with one header torn: of each box in turn, and of an mdhd that stands after the hdlr; without an mvhd, and without an stts;
-/// with the mvhd a byte short; cut after the mvhd, and 7, 8 and more bytes later; with a bad header after the track, and the same
+/// with the mvhd a byte short; cut after the mvhd, and 7, 8 and more bytes later; with a broken header after the track, and the same
 /// of a sound track
 fn torn() -> Vec<Worked> {
     let m2 = moovs::in_the_document(true);
@@ -264,7 +264,7 @@ fn torn() -> Vec<Worked> {
 /// A header that says 7 bytes, one byte less than it has
 const BAD: &[u8] = b"\0\0\0\x07moov";
 
-/// How walks stop: at a bad header, at the first and after a box; at 7 bytes; at a type that isn't text, where it is to be; in a
+/// How walks stop: at a broken header, at the first and after a box; at 7 bytes; at a type that isn't text, where it is to be; in a
 /// range, whose offsets are those of the whole
 fn stopped() -> Vec<Worked> {
     let free: &[u8] = b"\0\0\0\x08free";

@@ -87,9 +87,9 @@ fn plan(words: &[String]) -> Result<Plan, String> {
 
 fn names() -> String { Call::ALL.map(Call::name).join(", ") }
 
-/// Runs the comparison and prints its table; whether nothing differed, the document's own numbers came out, and the Rust was asked enough
+/// Runs the comparison and prints its table; whether nothing differed, the worked numbers came out, and the Rust was asked enough
 fn cases(plan: &Plan) -> bool {
-    if !ours::LINKED { println!("Without the library: the reading of document 01 is compared with the Rust alone.\n"); }
+    if !ours::LINKED { println!("Without the library: the reading of the rules is compared with the Rust alone.\n"); }
     let worked = document::holds();
     let run = comparison::run(plan);
     comparison::print(&run, plan);

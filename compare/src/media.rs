@@ -78,8 +78,8 @@ struct Seen {
     way: Option<Way>,
 }
 
-/// What the Rust, the reading of document 01 and the library say of a file's moov, or of the search for it; none where they differ.
-/// A search in a file of over 16,777,216 bytes is refused; its moov is judged all the same
+/// What the Rust, the reading of the rules and the library say of a file's moov, or of the search for it; none where they
+/// differ. A search in a file of over 16,777,216 bytes is refused; its moov is judged all the same
 fn answered(file: &[u8], standard: bool) -> Option<Seen> {
     let place = agreed(&Case::FindBox { bytes: file.to_vec(), from: 0, to: file.len() as u64, kind: code(b"moov"), text_types: true })?;
     let moov = match place.number {

@@ -1,5 +1,5 @@
-//! Frame maps as one writes them in plain Rust: what the library is timed against. Rows are structs of document 01's six
-//! numbers; they are tested first, as the library does, and results go into a vector that is used again.
+//! Frame maps as one writes them in plain Rust: what the library is timed against. Rows are structs of six
+//! numbers (RULES 10.1); they are tested first, as the library does, and results go into a vector that is used again.
 
 use crate::case::Row;
 

@@ -16,7 +16,7 @@ pub enum Said {
     None,
     /// A sum left its type: a release build wraps there, a debug build panics
     Panicked,
-    /// The input is outside the domain of demand 2, room aside
+    /// The input is outside the domain of RULES 13.2, room aside
     Outside,
     /// It has no such call or mode, or the input can't be put into words for it
     Silent,

@@ -81,7 +81,7 @@ fn put(before: &[Piece], bytes: Vec<u8>, after: &[Piece]) -> Level { [before, &[
 /// The ways in which box `k` of a level is torn
 pub type Ways = fn(&[Piece], usize) -> Vec<Level>;
 
-/// A bad header before it, after it and in its place; half a header before it and after it, where the level ends then; the box
+/// A broken header before it, after it and in its place; half a header before it and after it, where the level ends then; the box
 /// left out, with up to 8 bytes at the end
 pub fn every_way(level: &[Piece], k: usize) -> Vec<Level> {
     let Piece::Boxed { kind, inside, .. } = &level[k] else { return vec![] };
@@ -97,7 +97,7 @@ pub fn every_way(level: &[Piece], k: usize) -> Vec<Level> {
     torn
 }
 
-/// A bad header before it, after it and in its place; the box left out
+/// A broken header before it, after it and in its place; the box left out
 pub fn few_ways(level: &[Piece], k: usize) -> Vec<Level> {
     let Piece::Boxed { kind, inside, .. } = &level[k] else { return vec![] };
     let (before, after) = (&level[..k], &level[k + 1..]);
@@ -105,7 +105,7 @@ pub fn few_ways(level: &[Piece], k: usize) -> Vec<Level> {
     vec![put(before, narrow(7, kind), &level[k..]), put(&level[..=k], wide(u64::MAX, kind), after), put(before, in_place, after), [before, after].concat()]
 }
 
-/// Each byte of its type made one that isn't text, or just is; a box and a bad header of that type before it and after it
+/// Each byte of its type made one that isn't text, or just is; a box and a broken header of that type before it and after it
 pub fn by_type(level: &[Piece], k: usize) -> Vec<Level> {
     let Piece::Boxed { form, kind, inside } = &level[k] else { return vec![] };
     let mut torn = Vec::new();

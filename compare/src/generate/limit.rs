@@ -81,7 +81,8 @@ fn files(len: usize) -> [Vec<u8>; 5] {
     ]
 }
 
-/// Document 01's moovs, `len` bytes long, in one mode or the other: with room and without; of as many frames as bytes, and one more
+/// M1 and M2 of RULES 8.10, `len` bytes long, in one mode or the other: with room and without; of as many frames as bytes, and
+/// one more
 fn frame_times(len: usize, emit: Emit) {
     let m2 = moovs::in_the_document(true);
     let short = m2.in_order(&boxed(Form::Short, b"free", &[])).len();

@@ -110,7 +110,7 @@ fn join(r: &mut Random, first: &Map) -> Case {
     Case::Join { first: first.clone(), second, room }
 }
 
-/// The rows of table T of document 01
+/// The rows of table T (RULES 4.7)
 pub(super) fn t() -> Map { Map { words: vec![0, 10, 30, 0, 0, 1, 5, 20, 30, 0], shifts: vec![0, 0] } }
 
 /// Every cut and every frame of T; rows at the limit; all small maps

@@ -302,15 +302,15 @@ pub fn cases(r: &mut Random, emit: Emit) {
     }
 }
 
-/// M1 of document 01, or M2 where it has an edit
+/// M1 of RULES 8.10, or M2 where it has an edit
 pub fn in_the_document(edited: bool) -> Moov {
     let head = Head { version: 0, scale: 100 };
     let elst = edited.then(|| Edits { version: 0, list: vec![(0, 10, 0x10000)] });
     Moov { movie: head.clone(), media: head, handler: *b"vide", stts: vec![(3, 10)], ctts: Some(Offsets { version: 0, list: vec![(1, 10), (1, 30), (1, 0)] }), elst }
 }
 
-/// The time-lapse of request d of document 02: three frames of half a second, each shown 2.4 seconds after it is decoded; it may have
-/// an edit, which starts at the first
+/// A time-lapse of three frames of half a second, each shown 2.4 seconds after it is decoded, so that its offsets pass 2^31; it
+/// may have an edit, which starts at the first
 pub fn time_lapse(edited: bool) -> Moov {
     let head = Head { version: 0, scale: 1_000_000_000 };
     let elst = edited.then(|| Edits { version: 1, list: vec![(0, 2_400_000_000, 0x10000)] });

@@ -12,7 +12,7 @@ pub struct Offsets {
 }
 
 const TOP: u32 = 1 << 31;
-/// Below the top bit, at it, the time-lapse's of request d of document 02, and the greatest
+/// Below the top bit, at it, the time-lapse's, and the greatest
 const VALUES: [u32; 6] = [0, 30, TOP - 1, TOP, 2_400_000_000, u32::MAX];
 /// For three frames: an entry for each, for all, of no frames, past them, for fewer and for none
 const COUNTS: [[u32; 3]; 9] = [[1, 1, 1], [0, 1, 2], [1, 0, 2], [1, 2, 0], [3, 1, 1], [2, 5, 0], [0, 0, u32::MAX], [1, 1, 0], [0, 0, 0]];

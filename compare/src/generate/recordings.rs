@@ -72,7 +72,7 @@ pub fn judged(r: &mut Random, emit: Emit) {
     emit(Case::CheckMcraw { table: Lent::new(table), timestamps, room });
 }
 
-/// Every recording of up to five timestamps of six values; document 01's in every room
+/// Every recording of up to five timestamps of six values; that of RULES 9.3 in every room
 pub fn fixed(emit: Emit) {
     const VALUES: [i64; 6] = [i64::MIN, -1, 0, 1, 10, i64::MAX];
     for n in 0..=5u32 {

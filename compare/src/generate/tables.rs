@@ -280,7 +280,7 @@ pub fn too_many_sources(call: Call, emit: Emit) {
     }
 }
 
-/// Every pair of refusals, many times; the limits; every question to table T of document 01, or the lists of frames
+/// Every pair of refusals, many times; the limits; every question to table T (RULES 3.6), or the lists of frames
 pub fn fixed(call: Call, emit: Emit) {
     let mut r = Random::new(1);
     for (first, second) in (1..=17).flat_map(|a| (0..=17).map(move |b| (a, b))) {
@@ -306,7 +306,7 @@ fn once(call: Call, r: &mut Random, t: Table, emit: Emit) {
     }
 }
 
-/// Table T of document 01
+/// Table T of RULES 3.6
 pub fn t() -> Table {
     let source = |frames| [frames, 25, 1, 0, 0, 0, 0, 0, 0, 0];
     Table {

@@ -104,7 +104,7 @@ pub fn one_segment(frames: u64, start: i64, duration: i64) -> Table {
     table
 }
 
-/// 30 frames at 30000/1001, with the ends of document 01 and around them
+/// 30 frames at 30000/1001, with the ends of RULES 6.5 and around them
 pub fn near_in_the_document(emit: Emit) {
     for end in (967_600..967_700).chain(1_034_300..1_034_400) {
         emit(Case::ValidateConstant { table: Lent::new(one_segment(30, 0, end)), frames: 30, num: 30000, den: 1001 });

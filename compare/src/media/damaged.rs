@@ -95,7 +95,7 @@ fn copies(file: &[u8], header: &Header) -> Vec<Damaged> {
     cuts.into_iter().map(cut).chain([u64::MAX, 7].map(overwritten)).collect()
 }
 
-/// Whether what is left of a level begins with a bad header: 8 bytes that aren't whole, or of a size that doesn't fit, or at the top
+/// Whether what is left of a level begins with a broken header: 8 bytes that aren't whole, or of a size that doesn't fit, or at the top
 /// level of a type that isn't text
 fn is_bad(left: &[u8], top: bool) -> bool {
     let fits = match number(left, 0, 4) {
@@ -119,7 +119,7 @@ const ANYWHERE: &str = "anywhere in a file that is";
 pub struct Damages(Vec<(&'static str, String, Row)>);
 
 impl Damages {
-    /// Damages a file at each header; whether all agree on every copy, and each index of 36 is that of a bad header. Of a file that
+    /// Damages a file at each header; whether all agree on every copy, and each index of 36 is that of a broken header. Of a file that
     /// is too large to search, the moov alone is damaged
     pub fn take(&mut self, name: &str, mut file: Vec<u8>) -> bool {
         if file.len() > MOST_BYTES {
@@ -141,7 +141,7 @@ impl Damages {
         agreed
     }
 
-    /// Counts a copy, which is damaged at an offset; none where 36 names no bad header
+    /// Counts a copy, which is damaged at an offset; none where 36 names no broken header
     fn count(&mut self, copy: &Damaged, seen: &Seen, whole: &Answer, damaged: usize, headers: &[Header]) -> Option<()> {
         let named = if seen.answer.number == 36 { Some(named(copy, seen, damaged, headers)?) } else { None };
         let row = self.row(copy);

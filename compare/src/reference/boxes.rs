@@ -49,7 +49,7 @@ pub fn box_size(data: &[u8], remaining: u64) -> Result<(u64, u64), Refusal> {
     sized(data, remaining).ok_or((31, 0))
 }
 
-/// The box at the start of `bytes[at..to]`; a bad header is one that isn't whole or whose size doesn't fit
+/// The box at the start of `bytes[at..to]`; a broken header is one that isn't whole or whose size doesn't fit
 fn box_at(bytes: &[u8], at: usize, to: usize) -> Result<Box, Stop> {
     let rest = &bytes[at..to];
     if rest.len() < 8 { return Err(Stop::CleanEnd); }
@@ -72,7 +72,7 @@ fn walked(bytes: &[u8], from: usize, to: usize) -> (Vec<Box>, Stop) {
 /// The boxes of `bytes[from..to]` in order, up to the first that isn't whole
 pub fn walk(bytes: &[u8], from: usize, to: usize) -> Vec<Box> { walked(bytes, from, to).0 }
 
-/// The first box of a type in the range; with `text_types` a type with a byte outside 20..7E hex makes a bad header too
+/// The first box of a type in the range; with `text_types` a type with a byte outside 20..7E hex makes a broken header too
 fn first(bytes: &[u8], from: usize, to: usize, kind: u32, text_types: bool) -> Result<Box, Stop> {
     let (boxes, stop) = walked(bytes, from, to);
     let mut header = from;

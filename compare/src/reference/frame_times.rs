@@ -122,9 +122,8 @@ fn durations(stts: &[u8], most: usize) -> Option<Vec<i64>> {
     Some(durations)
 }
 
-/// ctts: 32-bit offsets, signed; but by the standard (ISO/IEC 14496-12, 8.6.1.3) unsigned in version 0, and signed in version 1, as
-/// request d of document 02 has it in every other. Entries past the frames are read and ignored, missing frames get 0. Under 4 bytes,
-/// and behind a bad header, it counts as absent
+/// ctts: 32-bit offsets, signed; but by the standard (RULES 8.4) unsigned in version 0, and signed in every other. Entries past
+/// the frames are read and ignored, missing frames get 0. Under 4 bytes, and behind a broken header, it counts as absent
 fn offsets(stbl: Payload, standard: bool, frames: usize) -> Option<Vec<i64>> {
     let mut offsets = Vec::with_capacity(frames);
     if let Some((version, rest)) = stbl.child(b"ctts").ok().and_then(|ctts| full_box(ctts.bytes())) {
@@ -140,7 +139,7 @@ fn offsets(stbl: Payload, standard: bool, frames: usize) -> Option<Vec<i64>> {
     Some(offsets)
 }
 
-/// elst: none or 0 entries, one, or two of which the first is empty. Behind a bad header it counts as absent
+/// elst: none or 0 entries, one, or two of which the first is empty. Behind a broken header it counts as absent
 fn edit(track: &Track) -> Option<Edit> {
     let open = Edit { edited: false, time: 0, end: None, empty_ticks: 0 };
     let Ok(elst) = track.trak.child(b"edts").and_then(|edts| edts.child(b"elst")) else { return Some(open) };

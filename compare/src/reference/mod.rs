@@ -1,6 +1,5 @@
-//! A plain reading of document 01, and of requests a, d and g of document 02, call by call, for every input. It is written from the
-//! documents' words alone, so that where it and the unchanged Rust agree, they say what the Rust does. Of `cuts`, which no document
-//! lists, it is a reading of the header.
+//! A plain reading of the rules (docs/RULES.md), call by call, for every input. It follows their words alone, so that where it
+//! and the unchanged Rust agree, they say what the Rust does.
 
 pub mod boxes;
 pub mod frame_times;
@@ -21,7 +20,7 @@ pub const GREATEST_SCALE: u64 = 4_294_967_295;
 /// A refusal: its number and index
 pub type Refusal = (u64, u64);
 
-/// What document 01 says of a case
+/// What the rules say of a case
 pub fn answer(case: &Case) -> Answer {
     answered(case).unwrap_or_else(Answer::refused)
 }

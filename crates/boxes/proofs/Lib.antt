@@ -1,5 +1,6 @@
 pub mod Sizes
 pub mod Walks
+pub mod Texts
 pub mod Searches
 pub mod Within
 pub mod Parts

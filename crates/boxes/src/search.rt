@@ -1,6 +1,6 @@
 // The walk over the boxes of some bytes.
 ghost use Rattle.std.specs.Prelude.{◌≡◌, length};
-ghost use Rattle.boxes.specs.Boxes.{boxes_of, searched, first_of, text_byte, is_text};
+ghost use Rattle.boxes.specs.Boxes.{boxes_of, searched, first_of, is_text};
 ghost use Rattle.boxes.specs.Walks.{stop_at, WalkStays};
 
 use crate::size::header_at;
@@ -16,20 +16,14 @@ pub(crate) fn stopped(header: Header, at: usize) -> Walk
     }
 }
 
-// Whether a byte is text, 20 to 7E hex.
-fn text_byte(byte: u32) -> bool
-    ensures { result ≡ text_byte byte }
-{
-    (0x20 <= byte) & (byte <= 0x7e)
-}
-
-// Whether the four bytes of a type are text.
-#[tactic(auto, unfolding(crate::specs::Boxes::is_text))]
+// Whether the four bytes of a type are text, all at once. Bytes of text don't borrow or carry, and
+// leave no top bit; so the last byte that isn't text leaves one, in the difference where it is
+// 00..1F or A0..FF hex, in the sum where it is 7F..9F.
+#[tactic(auto, using(crate::proofs::Texts::text_is))]
 fn is_text(kind: u32) -> bool
     ensures { result ≡ is_text kind }
 {
-    text_byte(kind / 16777216)
-        & (text_byte(kind / 65536 % 256) & (text_byte(kind / 256 % 256) & text_byte(kind % 256)))
+    (kind.wrapping_sub(0x20202020) | kind.wrapping_add(0x01010101)) & 0x80808080 == 0
 }
 
 // The first box of a type; with text types a type that isn't text ends the walk as a broken header

@@ -1,5 +1,5 @@
-//! Proves the library and builds its archive for the machine at hand, from this repository. `SEGMENT_TABLE_ARCHIVE`
-//! names an archive that was built before, for a machine without the Rattle kit.
+//! Proves the library and builds its archive for Cargo's target, from this repository. `SEGMENT_TABLE_ARCHIVE` names an
+//! archive that was built before, for a machine without the Rattle kit.
 use std::path::{Path, PathBuf};
 use std::process::Command;
 use std::{env, fs};
@@ -33,8 +33,10 @@ fn build(archive: &Path) {
             }
         }
     }
-    let said = Command::new(root.join("tools/native-staticlib")).arg("segment_table").arg(archive).current_dir(&root).status();
-    match said {
+    let [arch, os] = ["ARCH", "OS"].map(|part| env::var(format!("CARGO_CFG_TARGET_{part}")).unwrap());
+    let mut make = Command::new(root.join("tools/native-staticlib"));
+    let made = make.arg("segment_table").arg(archive).args(["--target", &format!("{arch}-{os}-gnu")]).current_dir(&root).status();
+    match made {
         Ok(status) if status.success() => {}
         other => panic!("tools/native-staticlib segment_table: {other:?}; it needs the Rattle kit's bin/ on the PATH"),
     }

@@ -15,14 +15,15 @@
 //
 // Overlap. What a call may write overlaps nothing else that it is lent. No proof reaches a call
 // that breaks this: memory may be corrupted. With one array as both working slices
-// st_video_frame_times_of_moov ends in a segmentation fault; with its timestamps as the starts
-// st_mcraw_times answers wrong starts.
+// st_video_frame_times_of_moov answers wrong starts, or ends in a segmentation fault where 17
+// frames or more are in no order; with its timestamps as the starts st_mcraw_times answers wrong
+// starts.
 //
-// Stack, as bindings/c/stack measures it on the machine at hand: each call takes less than 4 KiB.
-// Copies and cleared slices are made by the C library's memmove and memset. A program whose loader
-// binds such a name at its first call, which is what many linkers make, takes some 3 KiB more for
-// that, at its first st_join, say; how much, the loader and the processor decide. Where a task has
-// less, link with `-z now`, which binds names at the start, or statically.
+// Stack, as bindings/c/stack measures it on x86-64, and on Arm in an emulator: each call takes less
+// than 4 KiB. Copies and cleared slices are made by the C library's memmove and memset. A program
+// whose loader binds such a name at its first call, which is what many linkers make, takes some
+// 3 KiB more for that, at its first st_join, say; how much, the loader and the processor decide.
+// Where a task has less, link with `-z now`, which binds names at the start, or statically.
 //
 // A table: `sources`, ten words each: frames; fps numerator, denominator; creation time present (0,
 // 1), its offset and length in `text`; clock (0 none, 1 no modulus, 2 modulus), its rate's

@@ -8,10 +8,11 @@
  * slices hold 0 after every answer. Memory that is lent to be written may be unset before the call.
  *
  * Lending. A slice is a pointer and a length in elements; its pointer may be null only with length
- * 0. A word is a pointer to one number, and is never null. Pointers to numbers are aligned as C
- * aligns them; bytes may lie anywhere. A bool is 0 or 1. size_t has 64 bits. No call keeps a
- * pointer or a state, or allocates memory: calls may run in several threads at once, while none
- * writes what another is lent.
+ * 0. A slice lies in memory, where it has at most 2^63 - 1 bytes: of a call that names more nothing
+ * is proved, and it may read past what is lent. A word is a pointer to one number, and is never
+ * null. Pointers to numbers are aligned as C aligns them; bytes may lie anywhere. A bool is 0 or 1.
+ * size_t has 64 bits. No call keeps a pointer or a state, or allocates memory: calls may run in
+ * several threads at once, while none writes what another is lent.
  *
  * Overlap. What a call may write overlaps nothing else that it is lent. No proof reaches a call
  * that breaks this: memory may be corrupted. With one array as both working slices
@@ -92,8 +93,8 @@ enum st_reason {
     ST_PAST_SOURCE = 12,
     /* segment: any of the six times negative */
     ST_NEGATIVE_TIME = 13,
-    /* segment: source start plus duration, or the capture pair, passes 2^63 - 1; tested after 16,
-     * out start plus duration or its capture pair does */
+    /* segment: a start plus its duration passes 2^63 - 1; that is source start plus duration or the
+     * capture pair, or, tested after 16, out start plus duration or its capture pair */
     ST_TOO_LATE = 14,
     /* segment: out first frame isn't the end before (0 for the first) */
     ST_FRAME_GAP = 15,
@@ -111,16 +112,17 @@ enum st_reason {
     ST_NO_FRAME_TIME = 23,
     /* a segment's frame time differs from out start */
     ST_OTHER_FRAME_TIME = 24,
-    /* the end isn't near: |2 end_us scale - 2 end 1,000,000| is over 2 nominal 1,000,000 + scale,
-     * where end_us is the last segment's out start plus duration; the nominal of a constant video
-     * is its denominator, and its scale the numerator */
+    /* the table's end isn't near the video's; that is |2 end_us scale - 2 end 1,000,000| over 2
+     * nominal 1,000,000 + scale, where end_us is the last segment's out start plus duration; the
+     * nominal of a constant video is its denominator, and its scale the numerator */
     ST_END_NOT_NEAR = 25,
     /* over 16,777,216 bytes or timestamps */
     ST_TOO_LONG = 30,
-    /* missing: the boxes end (fewer than 8 bytes are left) without the one that is looked for, or
-     * no frame times can be had; of st_box_size, no size is whole and fits */
+    /* missing: the boxes end without the one that is looked for, no size is whole and fits, or no
+     * frame times can be had; boxes end where fewer than 8 bytes are left; the size is that of
+     * st_box_size */
     ST_MISSING = 31,
-    /* lent room too small (of st_cut, st_cuts, st_join and st_merge that is 52) */
+    /* lent room too small; of st_cut, st_cuts, st_join and st_merge that is 52 */
     ST_NO_ROOM = 32,
     /* a start, span or end outside 64 bits */
     ST_OUTSIDE = 33,
@@ -128,9 +130,9 @@ enum st_reason {
     ST_FALLING = 34,
     /* recording whose frame times can't be had: no frames, or a nominal interval of 0 */
     ST_NO_RECORDING_TIMES = 35,
-    /* broken: before what is looked for stands a broken box header, at the index: its size isn't
-     * whole or doesn't fit, or, of st_find_box with text_types, its type has a byte outside
-     * 20..7E hex */
+    /* broken: before what is looked for stands a broken box header, at the index; its size isn't
+     * whole or doesn't fit, or, of st_find_box with text_types, its type has a byte outside 20..7E
+     * hex */
     ST_BROKEN = 36,
     /* no MTRM box: no moov, no udta in it, or none in that */
     ST_NO_TABLE = 40,
@@ -138,17 +140,17 @@ enum st_reason {
     ST_SEVERAL_TABLES = 41,
     /* a search range outside the bytes, or starting past its end; an offset past the bytes */
     ST_BAD_SEARCH = 42,
-    /* cut range: a >= b, or b past the map; of st_cuts also an odd number of words */
+    /* cut range: a >= b, or b past the map; of many cuts also an odd number of words */
     ST_BAD_RANGE = 50,
     /* map rows malformed, slice lengths that disagree, or no rows */
     ST_BAD_ROWS = 51,
-    /* over 1,024 rows in or out (all cuts of one call together may have more), or lent room
-     * too small */
+    /* over 1,024 rows in or out (all cuts of one call together may have more), or lent room too
+     * small */
     ST_ROWS_DONT_FIT = 52,
     /* joined frames pass 2^64 - 1 */
     ST_JOIN_WRAPS = 53,
     /* frame past the map */
-    ST_PAST_MAP = 54,
+    ST_PAST_MAP = 54
 };
 
 /* ---- Times: the UTC rule, and ticks in microseconds. */

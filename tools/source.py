@@ -1,4 +1,6 @@
-"""What the scripts here read of a Rattle file: the names that its `use` lines bring in, and where each is declared. Fails where it can't read one."""
+"""What the scripts here share. Of a Rattle file: the names that its `use` lines bring in, and where each is declared; it fails where it can't read one. Of
+the words that a script is given: its parser."""
+import argparse
 import os
 import re
 import sys
@@ -74,3 +76,15 @@ def declared(crate, module, *path):
     there = module_of(crate, path[:-1])
     # what a module brings in it can show as its own
     return declared(*there, path[-1]) if is_there(*there) else (*there, path[-1])
+
+
+def parser(doc):
+    """What reads a script's words: `--help` and `-h` answer its own text, and a word that it doesn't know is refused on standard error, with status 2."""
+    return argparse.ArgumentParser(description=doc, formatter_class=argparse.RawDescriptionHelpFormatter, allow_abbrev=False)
+
+
+def checks(doc):
+    """Whether a script that takes `--check`, and no other word, was given it."""
+    words = parser(doc)
+    words.add_argument("--check", action="store_true", help="write nothing, and fail where something isn't as it would be written")
+    return words.parse_args().check

@@ -227,14 +227,15 @@ pub enum Reason {
     PastSource = 12,
     /// Segment: any of the six times negative.
     NegativeTime = 13,
-    /// Segment: source start plus duration, or the capture pair, passes 2^63 - 1; tested after 16,
-    /// out start plus duration or its capture pair does.
+    /// Segment: a start plus its duration passes 2^63 - 1; that is source start plus duration or the
+    /// capture pair, or, tested after 16, out start plus duration or its capture pair.
     TooLate = 14,
     /// Segment: out first frame isn't the end before (0 for the first).
     FrameGap = 15,
     /// Segment: out start or out capture start isn't the end before; the first is free.
     TimeGap = 16,
-    /// Segment: shift without clock, clock without shift, or a modulus with shift outside 0..modulus.
+    /// Segment: shift without clock, clock without shift, or a modulus with shift outside
+    /// 0..modulus.
     BadShift = 17,
     /// A rate number or timescale over 4,294,967,295, or over 16,777,216 starts.
     TooLarge = 20,
@@ -246,16 +247,17 @@ pub enum Reason {
     NoFrameTime = 23,
     /// A segment's frame time differs from out start.
     OtherFrameTime = 24,
-    /// The end isn't near: |2 end_us scale - 2 end 1,000,000| is over 2 nominal 1,000,000 + scale,
-    /// where end_us is the last segment's out start plus duration; the nominal of a constant video
-    /// is its denominator, and its scale the numerator.
+    /// The table's end isn't near the video's; that is |2 end_us scale - 2 end 1,000,000| over 2
+    /// nominal 1,000,000 + scale, where end_us is the last segment's out start plus duration; the
+    /// nominal of a constant video is its denominator, and its scale the numerator.
     EndNotNear = 25,
     /// Over 16,777,216 bytes or timestamps.
     TooLong = 30,
-    /// Missing: the boxes end (fewer than 8 bytes are left) without the one that is looked for, or
-    /// no frame times can be had; of `box_size`, no size is whole and fits.
+    /// Missing: the boxes end without the one that is looked for, no size is whole and fits, or no
+    /// frame times can be had; boxes end where fewer than 8 bytes are left; the size is that of
+    /// `box_size`.
     Missing = 31,
-    /// Lent room too small (of `cut`, `cuts`, `join` and `merge` that is 52).
+    /// Lent room too small; of `cut`, `cuts`, `join` and `merge` that is 52.
     NoRoom = 32,
     /// A start, span or end outside 64 bits.
     Outside = 33,
@@ -263,9 +265,9 @@ pub enum Reason {
     Falling = 34,
     /// Recording whose frame times can't be had: no frames, or a nominal interval of 0.
     NoRecordingTimes = 35,
-    /// Broken: before what is looked for stands a broken box header, at the index: its size isn't
-    /// whole or doesn't fit, or, of `find_box` with text_types, its type has a byte outside
-    /// 20..7E hex.
+    /// Broken: before what is looked for stands a broken box header, at the index; its size isn't
+    /// whole or doesn't fit, or, of `find_box` with text_types, its type has a byte outside 20..7E
+    /// hex.
     Broken = 36,
     /// No MTRM box: no moov, no udta in it, or none in that.
     NoTable = 40,
@@ -273,17 +275,64 @@ pub enum Reason {
     SeveralTables = 41,
     /// A search range outside the bytes, or starting past its end; an offset past the bytes.
     BadSearch = 42,
-    /// Cut range: a >= b, or b past the map; of `cuts` also an odd number of words.
+    /// Cut range: a >= b, or b past the map; of many cuts also an odd number of words.
     BadRange = 50,
     /// Map rows malformed, slice lengths that disagree, or no rows.
     BadRows = 51,
-    /// Over 1,024 rows in or out (all cuts of one call together may have more), or lent room
-    /// too small.
+    /// Over 1,024 rows in or out (all cuts of one call together may have more), or lent room too
+    /// small.
     RowsDontFit = 52,
     /// Joined frames pass 2^64 - 1.
     JoinWraps = 53,
     /// Frame past the map.
     PastMap = 54,
+}
+
+impl Reason {
+    /// What the reason is, for people.
+    #[must_use]
+    pub const fn words(self) -> &'static str {
+        match self {
+            Reason::Malformed => "a slice length isn't a multiple of its record, the two segment slices disagree, a flag or kind is outside its set, or a present creation time's range leaves the text",
+            Reason::OverLimit => "over 64 sources or 512 segments",
+            Reason::NoSources => "no sources",
+            Reason::ZeroInSource => "source: frames, or either fps number, is 0",
+            Reason::BadDate => "source: its creation time fails the UTC rule",
+            Reason::BadClock => "source: its clock rate has a 0, or its modulus is 0",
+            Reason::NoClock => "source: a log is named and it has no clock",
+            Reason::NoSegments => "no segments",
+            Reason::NoSuchSource => "segment: no such source",
+            Reason::NoFrames => "segment: frame count 0",
+            Reason::FramesWrap => "segment: out or source first frame plus count passes 2^64 - 1",
+            Reason::PastSource => "segment: source end past the source's frames",
+            Reason::NegativeTime => "segment: any of the six times negative",
+            Reason::TooLate => "segment: a start plus its duration passes 2^63 - 1",
+            Reason::FrameGap => "segment: out first frame isn't the end before (0 for the first)",
+            Reason::TimeGap => "segment: out start or out capture start isn't the end before; the first is free",
+            Reason::BadShift => "segment: shift without clock, clock without shift, or a modulus with shift outside 0..modulus",
+            Reason::TooLarge => "a rate number or timescale over 4,294,967,295, or over 16,777,216 starts",
+            Reason::NoVideo => "no video given",
+            Reason::OtherFrameCount => "last out end isn't the video's frame count",
+            Reason::NoFrameTime => "a time can't be had: scale 0, or outside 64 bits; of a table, a segment's frame time",
+            Reason::OtherFrameTime => "a segment's frame time differs from out start",
+            Reason::EndNotNear => "the table's end isn't near the video's",
+            Reason::TooLong => "over 16,777,216 bytes or timestamps",
+            Reason::Missing => "missing: the boxes end without the one that is looked for, no size is whole and fits, or no frame times can be had",
+            Reason::NoRoom => "lent room too small",
+            Reason::Outside => "a start, span or end outside 64 bits",
+            Reason::Falling => "timestamps not ascending (equal neighbours are allowed)",
+            Reason::NoRecordingTimes => "recording whose frame times can't be had: no frames, or a nominal interval of 0",
+            Reason::Broken => "broken: before what is looked for stands a broken box header, at the index",
+            Reason::NoTable => "no MTRM box: no moov, no udta in it, or none in that",
+            Reason::SeveralTables => "more than one MTRM box",
+            Reason::BadSearch => "a search range outside the bytes, or starting past its end; an offset past the bytes",
+            Reason::BadRange => "cut range: a >= b, or b past the map; of many cuts also an odd number of words",
+            Reason::BadRows => "map rows malformed, slice lengths that disagree, or no rows",
+            Reason::RowsDontFit => "over 1,024 rows in or out (all cuts of one call together may have more), or lent room too small",
+            Reason::JoinWraps => "joined frames pass 2^64 - 1",
+            Reason::PastMap => "frame past the map",
+        }
+    }
 }
 
 /// Every reason.
@@ -330,42 +379,42 @@ pub const REASONS: &[Reason] = &[
 
 /// Each refusal number with its words.
 pub const REFUSALS: &[(u64, &str)] = &[
-    (1, "a slice length isn't a multiple of its record, the two segment slices disagree, a flag or kind is outside its set, or a present creation time's range leaves the text"),
-    (2, "over 64 sources or 512 segments"),
-    (3, "no sources"),
-    (4, "source: frames, or either fps number, is 0"),
-    (5, "source: its creation time fails the UTC rule"),
-    (6, "source: its clock rate has a 0, or its modulus is 0"),
-    (7, "source: a log is named and it has no clock"),
-    (8, "no segments"),
-    (9, "segment: no such source"),
-    (10, "segment: frame count 0"),
-    (11, "segment: out or source first frame plus count passes 2^64 - 1"),
-    (12, "segment: source end past the source's frames"),
-    (13, "segment: any of the six times negative"),
-    (14, "segment: source start plus duration, or the capture pair, passes 2^63 - 1; tested after 16, out start plus duration or its capture pair does"),
-    (15, "segment: out first frame isn't the end before (0 for the first)"),
-    (16, "segment: out start or out capture start isn't the end before; the first is free"),
-    (17, "segment: shift without clock, clock without shift, or a modulus with shift outside 0..modulus"),
-    (20, "a rate number or timescale over 4,294,967,295, or over 16,777,216 starts"),
-    (21, "no video given"),
-    (22, "last out end isn't the video's frame count"),
-    (23, "a time can't be had: scale 0, or outside 64 bits; of a table, a segment's frame time"),
-    (24, "a segment's frame time differs from out start"),
-    (25, "the end isn't near: |2 end_us scale - 2 end 1,000,000| is over 2 nominal 1,000,000 + scale, where end_us is the last segment's out start plus duration; the nominal of a constant video is its denominator, and its scale the numerator"),
-    (30, "over 16,777,216 bytes or timestamps"),
-    (31, "missing: the boxes end (fewer than 8 bytes are left) without the one that is looked for, or no frame times can be had; of box_size, no size is whole and fits"),
-    (32, "lent room too small (of cut, cuts, join and merge that is 52)"),
-    (33, "a start, span or end outside 64 bits"),
-    (34, "timestamps not ascending (equal neighbours are allowed)"),
-    (35, "recording whose frame times can't be had: no frames, or a nominal interval of 0"),
-    (36, "broken: before what is looked for stands a broken box header, at the index: its size isn't whole or doesn't fit, or, of find_box with text_types, its type has a byte outside 20..7E hex"),
-    (40, "no MTRM box: no moov, no udta in it, or none in that"),
-    (41, "more than one MTRM box"),
-    (42, "a search range outside the bytes, or starting past its end; an offset past the bytes"),
-    (50, "cut range: a >= b, or b past the map; of cuts also an odd number of words"),
-    (51, "map rows malformed, slice lengths that disagree, or no rows"),
-    (52, "over 1,024 rows in or out (all cuts of one call together may have more), or lent room too small"),
-    (53, "joined frames pass 2^64 - 1"),
-    (54, "frame past the map"),
+    (1, Reason::Malformed.words()),
+    (2, Reason::OverLimit.words()),
+    (3, Reason::NoSources.words()),
+    (4, Reason::ZeroInSource.words()),
+    (5, Reason::BadDate.words()),
+    (6, Reason::BadClock.words()),
+    (7, Reason::NoClock.words()),
+    (8, Reason::NoSegments.words()),
+    (9, Reason::NoSuchSource.words()),
+    (10, Reason::NoFrames.words()),
+    (11, Reason::FramesWrap.words()),
+    (12, Reason::PastSource.words()),
+    (13, Reason::NegativeTime.words()),
+    (14, Reason::TooLate.words()),
+    (15, Reason::FrameGap.words()),
+    (16, Reason::TimeGap.words()),
+    (17, Reason::BadShift.words()),
+    (20, Reason::TooLarge.words()),
+    (21, Reason::NoVideo.words()),
+    (22, Reason::OtherFrameCount.words()),
+    (23, Reason::NoFrameTime.words()),
+    (24, Reason::OtherFrameTime.words()),
+    (25, Reason::EndNotNear.words()),
+    (30, Reason::TooLong.words()),
+    (31, Reason::Missing.words()),
+    (32, Reason::NoRoom.words()),
+    (33, Reason::Outside.words()),
+    (34, Reason::Falling.words()),
+    (35, Reason::NoRecordingTimes.words()),
+    (36, Reason::Broken.words()),
+    (40, Reason::NoTable.words()),
+    (41, Reason::SeveralTables.words()),
+    (42, Reason::BadSearch.words()),
+    (50, Reason::BadRange.words()),
+    (51, Reason::BadRows.words()),
+    (52, Reason::RowsDontFit.words()),
+    (53, Reason::JoinWraps.words()),
+    (54, Reason::PastMap.words()),
 ];

@@ -66,7 +66,7 @@ impl Refusal {
     /// What the number says.
     #[must_use]
     pub fn words(&self) -> &'static str {
-        ffi::REFUSALS.iter().find(|(number, _)| *number == self.number).map_or("no such refusal", |(_, words)| words)
+        self.reason().map_or("no such refusal", Reason::words)
     }
 }
 
@@ -77,6 +77,19 @@ impl fmt::Display for Refusal {
 }
 
 impl std::error::Error for Refusal {}
+
+/// Its words.
+///
+/// ```
+/// assert_eq!(segment_table::Reason::NoSegments.to_string(), "no segments");
+/// ```
+impl fmt::Display for Reason {
+    fn fmt(&self, f: &mut fmt::Formatter<'_>) -> fmt::Result {
+        f.write_str(self.words())
+    }
+}
+
+impl std::error::Error for Reason {}
 
 /// A call's answer: the value where its number is 0, else the refusal.
 fn answer<T>(number: u64, index: u64, value: T) -> Result<T, Refusal> {

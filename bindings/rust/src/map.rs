@@ -56,6 +56,7 @@ pub struct FrameMap {
 impl FrameMap {
     /// A map of rows. Refuses 51 (index: the row), 52.
     pub fn new(rows: &[Row]) -> Result<FrameMap, Refusal> {
+        let rows = &rows[..rows.len().min(MOST_ROWS + 1)]; // one too many is refused as all of them are
         let words = rows.iter().flat_map(|r| [r.source, r.source_first, r.count, r.out_first, r.shift.is_some() as u64]).collect();
         let shifts = rows.iter().map(|r| r.shift.unwrap_or(0)).collect();
         FrameMap::from_words(words, shifts)
@@ -80,6 +81,8 @@ impl FrameMap {
         answer(number, index, ())?;
         words.truncate(5 * count as usize);
         shifts.truncate(count as usize);
+        words.shrink_to_fit();
+        shifts.shrink_to_fit();
         Ok(FrameMap { words, shifts })
     }
 
@@ -137,10 +140,14 @@ impl FrameMap {
     /// # Ok::<(), segment_table::Refusal>(())
     /// ```
     pub fn cuts(&self, ranges: &[Range<u64>]) -> Result<Vec<FrameMap>, Refusal> {
-        let firsts: Vec<u64> = self.rows().map(|row| row.out_first).collect();
+        let (firsts, end): (Vec<u64>, u64) = (self.rows().map(|row| row.out_first).collect(), self.frames());
+        // Of a list with a range that is no cut the call sees no more than is refused, and gets no room: it looks at the ranges first.
+        let refused = ranges.iter().position(|range| range.end <= range.start || end < range.end);
+        let ranges = refused.map_or(ranges, |k| &ranges[..=k]);
+        let room = if refused.is_some() { 0 } else { ranges.iter().map(|range| rows_of(&firsts, range)).sum() };
         let words: Vec<u64> = ranges.iter().flat_map(|range| [range.start, range.end]).collect();
         let mut counts: Vec<u64> = vec![0; ranges.len()];
-        let all = FrameMap::filled(ranges.iter().map(|range| rows_of(&firsts, range)).sum(), |ou, os, rows, index| unsafe {
+        let all = FrameMap::filled(room, |ou, os, rows, index| unsafe {
             ffi::st_cuts(
                 self.words.as_ptr(), self.words.len(), self.shifts.as_ptr(), self.shifts.len(), words.as_ptr(), words.len(),
                 ou.as_mut_ptr(), ou.len(), os.as_mut_ptr(), os.len(), counts.as_mut_ptr(), counts.len(), rows, index,
@@ -192,8 +199,8 @@ impl FrameMap {
     }
 }
 
-/// How many rows have frames of a range, by the first frame of each row: those that start before the range's end, but of those that
-/// start no later than the range only the last.
+/// How many rows have frames of a range that is a cut, by the first frame of each row: those that start before the range's end, but
+/// of those that start no later than the range only the last.
 fn rows_of(firsts: &[u64], range: &Range<u64>) -> usize {
     let started = firsts.partition_point(|first| *first <= range.start);
     (firsts.partition_point(|first| *first < range.end) + 1).saturating_sub(started)

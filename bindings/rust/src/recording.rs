@@ -24,7 +24,8 @@ pub struct FrameTimes {
 /// # Ok::<(), segment_table::Refusal>(())
 /// ```
 pub fn mcraw_times(timestamps: &[i64]) -> Result<FrameTimes, Refusal> {
-    let (mut starts, mut work) = (vec![0; timestamps.len()], vec![0; timestamps.len()]);
+    let room = room_for(timestamps);
+    let (mut starts, mut work) = (vec![0; room], vec![0; room]);
     let (mut frames, mut scale, mut nominal, mut end, mut index) = (0, 0, 0, 0, 0);
     let number = unsafe {
         ffi::st_mcraw_times(
@@ -33,6 +34,14 @@ pub fn mcraw_times(timestamps: &[i64]) -> Result<FrameTimes, Refusal> {
         )
     };
     answer(number, index, FrameTimes { scale, nominal, end, starts })
+}
+
+/// The most timestamps that a call takes.
+const MOST_TIMESTAMPS: usize = 1 << 24;
+
+/// The room that timestamps need in each slice; none where there are too many, which is refused before the room is looked at.
+pub(crate) fn room_for(timestamps: &[i64]) -> usize {
+    if timestamps.len() <= MOST_TIMESTAMPS { timestamps.len() } else { 0 }
 }
 
 /// The room that is lent first for a moov's frames.
@@ -65,6 +74,9 @@ const ROOM: usize = 4096;
 /// assert_eq!(segment_table::video_frame_times_of_moov(moov, false).unwrap_err().number, 31);
 /// # Ok::<(), segment_table::Refusal>(())
 /// ```
+///
+/// While it answers, it takes memory for up to twice as many frames as the track has, 24 bytes a frame, and never more than 24 bytes
+/// a byte of the moov.
 pub fn video_frame_times_of_moov(moov: &[u8], standard: bool) -> Result<FrameTimes, Refusal> {
     // a track of more frames than its moov has bytes is refused with 31, so this much room is enough
     let mut room = ROOM.min(moov.len());
@@ -78,10 +90,11 @@ pub fn video_frame_times_of_moov(moov: &[u8], standard: bool) -> Result<FrameTim
             )
         };
         if number == 32 && room < moov.len() {
-            room = (8 * room).min(moov.len());
+            room = (2 * room).min(moov.len());
             continue;
         }
         starts.truncate(frames as usize);
+        starts.shrink_to_fit();
         return answer(number, index, FrameTimes { scale, nominal, end, starts });
     }
 }

@@ -95,12 +95,23 @@ macro_rules! lent {
     };
 }
 
-/// The words of sources, ten each, and the bytes of their creation times.
+/// The sources and the segments that a table may have, and the bytes of a creation time.
+const MOST_SOURCES: usize = 64;
+const MOST_SEGMENTS: usize = 512;
+const TIME_BYTES: usize = 20;
+
+/// The first of them: one more than there may be, which is refused as all of them are.
+fn first_of<T>(all: &[T], most: usize) -> &[T] {
+    &all[..all.len().min(most + 1)]
+}
+
+/// The words of sources, ten each, and the bytes of their creation times; of too many or too long ones only what is refused alike.
 fn words_of(sources: &[Source]) -> (Vec<u64>, Vec<u8>) {
+    let sources = first_of(sources, MOST_SOURCES);
     let mut text = Vec::new();
     let mut words = Vec::with_capacity(10 * sources.len());
     for s in sources {
-        let time = s.creation_time.as_deref().unwrap_or("").as_bytes();
+        let time = first_of(s.creation_time.as_deref().unwrap_or("").as_bytes(), TIME_BYTES);
         let clock = s.clock.unwrap_or(Clock { rate: (0, 0), modulus: None });
         let kind = s.clock.map_or(0, |c| if c.modulus.is_some() { 2 } else { 1 });
         words.extend([s.frames, s.fps.0, s.fps.1, s.creation_time.is_some() as u64, text.len() as u64, time.len() as u64]);
@@ -137,10 +148,11 @@ impl Table {
     /// Checks a table; `log` says whether it names a telemetry log. Refuses 2 to 17, with the source's or the segment's index.
     pub fn new(sources: &[Source], segments: &[Segment], log: bool) -> Result<Table, Refusal> {
         let (words, text) = words_of(sources);
+        let segments = first_of(segments, MOST_SEGMENTS);
         let rows = segments.iter().flat_map(|s| [s.source, s.src_first_frame, s.frame_count, s.out_first_frame, s.clock_shift.is_some() as u64]);
         let times = segments.iter().flat_map(|s| {
-            let capture = [s.src_capture_start_us, s.out_capture_start_us, s.capture_duration_us, s.clock_shift.unwrap_or(0)];
-            [s.src_start_us, s.out_start_us, s.duration_us].into_iter().chain(capture)
+            let [source, out, length] = [s.src_capture_start_us, s.out_capture_start_us, s.capture_duration_us];
+            [s.src_start_us, s.out_start_us, s.duration_us, source, out, length, s.clock_shift.unwrap_or(0)]
         });
         Table::from_words(words, rows.collect(), times.collect(), log, text)
     }

@@ -1,5 +1,5 @@
 //! A table against the video that it was written for.
-use crate::{answer, FrameTimes, Refusal, Table};
+use crate::{answer, recording::room_for, FrameTimes, Refusal, Table};
 
 /// The video of a file.
 #[derive(Clone, Copy, Debug, PartialEq, Eq)]
@@ -59,7 +59,8 @@ impl Table {
     /// # Ok::<(), segment_table::Refusal>(())
     /// ```
     pub fn check_mcraw(&self, timestamps: &[i64]) -> Result<u64, Refusal> {
-        let (mut a, mut b) = (vec![0; timestamps.len()], vec![0; timestamps.len()]);
+        let room = room_for(timestamps);
+        let (mut a, mut b) = (vec![0; room], vec![0; room]);
         let (mut frames, mut index) = (0, 0);
         let number = unsafe {
             lent!(

@@ -1,8 +1,7 @@
 -- Made by tools/calls: of each public call its promise. First, with a capital, its clause in the source's own words,
 -- of plain lists and numbers; a part of the caller's bytes stays a reference, and `X·of` is the clause's X where the
 -- quotation has that name. Then the same as a promise: of the arguments (a.0 is the first, a.1.0 the second), the
--- result z and the exit e. The first is for readers; that the second is what was proved of the call's code stands in
--- proofs/Quoted.antt.
+-- result z and the exit e. That the call asks nothing and keeps both is proved in src/library.rt.
 use Rattle.std.specs.Prelude.{ℕ, Bool, List, ◌≡◌, ℤ, Result}
 use Rattle.std.specs.Borrow.{Bor}
 use Rattle.audit.specs.Promise.{Promise}

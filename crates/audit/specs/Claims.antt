@@ -1,8 +1,8 @@
 -- WHAT IS CLAIMED OF THE PUBLIC CALLS. `Claims` is the contract of `all_claims_hold`, in src/lib.rt, so the check
 -- proves every line. A call's name with a capital (`Check`, `Cut`, `Origin`) is its promise, quoted from the source by
 -- Calls.antt, in plain lists: the call with these arguments may answer so and leave the lent slices so. What holds of
--- all such answers holds of every run, since the check proves that a run keeps its promise: Promised.antt says in which
--- form. No proof need be read; which calls have that theorem, Quoted.antt and FaceQuoted.antt in proofs/ say.
+-- all such answers holds of every run: that a call asks nothing, and that its run keeps the promise as it is quoted,
+-- are the contracts of src/library.rt and src/exports.rt, a function for each call. No proof need be read.
 -- Letters: l, m a lent table (`Lent`); u, s a map's words and shifts, v, t a second map's; ou, os room for rows, and
 -- pu, ps and qu, qs likewise; a, b, c, d a range's ends; f a frame, fs frames; i, k, n an index or a count; N a frame
 -- total; b lent bytes; rs records; r, q answers; where a claim has another use of one, the claim's type says which. A
@@ -62,8 +62,8 @@ use Rattle.audit.specs.Words.{Lent, table, on, Tells, Check, SegmentOfFrame, Seg
 use Rattle.audit.specs.Examples.{Holds, examples}
 
 -- 1. ONE ANSWER. Whatever a public call's arguments, exactly one result, with exactly one content of each lent slice,
--- meets its promise. (RULES 13.1 and 13.4, and the auditor's second question.) 2, that it asks nothing of them, is
--- proved of its code: Promised.antt.
+-- meets its promise. (RULES 13.1 and 13.4, and the auditor's second question.) 2, that it asks nothing of them, and
+-- ends so, is the contract of the function of its name in src/library.rt.
 pub record Answers : Type 0 where
   pub ticks-to-us : OneAnswer calls.ticks-to-us
   pub is-utc-second : OneAnswer calls.is-utc-second
@@ -94,7 +94,7 @@ pub record Answers : Type 0 where
   pub table-text : OneAnswer calls.table-text
 
 -- THE C FACE: of each exported call too exactly one answer meets the promise: the number that it returns, and what each
--- word and each slice that is lent holds afterwards. (RULES 13.4.) That they ask nothing: Promised.antt.
+-- word and each slice that is lent holds afterwards. (RULES 13.4.) That they ask nothing and end so: src/exports.rt.
 pub record Face : Type 0 where
   pub st-check : OneAnswer face.st-check
   pub st-segment-of-frame : OneAnswer face.st-segment-of-frame
@@ -275,6 +275,9 @@ pub record Refusals : Type 0 where
 pub record Meanings : Type 0 where
   pub ticks-to-us : (t : ℤ) (scale : ℕ) (r : Result ℤ Refusal) → calls.TicksToUs t scale r ↔ (r ≡ ticks_to_us t scale)
   pub is-utc-second : (b : List ℕ) (r : Bool) → calls.IsUtcSecond b r ↔ (r ≡ utc_second b)
+  -- A name for `check`'s answer, which other definitions cite. What that answer is `Refusals.check` says, by conditions
+  -- that don't cite `check_of`: of a `check_of` that computed anything else that claim would be false. So it isn't
+  -- circular that `check` promises what `check_of` computes. So too of `validate` and `check-mcraw`.
   pub check : (l : Lent) (r : Result ℕ Refusal) → Check l r ↔ (r ≡ check_of (table l))
   pub segment-of-frame : (l : Lent) (f : ℕ) (r : Result ℕ Refusal)
       → SegmentOfFrame l f r ↔ (r ≡ segment_of_frame (table l) f)

@@ -159,6 +159,16 @@ table_t a text = record {
   text = text;
 }
 
+-- T without creation times and clocks, so many frames in source B, and these rows in the place of its own
+abbrev pub changed : ℕ → List Row → Lent
+changed b rows = record {
+  sources = plain 100 ++ plain b;
+  words = words_of rows;
+  stamps = stamps 0 1200000 (pos 0) ++ stamps 1200000 800000 (pos 0);
+  log = false;
+  text = [];
+}
+
 -- a segment of duration 0: of one source's frames 0 and 1 the first lasts 0..10 and the second 10..10; in the longer
 -- table frame 2 lasts 10..20 after them
 abbrev pub still : Lent
@@ -403,4 +413,13 @@ examples =
     ∷ cuts_refused T (0 ∷ 50 ∷ 20 ∷ 51 ∷ 7 ∷ 7 ∷ []) reason.BadRange 1
     ∷ cuts_refused T (0 ∷ 50 ∷ 20 ∷ []) reason.BadRange 1
     ∷ cuts_refused T (0 ∷ 50 ∷ []) reason.RowsDontFit 0
+    -- T with an out first of 31 in segment 1, with 71 as the source first of segment 0, and with no frames in source B
+    -- (RULES 3.6); its frame 49 (RULES 4.7); a recording that falls (RULES 9.3); and where frame 2 of T cut 28..33 comes
+    -- from (RULES 10.9)
+    ∷ checked (changed 50 (row 0 10 30 0 ∷ row 1 5 20 31 ∷ [])) (refused reason.FrameGap 1)
+    ∷ checked (changed 50 (row 0 71 30 0 ∷ row 1 5 20 30 ∷ [])) (refused reason.PastSource 0)
+    ∷ checked (changed 0 T) (refused reason.ZeroInSource 1)
+    ∷ frame (table_t (plain 100) []) 49 (Ok 1)
+    ∷ recording (pos 1 ∷ pos 0 ∷ []) (refused reason.Falling 1) (pos 0 ∷ pos 0 ∷ [])
+    ∷ comes (row 0 38 2 0 ∷ row 1 5 3 2 ∷ []) 2 (origin 1 5 0 (pos 0))
     ∷ []

@@ -6,7 +6,9 @@ use denote.Triple.Entry.{Args, Res}
 use denote.Triple.Clauses.{Ended, Lasts, AtExit, at_exit}
 
 -- A promise: the types of a function's parameters and of its result, which Rattle generates of its source, and what its
--- `ensures` says of the result and of the parameters at exit. Nothing is asked of the arguments: Promised.antt.
+-- `ensures` says of the result and of the parameters at exit. Nothing is asked of the arguments: src/library.rt and
+-- src/exports.rt have a function for each call that asks nothing, only calls it, and promises that the end is as the
+-- promise says (`Says`).
 pub record Promise : Type 2 where
   pub types : Ended
   pub Learnt : (κs : Lfts types.signature.lifetimes) → Args types.signature κs → Res types.signature κs

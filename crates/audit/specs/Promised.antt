@@ -1,6 +1,7 @@
 -- WHAT THE TOOLCHAIN PROVES OF A CALL'S CODE, said of its quoted promise. proofs/Quoted.antt and proofs/FaceQuoted.antt
 -- have this theorem of every call: run in any model of the language, its code `Meets` the contract `promised`. That
--- contract is made of the quotation alone, so what is quoted is what was proved.
+-- contract is made of the quotation alone, so what is quoted is what was proved. No claim rests on it: the contracts of
+-- src/library.rt and src/exports.rt say the same of a function that only calls.
 use seplogic.Ra.Ura.{Ura}
 use base.Logic.{emp}
 use contract.Monad.{fact}

@@ -1,2 +1,3 @@
 pub mod Reasons
 pub mod Refusals
+pub mod Words

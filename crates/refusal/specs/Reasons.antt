@@ -1,4 +1,4 @@
--- The number of each reason, as a C caller is told it: RULES 2.4. src/lib.rt says in words what each is.
+-- The number of each reason, as a C caller is told it: RULES 2.4. Words.antt says in words what each is.
 use Rattle.std.specs.Prelude.{ℕ}
 use Rattle.refusal.specs.declared.Reason.{Reason}
 use Rattle.refusal.specs.declared.Reason.TheVariants as reason

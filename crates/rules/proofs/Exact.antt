@@ -1,7 +1,6 @@
 -- A check answers what specs/Grounds.antt says: it refuses with the first condition that holds, in testing order, and
 -- accepts where none does. Assumes nothing.
 use Prim.Native.Nat.{ℕ, zero, suc, ◌+◌, ◌<◌}
-use Rattle.std.proofs.lemmas.Bool.{or_parts}
 use native.Mathlib.Numerals.{add-one}
 use Rattle.slices.proofs.Ranges.{run}
 use native.Mathlib.Nat.{add-zero, zero-add}
@@ -24,6 +23,7 @@ use Rattle.rules.specs.declared.Segment.{Segment}
 use Rattle.rules.specs.Records.{Table, no_source, no_segment, source, segment, source_of, frame_total}
 use Rattle.rules.specs.Rules.{negative, apart, bad_source, bad_segment, malformed, source_refusal, stamp_times, judged, segment_refusal, start, ends_of, ends, segments_from, front_refusal, refusal, check_of}
 use Rattle.rules.specs.Grounds.{Test, given, BadWords, Malformed, OverLimit, of_source, of_segment, each, tests, Rightly, FrameGap, TimeGap, Negative}
+use Rattle.rules.proofs.Signs.{Plain, plain}
 use Rattle.rules.proofs.Turns.{judged-fit}
 use Rattle.rules.proofs.Walks.{not-refused}
 use Rattle.rules.proofs.Conditions.{Finds, Agrees, link, front, append, record-first, first-agrees, right}
@@ -52,15 +52,6 @@ source-finds t k =
     λ _. tt
 
 -- ---- a segment
--- none of the six times is negative
-record Positive (e : Segment) : Type 0 where
-  source_start : negative e.stamps.source_start ≡ false
-  out_start : negative e.stamps.out_start ≡ false
-  duration : negative e.stamps.duration ≡ false
-  source_capture_start : negative e.stamps.source_capture_start ≡ false
-  out_capture_start : negative e.stamps.out_capture_start ≡ false
-  capture_duration : negative e.stamps.capture_duration ≡ false
-
 -- all its six tests, and 13
 negatives : (e : Segment) → Says (stamp_times e.stamps).negative (Negative e)
 unfolding stamp_times
@@ -70,16 +61,6 @@ negatives e =
     (either (either (n e.stamps.source_start) (n e.stamps.out_start)) (either (n e.stamps.duration) (n e.stamps.source_capture_start)))
     (either (n e.stamps.out_capture_start) (n e.stamps.capture_duration)))
 
-positive : (e : Segment) → (stamp_times e.stamps).negative ≡ false → Positive e
-unfolding stamp_times
-positive e q =
-    let a = or_parts _ _ q in
-    let b = or_parts _ _ a.0 in
-    let x = or_parts _ _ b.0 in
-    let y = or_parts _ _ b.1 in
-    let z = or_parts _ _ a.1 in
-    record { source_start = x.0; out_start = x.1; duration = y.0; source_capture_start = y.1; out_capture_start = z.0; capture_duration = z.1 }
-
 untrue : (b : Bool) {C : Type 0} → Says b C → (C → ⊥) → b ≡ false
 untrue true s f = absurd (f (s.holds refl))
 untrue false s f = refl
@@ -87,7 +68,7 @@ untrue false s f = refl
 -- what the walk has come with to segment k
 Prev : Table → ℕ → Ends → Type 0
 Prev t zero previous = previous ≡ start
-Prev t (suc k) previous = (previous ≡ ends (segment t k)) × Positive (segment t k)
+Prev t (suc k) previous = (previous ≡ ends (segment t k)) × Plain (segment t k).stamps
 
 frame-gap : (t : Table) (k : ℕ) (previous : Ends) → Prev t k previous
     → Says (not (eqb (segment t k).words.out previous.frame)) (FrameGap t k)
@@ -95,7 +76,7 @@ unfolding Prev start ends ends_of
 frame-gap t zero previous p = rw p (unless (equal (segment t 0).words.out 0))
 frame-gap t (suc k) previous p = rw p.0 (unless (equal (segment t (suc k)).words.out ((segment t k).words.out + (segment t k).words.count)))
 
-time-gap : (t : Table) (k : ℕ) (previous : Ends) → Prev t k previous → Positive (segment t k)
+time-gap : (t : Table) (k : ℕ) (previous : Ends) → Prev t k previous → Plain (segment t k).stamps
     → Says (apart previous.some previous.time previous.capture (nat_abs (segment t k).stamps.out_start) (nat_abs (segment t k).stamps.out_capture_start)) (TimeGap t k)
 unfolding Prev start ends ends_of stamp_times
 time-gap t zero previous p q = rw p (record { holds = λ e. tf (sym e); fails = λ e x. x })
@@ -117,7 +98,7 @@ segment-finds t k previous v =
     λ _. link reason.FramesWrap k _ _ (either (passes w.out w.count max_u64) (passes w.first w.count max_u64))
     λ _. link reason.PastSource k _ _ (passes w.first w.count s.frames)
     λ _. link reason.NegativeTime k _ _ (negatives (segment t k))
-    λ f. let p = positive (segment t k) (untrue _ (negatives (segment t k)) f) in
+    λ f. let p = plain (segment t k).stamps (untrue _ (negatives (segment t k)) f) in
     link reason.TooLate k _ _ (either (late e.source_start e.duration p.source_start p.duration) (late e.source_capture_start e.capture_duration p.source_capture_start p.capture_duration))
     λ _. link reason.FrameGap k _ _ (frame-gap t k previous v)
     λ _. link reason.TimeGap k _ _ (time-gap t k previous v p)
@@ -133,7 +114,7 @@ unfolding segments_from Agrees Prev
 segments-agree t zero i previous p = tt
 segments-agree t (suc m) i previous p =
     rw add-one (record-first (segment_refusal t.sources previous (segment t i)) i _ (of_segment t i) (each (of_segment t) (suc i) m) (segment-finds t i previous p)
-    (λ z. segments-agree t m (suc i) (ends (segment t i)) (refl, positive (segment t i) (judged-fit _ _ _ _ (not-refused _ _ _ z).1).positive)))
+    (λ z. segments-agree t m (suc i) (ends (segment t i)) (refl, plain (segment t i).stamps (judged-fit _ _ _ _ (not-refused _ _ _ z).1).positive)))
 
 -- ---- the whole
 malformed-says : (t : Table) → Says (malformed t) (Malformed t)

@@ -17,8 +17,8 @@ use Rattle.rules.specs.declared.Words.{Words}
 use Rattle.rules.specs.declared.SixTimes.{SixTimes}
 use Rattle.rules.specs.declared.Ends.{Ends}
 use Rattle.rules.specs.Limits.{max_i64}
-use Rattle.rules.specs.Rules.{too_late, apart, bad_shift, judged}
-use Rattle.rules.specs.Walks.{frames_or, times_or, FineFrames, out_of_time}
+use Rattle.rules.specs.Rules.{too_late, apart, bad_shift, frames_or, times_or, judged}
+use Rattle.rules.specs.Walks.{FineFrames, out_of_time}
 
 -- 10 to 17 in parts, as code goes through them
 pub judged_parts : (s : Source) (previous : Ends) (w : Words) (t : SixTimes) → judged s previous w t

@@ -96,22 +96,34 @@ abbrev pub bad_shift : ℕ → ℕ → ℕ → Bool → ℕ → Bool
 bad_shift kind modulus flag back shift =
     ((kind == 0 && flag == 1) || (not (kind == 0) && flag == 0)) || (kind == 2 && (back || nat_le modulus shift))
 
--- 10 to 17 of a segment of this source, after one that ends at `previous`, in the order of RULES 3.4
-unfoldable pub judged : Source → Ends → Words → SixTimes → Result (Unit {0}) Reason
-judged source previous words times =
-    if words.count == 0 then Err reason.NoFrames
-    else if past words.out words.count max_u64 || past words.first words.count max_u64 then Err reason.FramesWrap
-    else if past words.first words.count source.frames then Err reason.PastSource
-    else if times.negative then Err reason.NegativeTime
+-- 10 to 12, and then the rest
+abbrev pub frames_or : ℕ → ℕ → ℕ → ℕ → Result (Unit {0}) Reason → Result (Unit {0}) Reason
+frames_or frames source_first count out_first rest =
+    if count == 0 then Err reason.NoFrames
+    else if past out_first count max_u64 || past source_first count max_u64 then Err reason.FramesWrap
+    else if past source_first count frames then Err reason.PastSource
+    else rest
+
+-- 13 to 16, 14 again, and then the rest
+abbrev pub times_or : Ends → ℕ → SixTimes → Result (Unit {0}) Reason → Result (Unit {0}) Reason
+times_or previous out_first times rest =
+    if times.negative then Err reason.NegativeTime
     else if too_late times.source_start times.duration times.source_capture_start times.capture_duration
     then Err reason.TooLate
-    else if not (words.out == previous.frame) then Err reason.FrameGap
+    else if not (out_first == previous.frame) then Err reason.FrameGap
     else if apart previous.some previous.time previous.capture times.out_start times.out_capture_start
     then Err reason.TimeGap
     else if too_late times.out_start times.duration times.out_capture_start times.capture_duration
     then Err reason.TooLate
-    else if bad_shift source.kind source.modulus words.flag times.back times.shift then Err reason.BadShift
-    else Ok tt
+    else rest
+
+-- 10 to 17 of a segment of this source, after one that ends at `previous`, in the order of RULES 3.4
+unfoldable pub judged : Source → Ends → Words → SixTimes → Result (Unit {0}) Reason
+judged source previous words times =
+    frames_or source.frames words.first words.count words.out
+    (times_or previous words.out times
+    (if bad_shift source.kind source.modulus words.flag times.back times.shift then Err reason.BadShift
+    else Ok tt))
 
 -- 9 to 17 of a segment; 9: no such source
 unfoldable pub segment_refusal : List Source → Ends → Segment → Result (Unit {0}) Reason

@@ -1,10 +1,9 @@
--- Words of inner contracts, here and of the crates above: parts of the chain of Rules, and a segment's turn.
-use Rattle.std.specs.Prelude.{ℕ, zero, suc, ◌+◌, ◌-◌, ◌≤◌, ◌<◌, ◌≡◌, Bool, true, false, not, ◌||◌, List, ℤ, length, Result, Ok, Err, map, ◌==◌, nat_lt, nat_le, unsigned_abs, if◌then◌else◌}
+-- Words of inner contracts, here and of the crates above: a segment's turn, and what walks ask.
+use Rattle.std.specs.Prelude.{ℕ, zero, suc, ◌+◌, ◌-◌, ◌≤◌, ◌<◌, ◌≡◌, Bool, true, false, not, ◌||◌, List, ℤ, length, Result, Ok, map, ◌==◌, nat_lt, nat_le, unsigned_abs}
 use Rattle.std.specs.List.{range_with_len, count_by}
 use Rattle.std.specs.Result.{result_and}
 use Rattle.conditions.specs.Conditions.{past, max_u64}
 use Rattle.refusal.specs.declared.Reason.{Reason}
-use Rattle.refusal.specs.declared.Reason.TheVariants as reason
 use Rattle.refusal.specs.declared.Refusal.{Refusal}
 use Rattle.rules.specs.declared.Source.{Source}
 use Rattle.rules.specs.declared.Words.{Words}
@@ -14,27 +13,6 @@ use Rattle.rules.specs.declared.Stamps.{Stamps}
 use Rattle.rules.specs.declared.Segment.{Segment}
 use Rattle.rules.specs.Records.{nth, frame_total}
 use Rattle.rules.specs.Rules.{bad_source, bad_segment, source_refusal, negative, stamp_times, too_late, apart, bad_shift, judged, ends_of, segment_refusal, ends, segments_from, start}
-
--- 10 to 12, and then the rest
-abbrev pub frames_or : ℕ → ℕ → ℕ → ℕ → Result (Unit {0}) Reason → Result (Unit {0}) Reason
-frames_or frames source_first count out_first rest =
-    if count == 0 then Err reason.NoFrames
-    else if past out_first count max_u64 || past source_first count max_u64 then Err reason.FramesWrap
-    else if past source_first count frames then Err reason.PastSource
-    else rest
-
--- 13 to 16, 14 again, and then the rest
-abbrev pub times_or : Ends → ℕ → SixTimes → Result (Unit {0}) Reason → Result (Unit {0}) Reason
-times_or previous out_first times rest =
-    if times.negative then Err reason.NegativeTime
-    else if too_late times.source_start times.duration times.source_capture_start times.capture_duration
-    then Err reason.TooLate
-    else if not (out_first == previous.frame) then Err reason.FrameGap
-    else if apart previous.some previous.time previous.capture times.out_start times.out_capture_start
-    then Err reason.TimeGap
-    else if too_late times.out_start times.duration times.out_capture_start times.capture_duration
-    then Err reason.TooLate
-    else rest
 
 -- 10 to 17 of a segment, and where it ends
 unfoldable pub turned : Source → Ends → Words → SixTimes → Result Ends Reason

@@ -5,9 +5,9 @@
 ghost use Rattle.std.specs.Prelude.{◌≡◌, true, false, not, ◌||◌, ◌↔◌, ◌≤◌, Ok, unsigned_abs};
 ghost use Rattle.rules.specs.Limits.{max_i64};
 ghost use Rattle.rules.specs.Records.{Table, frame_total};
-ghost use Rattle.rules.specs.Rules.{bad_words, zero_in_source, bad_date, bad_clock, source_refusal, negative, stamp_times, too_late, apart, bad_shift, over_limit, judged, start, ends, check_of};
+ghost use Rattle.rules.specs.Rules.{bad_words, zero_in_source, bad_date, bad_clock, source_refusal, negative, stamp_times, too_late, apart, bad_shift, over_limit, frames_or, times_or, judged, start, ends, check_of};
 ghost use Rattle.rules.specs.Grounds.{tests, Rightly};
-ghost use Rattle.rules.specs.Walks.{frames_or, times_or, turned, FineFrames, FineShift, out_of_time, Passing, EndFits};
+ghost use Rattle.rules.specs.Walks.{turned, FineFrames, FineShift, out_of_time, Passing, EndFits};
 
 use refusal::Reason;
 

@@ -8,10 +8,11 @@
 // slices hold 0 after every answer. Memory that is lent to be written may be unset before the call.
 //
 // Lending. A slice is a pointer and a length in elements; its pointer may be null only with length
-// 0. A word is a pointer to one number, and is never null. Pointers to numbers are aligned as C
-// aligns them; bytes may lie anywhere. A bool is 0 or 1. size_t has 64 bits. No call keeps a
-// pointer or a state, or allocates memory: calls may run in several threads at once, while none
-// writes what another is lent.
+// 0. A slice lies in memory, where it has at most 2^63 - 1 bytes: of a call that names more nothing
+// is proved, and it may read past what is lent. A word is a pointer to one number, and is never
+// null. Pointers to numbers are aligned as C aligns them; bytes may lie anywhere. A bool is 0 or 1.
+// size_t has 64 bits. No call keeps a pointer or a state, or allocates memory: calls may run in
+// several threads at once, while none writes what another is lent.
 //
 // Overlap. What a call may write overlaps nothing else that it is lent. No proof reaches a call
 // that breaks this: memory may be corrupted. With one array as both working slices

@@ -49,10 +49,11 @@
  * Refusals. The index is the source in 4 to 7, the segment in 9 to 17, 23 and 24, the later
  * timestamp of the first falling pair in 34, the broken header's offset in the lent bytes in 36,
  * the range in 50 of st_cuts (a last one without its end is tested first), the row in 51 (0 for
- * slice lengths or no rows, which are tested first), else 0. Each call names its refusals in the
- * order of its tests: 4 to 7 source by source, 9 to 17 and 23 with 24 segment by segment, 50 of
- * st_cuts range by range, a join's 51 of its first map and then of its second. `31 or 36` is by how
- * a walk over boxes ended. What each number says stands in enum st_reason, with its name. */
+ * slice lengths or no rows, which are tested first), the frame's number in the list in 54 of
+ * st_origins, else 0. Each call names its refusals in the order of its tests: 4 to 7 source by
+ * source, 9 to 17 and 23 with 24 segment by segment, 50 of st_cuts range by range, 54 of st_origins
+ * frame by frame, a join's 51 of its first map and then of its second. `31 or 36` is by how a walk
+ * over boxes ended. What each number says stands in enum st_reason, with its name. */
 #ifndef SEGMENT_TABLE_H
 #define SEGMENT_TABLE_H
 
@@ -66,90 +67,95 @@ extern "C" {
 
 /* Why a call refuses: what each number that is answered says. */
 enum st_reason {
-    /* a slice length isn't a multiple of its record, the two segment slices disagree, a flag or
-     * kind is outside its set, or a present creation time's range leaves the text */
+    /* a slice length is no multiple of its record, the two segment slices disagree, a flag or kind
+     * is outside its set, or a present creation time's range leaves the text */
     ST_MALFORMED = 1,
-    /* over 64 sources or 512 segments */
+    /* there are over 64 sources or over 512 segments */
     ST_OVER_LIMIT = 2,
-    /* no sources */
+    /* there are no sources */
     ST_NO_SOURCES = 3,
-    /* source: frames, or either fps number, is 0 */
+    /* the source has 0 frames, or a 0 in its frames a second */
     ST_ZERO_IN_SOURCE = 4,
-    /* source: its creation time fails the UTC rule */
+    /* the source's creation time fails the UTC rule */
     ST_BAD_DATE = 5,
-    /* source: its clock rate has a 0, or its modulus is 0 */
+    /* the source's clock has a 0 in its rate, or the modulus 0 */
     ST_BAD_CLOCK = 6,
-    /* source: a log is named and it has no clock */
+    /* a log is named, and the source has no clock */
     ST_NO_CLOCK = 7,
-    /* no segments */
+    /* there are no segments */
     ST_NO_SEGMENTS = 8,
-    /* segment: no such source */
+    /* the segment names no source of the table */
     ST_NO_SUCH_SOURCE = 9,
-    /* segment: frame count 0 */
+    /* the segment's frame count is 0 */
     ST_NO_FRAMES = 10,
-    /* segment: out or source first frame plus count passes 2^64 - 1 */
+    /* the segment's out first or source first plus its frame count passes 2^64 - 1 */
     ST_FRAMES_WRAP = 11,
-    /* segment: source end past the source's frames */
+    /* the segment's source first plus its frame count passes its source's frames */
     ST_PAST_SOURCE = 12,
-    /* segment: any of the six times negative */
+    /* one of the segment's six times is below 0 */
     ST_NEGATIVE_TIME = 13,
-    /* segment: a start plus its duration passes 2^63 - 1; that is source start plus duration or the
-     * capture pair, or, tested after 16, out start plus duration or its capture pair */
+    /* one of the segment's starts plus its duration passes 2^63 - 1; that is source start plus
+     * duration or the capture pair, or, tested after 16, out start plus duration or its capture
+     * pair */
     ST_TOO_LATE = 14,
-    /* segment: out first frame isn't the end before (0 for the first) */
+    /* the segment's out first isn't where the frames before it end; 0 for the first */
     ST_FRAME_GAP = 15,
-    /* segment: out start or out capture start isn't the end before; the first is free */
+    /* the segment's out start or out capture start isn't where the times before it end; those of
+     * the first are free */
     ST_TIME_GAP = 16,
-    /* segment: shift without clock, clock without shift, or a modulus with shift outside 0..modulus */
+    /* the segment has a shift and no clock, a clock and no shift, or a shift outside its clock's
+     * modulus */
     ST_BAD_SHIFT = 17,
-    /* a rate number or timescale over 4,294,967,295, or over 16,777,216 starts */
+    /* a rate number or timescale is over 4,294,967,295, or there are over 16,777,216 starts */
     ST_TOO_LARGE = 20,
-    /* no video given */
+    /* no video is given */
     ST_NO_VIDEO = 21,
-    /* last out end isn't the video's frame count */
+    /* the table's frames aren't as many as the video's */
     ST_OTHER_FRAME_COUNT = 22,
-    /* a time can't be had: scale 0, or outside 64 bits; of a table, a segment's frame time */
+    /* a time can't be had: its scale is 0, or it is outside 64 bits; of a table, the time of a
+     * segment's first frame */
     ST_NO_FRAME_TIME = 23,
-    /* a segment's frame time differs from out start */
+    /* the segment's out start isn't its first frame's time */
     ST_OTHER_FRAME_TIME = 24,
     /* the table's end isn't near the video's; that is |2 end_us scale - 2 end 1,000,000| over 2
      * nominal 1,000,000 + scale, where end_us is the last segment's out start plus duration; the
      * nominal of a constant video is its denominator, and its scale the numerator */
     ST_END_NOT_NEAR = 25,
-    /* over 16,777,216 bytes or timestamps */
+    /* over 16,777,216 bytes or timestamps are lent */
     ST_TOO_LONG = 30,
     /* missing: the boxes end without the one that is looked for, no size is whole and fits, or no
      * frame times can be had; boxes end where fewer than 8 bytes are left; the size is that of
      * st_box_size */
     ST_MISSING = 31,
-    /* lent room too small; of st_cut, st_cuts, st_join and st_merge that is 52 */
+    /* too little room is lent; of st_cut, st_cuts, st_join and st_merge that is 52 */
     ST_NO_ROOM = 32,
-    /* a start, span or end outside 64 bits */
+    /* a start, a span or an end is outside 64 bits */
     ST_OUTSIDE = 33,
-    /* timestamps not ascending (equal neighbours are allowed) */
+    /* the timestamps fall; equal neighbours don't */
     ST_FALLING = 34,
-    /* recording whose frame times can't be had: no frames, or a nominal interval of 0 */
+    /* the recording has no frame times: no frames, or a nominal interval of 0 */
     ST_NO_RECORDING_TIMES = 35,
     /* broken: before what is looked for stands a broken box header, at the index; its size isn't
-     * whole or doesn't fit, or, of st_find_box with text_types, its type has a byte outside 20..7E
-     * hex */
+     * whole or doesn't fit, or, of st_find_box with text_types, its type has a byte outside 20 to
+     * 7E hex */
     ST_BROKEN = 36,
-    /* no MTRM box: no moov, no udta in it, or none in that */
+    /* the file has no MTRM box: no moov, no udta in it, or none in that */
     ST_NO_TABLE = 40,
-    /* more than one MTRM box */
+    /* the file has more than one MTRM box */
     ST_SEVERAL_TABLES = 41,
-    /* a search range outside the bytes, or starting past its end; an offset past the bytes */
+    /* a search range lies outside the bytes, or starts past its end, or an offset lies past the
+     * bytes */
     ST_BAD_SEARCH = 42,
-    /* cut range: a >= b, or b past the map; of many cuts also an odd number of words */
+    /* a cut's range has no frames, or ends past the map; of many cuts also a range without its end */
     ST_BAD_RANGE = 50,
-    /* map rows malformed, slice lengths that disagree, or no rows */
+    /* a map's rows aren't well formed, slice lengths disagree, or there are no rows */
     ST_BAD_ROWS = 51,
-    /* over 1,024 rows in or out (all cuts of one call together may have more), or lent room too
-     * small */
+    /* a map has, or would have, over 1,024 rows, or too little room is lent for rows; all cuts of
+     * one call together may have more */
     ST_ROWS_DONT_FIT = 52,
-    /* joined frames pass 2^64 - 1 */
+    /* the frames of both maps together pass 2^64 - 1 */
     ST_JOIN_WRAPS = 53,
-    /* frame past the map */
+    /* a frame lies past the map */
     ST_PAST_MAP = 54
 };
 
@@ -164,7 +170,19 @@ bool st_is_utc_second(const uint8_t *bytes, size_t bytes_len);
  * Lent: nothing. Writes us, index. Refuses: 20, 23. */
 uint64_t st_ticks_to_us(int64_t ticks, uint64_t scale, int64_t *us, uint64_t *index);
 
-/* ---- Maps: cut, many cuts, join, merge, and the origin of a frame. */
+/* ---- Maps: cut, many cuts, join, merge, the origin of a frame, and those of a list of frames. */
+
+/* Where a frame comes from (RULES 10.2). */
+typedef struct st_origin_record {
+    /* The source's number. */
+    uint64_t source;
+    /* The frame there. */
+    uint64_t frame;
+    /* Whether it has a shift: 1 or 0. */
+    uint64_t flag;
+    /* The shift, in ticks of the source's clock, 0 where there is none. */
+    int64_t shift;
+} st_origin_record;
 
 /* The frames start..end of a map as a map: each row's overlap, counted from start. Lent: a map, and
  * room for the rows. Writes the rows, rows (how many), index. Refuses: 51, 52, 50, 52.
@@ -207,6 +225,14 @@ uint64_t st_origin(const uint64_t *words, size_t words_len, const int64_t *shift
                    uint64_t frame, uint64_t *source, uint64_t *source_frame, uint64_t *flag, int64_t *shift,
                    uint64_t *index);
 
+/* Where each frame of a list comes from, in any order: what st_origin answers of it, as one struct a
+ * frame. The map is tested once, also for an empty list. Lent: a map, the frames, and room for one
+ * origin a frame. Writes out_origins, written (how many), index. Refuses: 51, 52, 54, 32.
+ * A null pointer only with length 0; what is written overlaps nothing else, or memory may be corrupted. */
+uint64_t st_origins(const uint64_t *words, size_t words_len, const int64_t *shifts, size_t shifts_len,
+                    const uint64_t *frames, size_t frames_len, st_origin_record *out_origins,
+                    size_t out_origins_len, uint64_t *written, uint64_t *index);
+
 /* ---- Judging: a table against the video of its file, and against a MotionCam recording. */
 
 /* Judges a table where its file has no video: it is always refused.
@@ -248,7 +274,7 @@ uint64_t st_check_mcraw(const uint64_t *sources, size_t sources_len, const uint6
 
 /* ---- Lists of records: the lookup over a table whose segments are lent as a list of structs. */
 
-/* A segment as one record, with its times in microseconds: the Rust's TrimSegment. */
+/* A segment as one record (RULES 1.6), with its times in microseconds: the Rust's TrimSegment. */
 typedef struct st_trim_segment {
     /* The source's number. */
     uint64_t source;

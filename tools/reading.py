@@ -4,7 +4,7 @@ import functools
 import os
 import re
 
-from specs import CLAIMS, MIXFIX, bound, brought, code_of, declarations, declared, fail, path_of, reached, text_of
+from specs import CLAIMS, MIXFIX, bound, brought, cited_by, code_of, declarations, declared, fail, fields, path_of, reached, text_of
 
 CLAIM = lambda name: ("definition", *CLAIMS, name)
 LAW = lambda name: ("definition", "maps", "Laws", name)
@@ -134,6 +134,14 @@ def to_read(question):
     return "\n".join([*table, *(["", *wrapped(f"Said elsewhere, and so not followed: {told}.")] if told else [])])
 
 
+def circular():
+    """The claims that say what a definition answers in words which rest on that definition."""
+    for place, claim in [*SAID.items(), *(one for some in ACCEPTED.values() for one in some.items())]:
+        for other in cited_by(claim):
+            if other[0] == "definition" and other[1] != "audit" and other[1:] != place and ("definition", *place) in reached([other]):
+                yield f"{claim[3]} says what {place[2]} answers by {other[3]}, which rests on it"
+
+
 def skipped():
     """The table of lines that no reader needs, since what they compute is said elsewhere."""
     followed = reached([CLAIM("Claims")], list(SAID))
@@ -191,7 +199,7 @@ def own_words(files):
         path = path_of(*file)
         code = "\n".join(code_of(line) for line in text_of(path).split("\n"))
         known |= {*brought(path).names, *brought(path).modules, *declarations(*file)}
-        known |= {part for name in brought(path).kit for part in name.split(MIXFIX)}
+        known |= {part for name in (*brought(path).kit, *brought(path).names, *declarations(*file)) for part in name.split(MIXFIX)}
         known.update(re.findall(r"^ +(?:pub )?([^\s():]+)(?: [a-z]\w*)* :", code, re.M))  # fields and constructors
         known.update(re.findall(r"([\w·'-]+) = ", code))  # fields that are given
         for one in declarations(*file).values():
@@ -205,8 +213,8 @@ def language(files):
     known, words = own_words(files), set()
     for file in files:
         for line in map(code_of, text_of(path_of(*file)).split("\n")):
-            if line.startswith("use "):
-                words.update(word for word in ("use", "as", MIXFIX) if word in line)
+            if re.match(r"use |infix", line):
+                words.update({line.split()[0], *(word for word in (" as ", MIXFIX) if word in line)} - {" as "} | ({"as"} if " as " in line else set()))
                 continue
             words.update(sign for sign in "(){};,'·" if sign in line)
             for word in re.split(r"[\s(){};,]+", line):
@@ -219,33 +227,50 @@ def language(files):
     return words
 
 
+def instance(sign, files):
+    """A short line in which a declaration uses a sign, and the declaration, as a row of NOTATION.md ends."""
+    parts = sign.replace("«»", "«").split(" .. ")
+    lines = [(abs(len(line.strip()) - 40), line.strip(), path_of(*file), one.name) for file in files for one in declarations(*file).values()
+             for line in one.code.split("\n") if set(parts) <= set(re.split(r"[\s();,]+", line)) or sign in "(){};,'·." and sign in line]
+    _, line, path, name = min(lines, default=(0, "..", "crates/NAME/specs/FILE.antt", ".."))
+    return f"| `{sign}` | MEANING | `{line}` | {path}:1 ({name}) |".replace("||", "\\|\\|")
+
+
 def explained(text):
-    """Fails where NOTATION.md lacks a sign or word, has one that isn't used, or an example that doesn't stand where it says."""
+    """What is wrong with NOTATION.md: a sign or word that it lacks, one that isn't used, an example that doesn't stand where it says."""
     files = believed()
     wanted = language(files) | {shown(name) for names in kit_words().values() for name in names}
     letters = {letter for file in files for line in text_of(path_of(*file)).split("\n") for letter in code_of(line) if ord(letter) > 127}
     wanted |= letters - set("".join(wanted))
     rows = [(sign.replace("\\|", "|"), example.replace("\\|", "|"), path, name) for _, sign, _, _, example, path, name in ROW.findall(text)]
     signs = [sign for sign, *_ in rows]
+    if len(rows) != len(re.findall(r"^\| `", text, re.M)):
+        yield "a row can't be read"
+    for sign in sorted(wanted - set(signs)):
+        yield f"no row for `{sign}`, which a definition uses, as in {instance(sign, files)}"
+    for sign in sorted(set(signs)):
+        if sign not in wanted or signs.count(sign) > 1:
+            yield f"a row for `{sign}`, which no definition uses, or two"
     for section in re.split(r"^\*\*`", text, flags=re.M)[1:]:
         module = section.split("`")[0]
         for _, sign, *_ in ROW.findall(section):
-            if sign.replace("\\|", "|") not in map(shown, kit_words().get(module, [])):
-                fail(f"{NOTATION}: `{sign}` isn't brought in from {module}")
-    if len(rows) != len(re.findall(r"^\| `", text, re.M)):
-        fail(f"{NOTATION} has a row that can't be read")
-    for sign in sorted(wanted - set(signs)):
-        fail(f"{NOTATION} has no row for `{sign}`, which a definition uses")
-    for sign in signs:
-        if sign not in wanted or signs.count(sign) > 1:
-            fail(f"{NOTATION} has a row for `{sign}`, which no definition uses, or has it twice")
+            if (sign := sign.replace("\\|", "|")) in wanted and sign not in map(shown, kit_words().get(module, [])):
+                yield f"`{sign}` isn't brought in from {module}"
     for sign, example, path, name in rows:
         place = re.fullmatch(r"crates/(\w+)/specs/(\w+)\.antt", path)
+        if sign not in wanted:
+            continue
         if not place or place.groups() not in files:
-            fail(f"{NOTATION} takes its example of `{sign}` from {path}, which no claim reaches")
+            yield f"the example of `{sign}` is taken from {path}, which no claim reaches: {instance(sign, files)}"
+            continue
+        record, _, field = name.partition(".")
+        one = declarations(*place.groups()).get(record)
+        if name and (one is None or field and field not in fields(one)):
+            yield f"the example of `{sign}` is taken from {name}, which {path} doesn't declare: {instance(sign, files)}"
+            continue
         code = declared(*place.groups(), name).code if name else "\n".join(map(code_of, text_of(path).split("\n")))
         if " ".join(example.split()) not in " ".join(code.split()) or not all(part in example for part in sign.replace("«»", "«").split(" .. ")):
-            fail(f"{NOTATION}: `{example}` isn't in {path} ({name or 'anywhere'}), or doesn't show `{sign}`")
+            yield f"the example of `{sign}`, `{example}`, isn't in {path} ({name or 'anywhere'}), or doesn't show it: {instance(sign, files)}"
 
 
 # What is made between two marks `NAME` of AUDIT.md.
@@ -262,6 +287,8 @@ def renewed(page, text):
 
 
 def checked(page, text):
-    """Fails where a page explains what it needn't, or not what it must."""
-    if page == NOTATION:
-        explained(text)
+    """Fails where a page explains what it needn't, or not what it must, or where what is said elsewhere is said by itself."""
+    if page == "docs/AUDIT.md" and (faults := list(circular())):
+        fail("\n".join([f"{page}:", *faults]))
+    if page == NOTATION and (faults := list(explained(text))):
+        fail("\n".join([f"{NOTATION}:", *faults]))

@@ -72,12 +72,20 @@ class Declaration:
         self.code = "\n".join(code_of(line) for line in lines)
 
 
+def is_clause(name, line):
+    """Whether a line begins a clause of that definition: with its name, or with its sign between arguments."""
+    line = line.lstrip()
+    if MIXFIX in name:
+        return bool(re.match(".*? ?" + ".*? ?".join(map(re.escape, filter(None, name.split(MIXFIX)))) + ".* =( |$)", line))
+    return bool(re.match(re.escape(name) + r"(?: [^:]*)?(?: =|$)", line))
+
+
 def commented(lines, k, after):
     """The lines, from the first on and before the last, of what begins at k and of the comment above it; the comment of what comes after isn't its own."""
     first, last = k, after
     while first > 0 and lines[first - 1].lstrip().startswith("--"):
         first -= 1
-    while not lines[last - 1].strip() or lines[last - 1].lstrip().startswith("--") or lines[last - 1].startswith("module _ "):
+    while not lines[last - 1].strip() or lines[last - 1].lstrip().startswith("--") or re.match(r"module _ |infix", lines[last - 1]):
         last -= 1
     return first, last
 
@@ -99,7 +107,7 @@ def declarations(crate, module):
         form = DECLARATION.match(line.removeprefix(depth)) if line.startswith(depth) and not line.startswith(depth + " ") else None
         if form and form[1] != "mod":
             starts.append((k, form[1]))
-        elif line[:1] not in ("", " ", "-", "}") and not re.match(r"use |module _ |pub mod ", line) and not (starts and re.match(re.escape(starts[-1][1]) + r"\b", line)):
+        elif line[:1] not in ("", " ", "-", "}") and not re.match(r"use |module _ |pub mod |infix[lr]? ", line) and not (starts and is_clause(starts[-1][1], line)):
             fail(f"{path}:{k + 1} can't be read: `{line}`")
     found = {}
     for (k, name), after in zip(starts, [*(k for k, _ in starts[1:]), len(lines)]):
@@ -137,8 +145,12 @@ def bound(code):
         names.update(group.split())
     for group in re.findall(r"λ ([^.]+)\. ", code):
         names.update(re.findall(r"[^\s():]+", group.split(" : ")[0]))
-    for left in re.findall(r"^ *\S+ ([^=:→\n]*?) =(?: |$)", code, re.M):
-        names.update(word for word in re.split(r"[\s()]+", left) if word and word[0].islower())
+    for left in re.findall(r"^(.*?) =(?: |$)", code, re.M):
+        if not set(":→{").intersection(left):
+            words = re.split(r"[\s()]+", left.strip())
+            is_sign = any(not re.search(r"\w", word) for word in words if word)  # the name stands between the arguments
+            names.update(word for word in words[0 if is_sign else 1:] if word[:1].islower())
+    names.update(re.findall(r"^ +(\S+) ← ", code, re.M))  # of a step in a `do`
     return names - {"zero", "suc", "true", "false", "pos", "negsuc"}
 
 
@@ -146,7 +158,7 @@ def scopes(declaration):
     """The parts of a declaration in which a name that is bound means the same: each clause, each field, and what stands before these."""
     parts = [[]]
     for line in declaration.code.split("\n"):
-        if re.match(r"  pub \S+ :", line) or re.match(r" *" + re.escape(declaration.name) + r"(?: [^:]*)?(?: =|$)", line):
+        if re.match(r"  pub \S+ :", line) or is_clause(declaration.name, line):
             parts.append([])
         parts[-1].append(line)
     return ["\n".join(part) for part in parts]

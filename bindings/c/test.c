@@ -372,6 +372,57 @@ static void cut_calls(void) {
     free(many), free(all), free(zeros), free(rest);
 }
 
+/* The origins of a list: of each frame what the single call answers, in any order, into room for nine. */
+static void origin_calls(void) {
+    const uint64_t map[15] = {0, 10, 30, 0, 0, 1, 5, 20, 30, 1, 0, 90, 1, 50, 1}, full[5] = {0, 0, MOST, 0, 0};
+    const uint64_t gap[15] = {0, 10, 30, 0, 0, 1, 5, 20, 31, 1, 0, 90, 1, 51, 1}, list[8] = {30, 29, 30, 31, 50, 0, 49, 0}, past[4] = {0, 50, 51, MOST};
+    const int64_t some[3] = {0, -7, 0};
+    const st_origin_record lent = {LENT, LENT, LENT, LENT};
+    st_origin_record found[9];
+    uint64_t *many = malloc(8 * 5 * 1025);
+    int64_t *zeros = calloc(1025, 8);
+#define ORIGINS(list, count, room) st_origins(map, 15, some, 3, list, count, found, room, &x, &at)
+    for (size_t k = 0; k < 9; k++) found[k] = lent;
+
+    REFUSED_AT(ST_NO_ROOM, 0, ORIGINS(list, 8, 7));
+    REFUSED_AT(ST_NO_ROOM, 0, st_origins(map, 15, some, 3, list, 8, NULL, 0, &x, &at));
+    /* the map is tested first, also for an empty list, then the frames, then the room */
+    REFUSED_AT(ST_BAD_ROWS, 0, st_origins(NULL, 0, NULL, 0, NULL, 0, NULL, 0, &x, &at));
+    REFUSED_AT(ST_BAD_ROWS, 0, st_origins(map, 14, some, 3, past, 4, found, 3, &x, &at));
+    REFUSED_AT(ST_BAD_ROWS, 0, st_origins(map, 15, some, 2, past, 4, found, 3, &x, &at));
+    REFUSED_AT(ST_BAD_ROWS, 1, st_origins(gap, 15, some, 3, NULL, 0, NULL, 0, &x, &at));
+    REFUSED_AT(ST_BAD_ROWS, 1, st_origins(gap, 15, some, 3, past, 4, found, 3, &x, &at));
+    REFUSED_AT(ST_PAST_MAP, 2, ORIGINS(past, 4, 9));
+    REFUSED_AT(ST_PAST_MAP, 2, ORIGINS(past, 4, 0));
+    REFUSED_AT(ST_PAST_MAP, 0, ORIGINS(past + 3, 1, 9));
+    REFUSED_AT(ST_PAST_MAP, 1, st_origins(full, 5, some, 1, ((const uint64_t[]){MOST - 1, MOST}), 2, found, 9, &x, &at));
+    ACCEPTED(ORIGINS(NULL, 0, 9));
+    IS(x == 0);
+    ACCEPTED(st_origins(map, 15, some, 3, NULL, 0, NULL, 0, &x, &at));
+    IS(x == 0);
+    for (size_t k = 0; k < 9; k++) IS(memcmp(&found[k], &lent, sizeof lent) == 0);
+
+    ACCEPTED(ORIGINS(list, 8, 9));
+    IS(x == 8 && memcmp(&found[8], &lent, sizeof lent) == 0);
+    IS(found[4].source == 0 && found[4].frame == 90 && found[4].flag == 1 && found[4].shift == 0 && found[6].shift == -7);
+    for (size_t k = 0; k < 8; k++) {
+        ACCEPTED(st_origin(map, 15, some, 3, list[k], &x, &y, &z, &p, &at));
+        IS(found[k].source == x && found[k].frame == y && found[k].flag == z && found[k].shift == p);
+    }
+    ACCEPTED(st_origins(full, 5, some, 1, ((const uint64_t[]){MOST - 1, 0}), 2, found, 2, &x, &at));
+    IS(x == 2 && found[0].frame == MOST - 1 && found[1].frame == 0);
+
+    /* as many rows as a map may have; and one row too many */
+    if (many && zeros) {
+        for (uint64_t k = 0; k < 1025; k++) memcpy(many + 5 * k, (const uint64_t[]){k, 2 * k, 1, k, 0}, 40);
+        ACCEPTED(st_origins(many, 5 * 1024, zeros, 1024, ((const uint64_t[]){0, 1023, 1, 512}), 4, found, 9, &x, &at));
+        IS(x == 4 && found[0].source == 0 && found[1].source == 1023 && found[1].frame == 2046 && found[2].source == 1 && found[3].source == 512);
+        REFUSED_AT(ST_PAST_MAP, 0, st_origins(many, 5 * 1024, zeros, 1024, ((const uint64_t[]){1024}), 1, found, 9, &x, &at));
+        REFUSED_AT(ST_ROWS_DONT_FIT, 0, st_origins(many, 5 * 1025, zeros, 1025, past + 3, 1, found, 0, &x, &at));
+    }
+    free(many), free(zeros);
+}
+
 /* Walks boxes from offset to offset, and into those that hold boxes: how many there are. */
 static int walked(const uint8_t *payload, size_t length) {
     const char *inner[] = {"trak", "mdia", "minf", "stbl"};
@@ -795,6 +846,7 @@ int main(void) {
     record_calls();
     map_calls();
     cut_calls();
+    origin_calls();
     box_calls();
     stop_calls();
     recording_calls();

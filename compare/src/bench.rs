@@ -4,6 +4,7 @@ mod editor;
 mod field;
 mod instructions;
 mod lookups;
+mod origins;
 
 use std::hint::black_box;
 use released::segment_table::{ SegmentTable, TrimSegment, VideoFrameTimes, VideoFrames, reach };
@@ -33,11 +34,11 @@ struct Line {
 #[derive(Clone, Copy, PartialEq)]
 enum Measure { Times(usize), Turns }
 
-/// Measures all, and prints a table; whether every input is accepted, and the check, the lookups over records and of lists, and many cuts are fast enough
+/// Measures all, and prints a table; whether every input is accepted, and the check, the lookups over records, those of lists, the origins of lists, and many cuts are fast enough
 pub fn run(runs: usize) -> bool {
     println!("| call | input | the Rust, µs | library, µs | library / Rust |\n|---|---|---:|---:|---:|");
     let lines = lines(Measure::Times(runs));
-    let fast = !ours::LINKED || check(&lines) & records(&lines) & lookups::fast(&lines, runs) & editor::shares(&lines, runs);
+    let fast = !ours::LINKED || check(&lines) & records(&lines) & lookups::fast(&lines, runs) & origins::fast(&lines, runs) & editor::shares(&lines, runs);
     fast && all_accepted(&lines)
 }
 
@@ -49,7 +50,7 @@ pub fn counted_turns() -> bool { all_accepted(&lines(Measure::Turns)) }
 
 /// Measures every line. The largest inputs are left out where instructions are counted, which takes fifty times as long
 fn lines(measure: Measure) -> Vec<Line> {
-    let cases = small().into_iter().chain(tables()).chain(lookups::lists()).chain(maps());
+    let cases = small().into_iter().chain(tables()).chain(lookups::lists()).chain(maps()).chain(origins::lists());
     let mut lines: Vec<Line> = cases.map(|(input, case)| of_case(input, &case, measure)).collect();
     lines.extend(editor::lines(measure));
     let cases = moovs().into_iter().chain(recordings()).chain(field::inputs(measure != Measure::Turns));
@@ -185,7 +186,7 @@ fn rust_side(case: &Case) -> Work<'_> {
             Box::new(move || { checked(&t); out.clear(); out.extend(t.segments.iter().map(row)); black_box(&out).len() as u64 })
         }
         Case::ValidateNoVideo { .. } => unreachable!("it is never accepted"),
-        Case::Cut { .. } | Case::Join { .. } | Case::Merge { .. } | Case::Origin { .. } => plain_side(case),
+        Case::Cut { .. } | Case::Join { .. } | Case::Merge { .. } | Case::Origin { .. } | Case::Origins { .. } => plain_side(case),
         Case::Cuts { .. } => unreachable!("many cuts are timed beside single ones, in editor.rs"),
     }
 }
@@ -212,6 +213,7 @@ fn plain_side(case: &Case) -> Work<'_> {
         }
         Case::Merge { map, .. } => { let rows = map.rows(); Box::new(move || plain::merge(black_box(&rows), black_box(&mut out)).unwrap() as u64) }
         Case::Origin { map, frame } => { let rows = map.rows(); Box::new(move || plain::origin(black_box(&rows), *frame).unwrap().1) }
+        Case::Origins { map, frames, .. } => origins::plain_side(map, frames),
         _ => unreachable!(),
     }
 }
@@ -223,6 +225,7 @@ fn plain_agrees(case: &Case) -> bool {
         Case::Cut { map, a, b, .. } => plain::cut(&map.rows(), *a, *b, &mut out),
         Case::Join { first, second, .. } => plain::join(&first.rows(), &second.rows(), &mut out),
         Case::Merge { map, .. } => plain::merge(&map.rows(), &mut out),
+        Case::Origins { map, frames, .. } => return origins::plain_agrees(map, frames, &reference::answer(case)),
         _ => return true,
     };
     let answer = reference::answer(case);

@@ -9,16 +9,16 @@ use oracle::segment_table::SegmentTable;
 pub enum Call {
     IsUtcSecond, TicksToUs, Check, SegmentOfFrame, SegmentOfFrameRecords, SegmentOfTimeUs, Continues, RowsOfTable,
     ValidateNoVideo, ValidateConstant, ValidateTimes, BoxSize, Child, FindBox, TableText, VideoFrameTimesOfMoov,
-    McrawTimes, CheckMcraw, Cut, Join, Merge, Origin, Children, SegmentsOfFrames, Cuts,
+    McrawTimes, CheckMcraw, Cut, Join, Merge, Origin, Children, SegmentsOfFrames, Cuts, Origins,
 }
 
 impl Call {
-    pub const ALL: [Call; 25] = [
+    pub const ALL: [Call; 26] = [
         Call::IsUtcSecond, Call::TicksToUs, Call::Check, Call::SegmentOfFrame, Call::SegmentOfFrameRecords,
         Call::SegmentOfTimeUs, Call::Continues, Call::RowsOfTable, Call::ValidateNoVideo, Call::ValidateConstant,
         Call::ValidateTimes, Call::BoxSize, Call::Child, Call::FindBox, Call::TableText, Call::VideoFrameTimesOfMoov,
         Call::McrawTimes, Call::CheckMcraw, Call::Cut, Call::Join, Call::Merge, Call::Origin, Call::Children,
-        Call::SegmentsOfFrames, Call::Cuts,
+        Call::SegmentsOfFrames, Call::Cuts, Call::Origins,
     ];
 
     /// The name of the call, without the library's prefix
@@ -49,6 +49,7 @@ impl Call {
             Call::Join => "join",
             Call::Merge => "merge",
             Call::Origin => "origin",
+            Call::Origins => "origins",
         }
     }
 
@@ -165,6 +166,7 @@ pub enum Case {
     Join { first: Map, second: Map, room: [usize; 2] },
     Merge { map: Map, room: [usize; 2] },
     Origin { map: Map, frame: u64 },
+    Origins { map: Map, frames: Vec<u64>, room: usize },
 }
 
 /// One argument of a case, to be changed, written or read
@@ -216,6 +218,7 @@ impl Case {
             Case::Join { .. } => Call::Join,
             Case::Merge { .. } => Call::Merge,
             Case::Origin { .. } => Call::Origin,
+            Case::Origins { .. } => Call::Origins,
         }
     }
 
@@ -248,6 +251,7 @@ impl Case {
             Call::Join => Case::Join { first: map.clone(), second: map, room: [0; 2] },
             Call::Merge => Case::Merge { map, room: [0; 2] },
             Call::Origin => Case::Origin { map, frame: 0 },
+            Call::Origins => Case::Origins { map, frames: vec![], room: 0 },
         }
     }
 
@@ -285,6 +289,7 @@ impl Case {
             Case::Join { first, second, room } => { parts.extend([Map(first), Map(second)]); room }
             Case::Merge { map, room } => { parts.push(Map(map)); room }
             Case::Origin { map, frame } => { parts.extend([Map(map), Word(frame)]); &mut [] }
+            Case::Origins { map, frames, room } => { parts.extend([Map(map), Words(frames)]); std::slice::from_mut(room) }
         };
         parts.extend(room.iter_mut().map(Room));
         parts
@@ -297,9 +302,9 @@ pub struct Answer {
     pub number: u64,
     pub index: u64,
     pub values: [i128; 4],
-    /// The words of the rows written, or the segments
+    /// The words of the rows written, the segments, or of each origin its source, the frame there and the flag
     pub words: Vec<u64>,
-    /// The starts, or the shifts of the rows written
+    /// The starts, or the shifts of the rows written or of the origins
     pub longs: Vec<i64>,
     /// How many rows each cut has
     pub counts: Vec<u64>,
@@ -350,6 +355,7 @@ pub fn outcome(case: &Case, answer: &Answer) -> Outcome {
             after.counts = lent_words(room[2]);
             after.counts[..answer.counts.len()].copy_from_slice(&answer.counts);
         }
+        Case::Origins { room, .. } => rows(&mut after, answer, &[3 * room, *room]),
         Case::SegmentsOfFrames { room, .. } => {
             after.words = lent_words(*room);
             after.words[..answer.words.len()].copy_from_slice(&answer.words);
@@ -365,7 +371,7 @@ pub fn outcome(case: &Case, answer: &Answer) -> Outcome {
     after
 }
 
-/// The rows' words and shifts, over what was lent
+/// The words and shifts of rows or origins, over what was lent
 fn rows(after: &mut Outcome, answer: &Answer, room: &[usize]) {
     after.words = lent_words(room[0]);
     after.longs[0] = lent_longs(room[1]);

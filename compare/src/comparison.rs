@@ -14,7 +14,7 @@ pub enum Difference {
     Written,
     /// The children that are reached from offset to offset, and the Rust's
     Walk { rust: Vec<Child>, reached: Vec<Child> },
-    /// All cuts together, and each alone, one after the other
+    /// All cuts together, or all origins, and each alone, one after the other
     Alone { reading: Answer, alone: Answer },
 }
 
@@ -49,6 +49,7 @@ pub fn compare(case: &Case) -> Result<Answer, Difference> {
     }
     walked(case)?;
     cut_alone(case, &reading)?;
+    traced_alone(case, &reading)?;
     Ok(reading)
 }
 
@@ -87,6 +88,21 @@ fn cut_alone(case: &Case, reading: &Answer) -> Result<(), Difference> {
         if alone != *reading { return Err(Difference::Alone { reading: reading.clone(), alone }); }
     }
     Ok(())
+}
+
+/// Each frame's origin asked for alone must be the one that it has among all
+fn traced_alone(case: &Case, reading: &Answer) -> Result<(), Difference> {
+    let Case::Origins { map, frames, .. } = case else { return Ok(()) };
+    if reading.number != 0 { return Ok(()); }
+    let mut alone = Answer::of(&[frames.len() as i128]);
+    let mut single = Case::Origin { map: map.clone(), frame: 0 };
+    for asked in frames {
+        if let Case::Origin { frame, .. } = &mut single { *frame = *asked; }
+        let [source, source_frame, flag, shift] = answered(&single).values;
+        alone.words.extend([source, source_frame, flag].map(|word| word as u64));
+        alone.longs.push(shift as i64);
+    }
+    if alone == *reading { Ok(()) } else { Err(Difference::Alone { reading: reading.clone(), alone }) }
 }
 
 /// What the plain Rust says of cuts
@@ -239,7 +255,7 @@ fn turns(call: Call) -> u64 {
         Call::Children => 4_000,
         Call::Child | Call::FindBox | Call::TableText | Call::McrawTimes | Call::Check | Call::ValidateConstant | Call::ValidateTimes | Call::CheckMcraw => 10_000,
         Call::Cut | Call::Join | Call::Merge | Call::Origin => 5_000,
-        Call::Cuts => 3_000,
+        Call::Cuts | Call::Origins => 3_000,
         _ => 2_000,
     }
 }

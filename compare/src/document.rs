@@ -17,7 +17,7 @@ pub fn holds() -> bool {
 }
 
 /// All of them
-pub fn worked() -> Vec<Worked> { [numbers(), table(), lists(), maps(), cuts(), times(), time_lapses(), offsets(), torn(), stopped(), clip(), clip_maps(), exports()].concat() }
+pub fn worked() -> Vec<Worked> { [numbers(), table(), lists(), maps(), cuts(), origins(), times(), time_lapses(), offsets(), torn(), stopped(), clip(), clip_maps(), exports()].concat() }
 
 /// Ticks, ends that are near, and days
 fn numbers() -> Vec<Worked> {
@@ -49,17 +49,26 @@ fn created(time: &[u8]) -> Table {
     table
 }
 
-/// Table T
+/// Table T; T with a gap before its second segment, with its first segment past its source's frames, and with no frames in its
+/// second source
 fn table() -> Vec<Worked> {
     let t = Lent::new(tables::t());
     let time = |time| Case::SegmentOfTimeUs { table: t.clone(), time };
+    let changed = |change: fn(&mut Table)| {
+        let mut table = tables::t();
+        change(&mut table);
+        Case::Check { table: Lent::new(table) }
+    };
     let mut worked = vec![
         (Case::Check { table: t.clone() }, "0 0 50"),
+        (changed(|table| table.segments[8] = 31), "15 1"),
+        (changed(|table| table.segments[1] = 71), "12 0"),
+        (changed(|table| table.sources[10] = 0), "4 1"),
         (time(-5), "0 0 0"),
         (time(1_200_000), "0 0 1"),
         (Case::RowsOfTable { table: t.clone(), room: [10, 2] }, "0 0 2 0 10 30 0 0 1 5 20 30 0 0 0"),
     ];
-    for (frame, answer) in [(29, "0 0 0"), (30, "0 0 1"), (50, "0 0 1")] { worked.extend(looked_up(&t, frame, answer)); }
+    for (frame, answer) in [(29, "0 0 0"), (30, "0 0 1"), (49, "0 0 1"), (50, "0 0 1")] { worked.extend(looked_up(&t, frame, answer)); }
     worked
 }
 
@@ -105,7 +114,7 @@ fn map(rows: &[Shown]) -> Map {
 fn cut(rows: &[Shown], a: u64, b: u64, written: usize) -> Case { Case::Cut { map: map(rows), a, b, room: [5 * written, written] } }
 fn merge(rows: &[Shown], written: usize) -> Case { Case::Merge { map: map(rows), room: [5 * written, written] } }
 
-/// The cuts of T, and what a cut and a merge leave apart
+/// The cuts of T, where a frame of the last comes from, and what a cut and a merge leave apart
 fn maps() -> Vec<Worked> {
     let of_t = [(0, 10, 30, 0, None), (1, 5, 20, 30, None)];
     let continued = [(0, 0, 10, 0, None), (0, 10, 10, 10, None)];
@@ -113,10 +122,31 @@ fn maps() -> Vec<Worked> {
         (cut(&of_t, 25, 40, 2), "0 0 2 0 35 5 0 0 1 5 10 5 0 0 0"),
         (cut(&[(0, 35, 5, 0, None), (1, 5, 10, 5, None)], 3, 8, 2), "0 0 2 0 38 2 0 0 1 5 3 2 0 0 0"),
         (cut(&of_t, 28, 33, 2), "0 0 2 0 38 2 0 0 1 5 3 2 0 0 0"),
+        (Case::Origin { map: map(&[(0, 38, 2, 0, None), (1, 5, 3, 2, None)]), frame: 2 }, "0 0 1 5 0 0"),
         (cut(&continued, 0, 20, 2), "0 0 2 0 0 10 0 0 0 10 10 10 0 0 0"),
         (merge(&continued, 1), "0 0 1 0 0 20 0 0 0"),
         (merge(&[(0, 0, 10, 0, None), (0, 10, 10, 10, Some(0))], 2), "0 0 2 0 0 10 0 0 0 10 10 10 1 0 0"),
         (merge(&[(0, 0, 10, 0, Some(5)), (0, 10, 10, 10, Some(6))], 2), "0 0 2 0 0 10 0 1 0 10 10 10 1 5 6"),
+    ]
+}
+
+/// Lists of frames of T, in no order, none at all, with one past the map before the lack of room, and with room one short; of T with
+/// a gap before its second row; and of the clip, whose second row has a shift
+fn origins() -> Vec<Worked> {
+    let of_t = [(0, 10, 30, 0, None), (1, 5, 20, 30, None)];
+    let gap = [(0, 10, 30, 0, None), (1, 5, 20, 31, None)];
+    let of = |rows: &[Shown], frames: &[u64], room| Case::Origins { map: map(rows), frames: frames.to_vec(), room };
+    vec![
+        (of(&of_t, &[30, 29, 49], 3), "0 0 3 1 5 0 0 39 0 1 24 0 0 0 0"),
+        (of(&of_t, &[0, 0, 30, 0], 4), "0 0 4 0 10 0 0 10 0 1 5 0 0 10 0 0 0 0 0"),
+        (of(&of_t, &[], 0), "0 0 0"),
+        (of(&of_t, &[49, 50, 51], 0), "54 1"),
+        (of(&of_t, &[u64::MAX], 1), "54 0"),
+        (of(&of_t, &[0, 1], 1), "32 0"),
+        (of(&gap, &[], 0), "51 1"),
+        (of(&gap, &[99], 0), "51 1"),
+        (of(&[], &[0], 1), "51 0"),
+        (of(&CLIP, &[0, 39_999, 40_000, 56_200, 108_499], 5), "0 0 5 0 1500 0 0 41499 0 1 12000 1 1 28200 1 2 29999 0 0 0 -1800 -1800 0"),
     ]
 }
 
@@ -150,7 +180,7 @@ fn cuts() -> Vec<Worked> {
     ]
 }
 
-/// M1, M2, moovs whose durations differ, and a recording
+/// M1, M2, moovs whose durations differ, a recording, and timestamps that fall
 fn times() -> Vec<Worked> {
     let moov = |edited| of_three(false, &moovs::in_the_document(edited));
     vec![
@@ -159,6 +189,7 @@ fn times() -> Vec<Worked> {
         (lasting(&[5, 7, 7, 5]), "0 0 4 100 5 24 0 5 12 19"),
         (lasting(&[5, 5, 7, 8, 9]), "0 0 5 100 5 34 0 5 10 17 25"),
         (Case::McrawTimes { timestamps: vec![1000, 1010, 1025], room: [3; 2] }, "0 0 3 1000000000 10 35 0 10 25"),
+        (Case::McrawTimes { timestamps: vec![1, 0], room: [2; 2] }, "34 1"),
     ]
 }
 

@@ -80,8 +80,23 @@ pub fn merge(rows: &[Row], out: &mut Vec<Row>) -> Result<usize, Refused> {
 }
 
 /// The source, the frame there, and the shift's flag and the shift of a frame
-pub fn origin(rows: &[Row], frame: u64) -> Result<(u64, u64, u64, i64), Refused> {
+type Origin = (u64, u64, u64, i64);
+
+pub fn origin(rows: &[Row], frame: u64) -> Result<Origin, Refused> {
     if frame >= frames(rows)? { return Err(Refused::Range); }
+    Ok(origin_in(rows, frame))
+}
+
+fn origin_in(rows: &[Row], frame: u64) -> Origin {
     let row = &rows[row_of(rows, frame)];
-    Ok((row.source, row.source_first + (frame - row.out_first), row.flag, row.shift))
+    (row.source, row.source_first + (frame - row.out_first), row.flag, row.shift)
+}
+
+/// The origin of each frame of a list. The rows are tested once
+pub fn origins(rows: &[Row], list: &[u64], out: &mut Vec<Origin>) -> Result<usize, Refused> {
+    let end = frames(rows)?;
+    if list.iter().any(|frame| *frame >= end) { return Err(Refused::Range); }
+    out.clear();
+    out.extend(list.iter().map(|frame| origin_in(rows, *frame)));
+    Ok(out.len())
 }

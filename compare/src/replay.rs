@@ -4,13 +4,14 @@ use std::{ collections::BTreeMap, fs, io, path::Path, process::exit };
 use crate::{ case::{ Answer, Call, Case, Part }, comparison, document, generate::{ self, tables }, random::Random, rust::{ self, Said, Way }, text };
 
 /// The files, in the order in which they are answered, and the calls of each
-const FILES: [(&str, &[Call]); 6] = [
+const FILES: [(&str, &[Call]); 7] = [
     ("numbers", &[Call::IsUtcSecond, Call::TicksToUs]),
     ("boxes", &[Call::BoxSize, Call::Child, Call::FindBox, Call::TableText, Call::Children]),
     ("maps", &[Call::Cut, Call::Join, Call::Merge, Call::Origin, Call::Cuts]),
     ("times", &[Call::VideoFrameTimesOfMoov, Call::McrawTimes]),
     ("table", &[Call::Check, Call::SegmentOfFrame, Call::SegmentOfTimeUs, Call::Continues, Call::RowsOfTable, Call::SegmentOfFrameRecords, Call::SegmentsOfFrames]),
     ("judge", &[Call::ValidateNoVideo, Call::ValidateConstant, Call::ValidateTimes, Call::CheckMcraw]),
+    ("origins", &[Call::Origins]),
 ];
 
 const SEED: u64 = 9;
@@ -30,7 +31,7 @@ fn wanted(call: Call, way: Option<Way>) -> (usize, usize) {
         Call::VideoFrameTimesOfMoov if way.is_none() => (100, 25),
         Call::VideoFrameTimesOfMoov => (40, 10),
         Call::IsUtcSecond | Call::TicksToUs | Call::BoxSize | Call::Children | Call::Child | Call::FindBox | Call::TableText | Call::McrawTimes => (120, 30),
-        Call::Cut | Call::Join | Call::Merge | Call::Origin | Call::Cuts => (100, 20),
+        Call::Cut | Call::Join | Call::Merge | Call::Origin | Call::Cuts | Call::Origins => (100, 20),
         _ => (40, 3),
     }
 }

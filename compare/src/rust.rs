@@ -87,7 +87,7 @@ fn said(case: &Case) -> Said {
         Case::McrawTimes { timestamps, .. } if outside(timestamps) => Said::Outside,
         Case::McrawTimes { timestamps, .. } => reach::mcraw_times(timestamps).map_or(refused((31, 0)), times),
         Case::CheckMcraw { table, timestamps, .. } => of_table(table, |t| check_mcraw(table, t, timestamps)),
-        Case::Cut { .. } | Case::Join { .. } | Case::Merge { .. } | Case::Origin { .. } | Case::Cuts { .. } => Said::Silent,
+        Case::Cut { .. } | Case::Join { .. } | Case::Merge { .. } | Case::Origin { .. } | Case::Cuts { .. } | Case::Origins { .. } => Said::Silent,
     }
 }
 

@@ -2,7 +2,21 @@
 
 //! The C face itself. `include/segment_table.h` says what each call is lent, writes and refuses.
 
-/// A segment as one record, with its times in microseconds: the Rust's TrimSegment.
+/// Where a frame comes from (RULES 10.2).
+#[repr(C)]
+#[derive(Clone, Copy, Debug, Default, PartialEq, Eq)]
+pub struct Origin {
+    /// The source's number.
+    pub source: u64,
+    /// The frame there.
+    pub frame: u64,
+    /// Whether it has a shift: 1 or 0.
+    pub flag: u64,
+    /// The shift, in ticks of the source's clock, 0 where there is none.
+    pub shift: i64,
+}
+
+/// A segment as one record (RULES 1.6), with its times in microseconds: the Rust's TrimSegment.
 #[repr(C)]
 #[derive(Clone, Copy, Debug, Default, PartialEq, Eq)]
 pub struct TrimSegment {
@@ -70,6 +84,12 @@ extern "C" {
     /// the shift. Lent: a map. Writes source, source_frame, flag, shift, index. Refuses: 51, 52, 54.
     /// A null pointer only with length 0.
     pub fn st_origin(words: *const u64, words_len: usize, shifts: *const i64, shifts_len: usize, frame: u64, source: *mut u64, source_frame: *mut u64, flag: *mut u64, shift: *mut i64, index: *mut u64) -> u64;
+
+    /// Where each frame of a list comes from, in any order: what st_origin answers of it, as one struct a
+    /// frame. The map is tested once, also for an empty list. Lent: a map, the frames, and room for one
+    /// origin a frame. Writes out_origins, written (how many), index. Refuses: 51, 52, 54, 32.
+    /// A null pointer only with length 0; what is written overlaps nothing else, or memory may be corrupted.
+    pub fn st_origins(words: *const u64, words_len: usize, shifts: *const i64, shifts_len: usize, frames: *const u64, frames_len: usize, out_origins: *mut Origin, out_origins_len: usize, written: *mut u64, index: *mut u64) -> u64;
 
     /// Judges a table where its file has no video: it is always refused.
     /// Lent: a table. Writes index. Refuses: 1 to 17, 21.
@@ -200,91 +220,95 @@ extern "C" {
 #[non_exhaustive]
 #[derive(Clone, Copy, Debug, PartialEq, Eq, Hash)]
 pub enum Reason {
-    /// A slice length isn't a multiple of its record, the two segment slices disagree, a flag or
-    /// kind is outside its set, or a present creation time's range leaves the text.
+    /// A slice length is no multiple of its record, the two segment slices disagree, a flag or kind
+    /// is outside its set, or a present creation time's range leaves the text.
     Malformed = 1,
-    /// Over 64 sources or 512 segments.
+    /// There are over 64 sources or over 512 segments.
     OverLimit = 2,
-    /// No sources.
+    /// There are no sources.
     NoSources = 3,
-    /// Source: frames, or either fps number, is 0.
+    /// The source has 0 frames, or a 0 in its frames a second.
     ZeroInSource = 4,
-    /// Source: its creation time fails the UTC rule.
+    /// The source's creation time fails the UTC rule.
     BadDate = 5,
-    /// Source: its clock rate has a 0, or its modulus is 0.
+    /// The source's clock has a 0 in its rate, or the modulus 0.
     BadClock = 6,
-    /// Source: a log is named and it has no clock.
+    /// A log is named, and the source has no clock.
     NoClock = 7,
-    /// No segments.
+    /// There are no segments.
     NoSegments = 8,
-    /// Segment: no such source.
+    /// The segment names no source of the table.
     NoSuchSource = 9,
-    /// Segment: frame count 0.
+    /// The segment's frame count is 0.
     NoFrames = 10,
-    /// Segment: out or source first frame plus count passes 2^64 - 1.
+    /// The segment's out first or source first plus its frame count passes 2^64 - 1.
     FramesWrap = 11,
-    /// Segment: source end past the source's frames.
+    /// The segment's source first plus its frame count passes its source's frames.
     PastSource = 12,
-    /// Segment: any of the six times negative.
+    /// One of the segment's six times is below 0.
     NegativeTime = 13,
-    /// Segment: a start plus its duration passes 2^63 - 1; that is source start plus duration or the
-    /// capture pair, or, tested after 16, out start plus duration or its capture pair.
+    /// One of the segment's starts plus its duration passes 2^63 - 1; that is source start plus
+    /// duration or the capture pair, or, tested after 16, out start plus duration or its capture
+    /// pair.
     TooLate = 14,
-    /// Segment: out first frame isn't the end before (0 for the first).
+    /// The segment's out first isn't where the frames before it end; 0 for the first.
     FrameGap = 15,
-    /// Segment: out start or out capture start isn't the end before; the first is free.
+    /// The segment's out start or out capture start isn't where the times before it end; those of
+    /// the first are free.
     TimeGap = 16,
-    /// Segment: shift without clock, clock without shift, or a modulus with shift outside
-    /// 0..modulus.
+    /// The segment has a shift and no clock, a clock and no shift, or a shift outside its clock's
+    /// modulus.
     BadShift = 17,
-    /// A rate number or timescale over 4,294,967,295, or over 16,777,216 starts.
+    /// A rate number or timescale is over 4,294,967,295, or there are over 16,777,216 starts.
     TooLarge = 20,
-    /// No video given.
+    /// No video is given.
     NoVideo = 21,
-    /// Last out end isn't the video's frame count.
+    /// The table's frames aren't as many as the video's.
     OtherFrameCount = 22,
-    /// A time can't be had: scale 0, or outside 64 bits; of a table, a segment's frame time.
+    /// A time can't be had: its scale is 0, or it is outside 64 bits; of a table, the time of a
+    /// segment's first frame.
     NoFrameTime = 23,
-    /// A segment's frame time differs from out start.
+    /// The segment's out start isn't its first frame's time.
     OtherFrameTime = 24,
     /// The table's end isn't near the video's; that is |2 end_us scale - 2 end 1,000,000| over 2
     /// nominal 1,000,000 + scale, where end_us is the last segment's out start plus duration; the
     /// nominal of a constant video is its denominator, and its scale the numerator.
     EndNotNear = 25,
-    /// Over 16,777,216 bytes or timestamps.
+    /// Over 16,777,216 bytes or timestamps are lent.
     TooLong = 30,
     /// Missing: the boxes end without the one that is looked for, no size is whole and fits, or no
     /// frame times can be had; boxes end where fewer than 8 bytes are left; the size is that of
     /// `box_size`.
     Missing = 31,
-    /// Lent room too small; of `cut`, `cuts`, `join` and `merge` that is 52.
+    /// Too little room is lent; of `cut`, `cuts`, `join` and `merge` that is 52.
     NoRoom = 32,
-    /// A start, span or end outside 64 bits.
+    /// A start, a span or an end is outside 64 bits.
     Outside = 33,
-    /// Timestamps not ascending (equal neighbours are allowed).
+    /// The timestamps fall; equal neighbours don't.
     Falling = 34,
-    /// Recording whose frame times can't be had: no frames, or a nominal interval of 0.
+    /// The recording has no frame times: no frames, or a nominal interval of 0.
     NoRecordingTimes = 35,
     /// Broken: before what is looked for stands a broken box header, at the index; its size isn't
-    /// whole or doesn't fit, or, of `find_box` with text_types, its type has a byte outside 20..7E
+    /// whole or doesn't fit, or, of `find_box` with text_types, its type has a byte outside 20 to 7E
     /// hex.
     Broken = 36,
-    /// No MTRM box: no moov, no udta in it, or none in that.
+    /// The file has no MTRM box: no moov, no udta in it, or none in that.
     NoTable = 40,
-    /// More than one MTRM box.
+    /// The file has more than one MTRM box.
     SeveralTables = 41,
-    /// A search range outside the bytes, or starting past its end; an offset past the bytes.
+    /// A search range lies outside the bytes, or starts past its end, or an offset lies past the
+    /// bytes.
     BadSearch = 42,
-    /// Cut range: a >= b, or b past the map; of many cuts also an odd number of words.
+    /// A cut's range has no frames, or ends past the map; of many cuts also a range without its end.
     BadRange = 50,
-    /// Map rows malformed, slice lengths that disagree, or no rows.
+    /// A map's rows aren't well formed, slice lengths disagree, or there are no rows.
     BadRows = 51,
-    /// Over 1,024 rows in or out (all cuts of one call together may have more), or lent room too
-    /// small.
+    /// A map has, or would have, over 1,024 rows, or too little room is lent for rows; all cuts of
+    /// one call together may have more.
     RowsDontFit = 52,
-    /// Joined frames pass 2^64 - 1.
+    /// The frames of both maps together pass 2^64 - 1.
     JoinWraps = 53,
-    /// Frame past the map.
+    /// A frame lies past the map.
     PastMap = 54,
 }
 
@@ -293,44 +317,44 @@ impl Reason {
     #[must_use]
     pub const fn words(self) -> &'static str {
         match self {
-            Reason::Malformed => "a slice length isn't a multiple of its record, the two segment slices disagree, a flag or kind is outside its set, or a present creation time's range leaves the text",
-            Reason::OverLimit => "over 64 sources or 512 segments",
-            Reason::NoSources => "no sources",
-            Reason::ZeroInSource => "source: frames, or either fps number, is 0",
-            Reason::BadDate => "source: its creation time fails the UTC rule",
-            Reason::BadClock => "source: its clock rate has a 0, or its modulus is 0",
-            Reason::NoClock => "source: a log is named and it has no clock",
-            Reason::NoSegments => "no segments",
-            Reason::NoSuchSource => "segment: no such source",
-            Reason::NoFrames => "segment: frame count 0",
-            Reason::FramesWrap => "segment: out or source first frame plus count passes 2^64 - 1",
-            Reason::PastSource => "segment: source end past the source's frames",
-            Reason::NegativeTime => "segment: any of the six times negative",
-            Reason::TooLate => "segment: a start plus its duration passes 2^63 - 1",
-            Reason::FrameGap => "segment: out first frame isn't the end before (0 for the first)",
-            Reason::TimeGap => "segment: out start or out capture start isn't the end before; the first is free",
-            Reason::BadShift => "segment: shift without clock, clock without shift, or a modulus with shift outside 0..modulus",
-            Reason::TooLarge => "a rate number or timescale over 4,294,967,295, or over 16,777,216 starts",
-            Reason::NoVideo => "no video given",
-            Reason::OtherFrameCount => "last out end isn't the video's frame count",
-            Reason::NoFrameTime => "a time can't be had: scale 0, or outside 64 bits; of a table, a segment's frame time",
-            Reason::OtherFrameTime => "a segment's frame time differs from out start",
+            Reason::Malformed => "a slice length is no multiple of its record, the two segment slices disagree, a flag or kind is outside its set, or a present creation time's range leaves the text",
+            Reason::OverLimit => "there are over 64 sources or over 512 segments",
+            Reason::NoSources => "there are no sources",
+            Reason::ZeroInSource => "the source has 0 frames, or a 0 in its frames a second",
+            Reason::BadDate => "the source's creation time fails the UTC rule",
+            Reason::BadClock => "the source's clock has a 0 in its rate, or the modulus 0",
+            Reason::NoClock => "a log is named, and the source has no clock",
+            Reason::NoSegments => "there are no segments",
+            Reason::NoSuchSource => "the segment names no source of the table",
+            Reason::NoFrames => "the segment's frame count is 0",
+            Reason::FramesWrap => "the segment's out first or source first plus its frame count passes 2^64 - 1",
+            Reason::PastSource => "the segment's source first plus its frame count passes its source's frames",
+            Reason::NegativeTime => "one of the segment's six times is below 0",
+            Reason::TooLate => "one of the segment's starts plus its duration passes 2^63 - 1",
+            Reason::FrameGap => "the segment's out first isn't where the frames before it end",
+            Reason::TimeGap => "the segment's out start or out capture start isn't where the times before it end",
+            Reason::BadShift => "the segment has a shift and no clock, a clock and no shift, or a shift outside its clock's modulus",
+            Reason::TooLarge => "a rate number or timescale is over 4,294,967,295, or there are over 16,777,216 starts",
+            Reason::NoVideo => "no video is given",
+            Reason::OtherFrameCount => "the table's frames aren't as many as the video's",
+            Reason::NoFrameTime => "a time can't be had: its scale is 0, or it is outside 64 bits",
+            Reason::OtherFrameTime => "the segment's out start isn't its first frame's time",
             Reason::EndNotNear => "the table's end isn't near the video's",
-            Reason::TooLong => "over 16,777,216 bytes or timestamps",
+            Reason::TooLong => "over 16,777,216 bytes or timestamps are lent",
             Reason::Missing => "missing: the boxes end without the one that is looked for, no size is whole and fits, or no frame times can be had",
-            Reason::NoRoom => "lent room too small",
-            Reason::Outside => "a start, span or end outside 64 bits",
-            Reason::Falling => "timestamps not ascending (equal neighbours are allowed)",
-            Reason::NoRecordingTimes => "recording whose frame times can't be had: no frames, or a nominal interval of 0",
+            Reason::NoRoom => "too little room is lent",
+            Reason::Outside => "a start, a span or an end is outside 64 bits",
+            Reason::Falling => "the timestamps fall",
+            Reason::NoRecordingTimes => "the recording has no frame times: no frames, or a nominal interval of 0",
             Reason::Broken => "broken: before what is looked for stands a broken box header, at the index",
-            Reason::NoTable => "no MTRM box: no moov, no udta in it, or none in that",
-            Reason::SeveralTables => "more than one MTRM box",
-            Reason::BadSearch => "a search range outside the bytes, or starting past its end; an offset past the bytes",
-            Reason::BadRange => "cut range: a >= b, or b past the map; of many cuts also an odd number of words",
-            Reason::BadRows => "map rows malformed, slice lengths that disagree, or no rows",
-            Reason::RowsDontFit => "over 1,024 rows in or out (all cuts of one call together may have more), or lent room too small",
-            Reason::JoinWraps => "joined frames pass 2^64 - 1",
-            Reason::PastMap => "frame past the map",
+            Reason::NoTable => "the file has no MTRM box: no moov, no udta in it, or none in that",
+            Reason::SeveralTables => "the file has more than one MTRM box",
+            Reason::BadSearch => "a search range lies outside the bytes, or starts past its end, or an offset lies past the bytes",
+            Reason::BadRange => "a cut's range has no frames, or ends past the map; of many cuts also a range without its end",
+            Reason::BadRows => "a map's rows aren't well formed, slice lengths disagree, or there are no rows",
+            Reason::RowsDontFit => "a map has, or would have, over 1,024 rows, or too little room is lent for rows",
+            Reason::JoinWraps => "the frames of both maps together pass 2^64 - 1",
+            Reason::PastMap => "a frame lies past the map",
         }
     }
 }

@@ -197,6 +197,42 @@ impl FrameMap {
         };
         answer(number, index, Origin { source, frame: at, shift: (flag == 1).then_some(shift) })
     }
+
+    /// Where each frame of a list comes from, in any order: what [`FrameMap::origin`] gives of it. The rows are tested once, and a
+    /// frame in the row of the one before it, or in the next one, isn't searched for. Refuses 54 (index: the first frame past the
+    /// map, by its number in the list).
+    ///
+    /// ```
+    /// # use segment_table::{FrameMap, Row};
+    /// # let first = Row { source: 0, source_first: 10, count: 30, out_first: 0, shift: None };
+    /// # let map = FrameMap::new(&[first, Row { source: 1, source_first: 5, count: 20, out_first: 30, shift: None }])?;
+    /// // the frames around the join of two clips
+    /// let origins = map.origins(&[28, 29, 30, 31])?;
+    /// assert_eq!(origins.iter().map(|origin| (origin.source, origin.frame)).collect::<Vec<_>>(), [(0, 38), (0, 39), (1, 5), (1, 6)]);
+    /// assert_eq!(origins[2], map.origin(30)?);
+    ///
+    /// let refusal = map.origins(&[0, 49, 50, 51]).unwrap_err();
+    /// assert_eq!((refusal.number, refusal.index), (54, 2));
+    /// # Ok::<(), segment_table::Refusal>(())
+    /// ```
+    pub fn origins(&self, frames: &[u64]) -> Result<Vec<Origin>, Refusal> {
+        let mut found = vec![ffi::Origin::default(); frames.len()];
+        let (mut written, mut index) = (0, 0);
+        let number = unsafe {
+            ffi::st_origins(
+                self.words.as_ptr(), self.words.len(), self.shifts.as_ptr(), self.shifts.len(), frames.as_ptr(), frames.len(),
+                found.as_mut_ptr(), found.len(), &mut written, &mut index,
+            )
+        };
+        answer(number, index, ())?;
+        Ok(found.into_iter().map(Origin::from).collect())
+    }
+}
+
+impl From<ffi::Origin> for Origin {
+    fn from(found: ffi::Origin) -> Origin {
+        Origin { source: found.source, frame: found.frame, shift: (found.flag == 1).then_some(found.shift) }
+    }
 }
 
 /// How many rows have frames of a range that is a cut, by the first frame of each row: those that start before the range's end, but

@@ -84,10 +84,10 @@ pub fn fixed(emit: Emit) {
     for n in [1, 2, 511, 512, 513, MOST_ROWS - 1, MOST_ROWS, MOST_ROWS + 1] { many_rows(&well_formed(&mut r, n), emit); }
 }
 
-fn one_row(count: u64) -> Map { Map { words: vec![3, 0, count, 0, 1], shifts: vec![-7] } }
+pub(super) fn one_row(count: u64) -> Map { Map { words: vec![3, 0, count, 0, 1], shifts: vec![-7] } }
 
 /// Two rows that have as many frames as can be
-fn greatest() -> Map { Map { words: vec![0, 0, 1 << 63, 0, 0, 1, 9, (1 << 63) - 1, 1 << 63, 1], shifts: vec![0, i64::MIN] } }
+pub(super) fn greatest() -> Map { Map { words: vec![0, 0, 1 << 63, 0, 0, 1, 9, (1 << 63) - 1, 1 << 63, 1], shifts: vec![0, i64::MIN] } }
 
 /// The frames at the ends of a map's rows, and one beside each; the first and the greatest
 fn around(map: &Map) -> Vec<u64> {

@@ -6,18 +6,18 @@ use crate::{ case::{ Case, Lent, Table }, random::Random };
 
 /// One list of frames of a table
 pub fn asked(r: &mut Random, lent: &Rc<Lent>, k: usize, emit: Emit) {
-    let frames = frames(r, &lent.table, k);
+    let frames = frames(r, &lent.table.segments, k);
     let room = room(r, frames.len());
     emit(Case::SegmentsOfFrames { table: lent.clone(), frames, room });
 }
 
-/// Up to a few hundred frames: over the whole table in either direction, one of them somewhere else, or in no order; by equal
+/// Up to a few hundred frames of segments, or of the rows of a map: over all of them in either direction, one of them somewhere else, or in no order; by equal
 /// steps; of segment k alone; from end to end of segments; any words
-fn frames(r: &mut Random, table: &Table, k: usize) -> Vec<u64> {
+pub(super) fn frames(r: &mut Random, segments: &[u64], k: usize) -> Vec<u64> {
     let n = match r.below(24) { 0..=16 => 2 + r.size(14), 17..=20 => r.size(65), 21 => r.size(400), 22 => 1, _ => 0 };
-    let ends: Vec<u64> = table.segments.chunks_exact(5).map(|w| w[3].wrapping_add(w[2])).collect();
+    let ends: Vec<u64> = segments.chunks_exact(5).map(|w| w[3].wrapping_add(w[2])).collect();
     let total = ends.last().copied().unwrap_or(0);
-    let (first, count) = table.segments.get(k * 5..k * 5 + 5).map_or((0, 0), |w| (w[3], w[2]));
+    let (first, count) = segments.get(k * 5..k * 5 + 5).map_or((0, 0), |w| (w[3], w[2]));
     let from = r.below(total);
     let step = r.pick(&[1, 1, 2, count, total / n.max(1) as u64]);
     let kind = r.below(10);
@@ -45,7 +45,7 @@ fn near(r: &mut Random, ends: &[u64]) -> u64 {
 /// each refusal
 pub fn fixed(emit: Emit) {
     for table in [t(), with_segments(1), with_segments(3), with_segments(512), greatest()].map(Lent::new) {
-        let frames = around(&table.table);
+        let frames = around(&table.table.segments);
         for list in every_list(&frames) { in_rooms(&table, &list, emit); }
     }
     for table in [t(), with_segments(512)].map(Lent::new) { every_frame(&table, emit); }
@@ -60,10 +60,10 @@ fn greatest() -> Table {
     table
 }
 
-/// The frames around the ends of a table's first, middle and last segment, the first frame and the greatest
-fn around(table: &Table) -> Vec<u64> {
-    let n = table.segments.len() / 5;
-    let ends = [0, n / 2, n - 1].map(|k| table.segments[k * 5 + 3] + table.segments[k * 5 + 2]);
+/// The frames around the ends of the first, the middle and the last segment, the first frame and the greatest
+pub(super) fn around(segments: &[u64]) -> Vec<u64> {
+    let n = segments.len() / 5;
+    let ends = [0, n / 2, n - 1].map(|k| segments[k * 5 + 3] + segments[k * 5 + 2]);
     let mut frames: Vec<u64> = ends.iter().flat_map(|end| [end - 1, *end, end.saturating_add(1)]).chain([0, u64::MAX]).collect();
     frames.sort();
     frames.dedup();
@@ -71,7 +71,7 @@ fn around(table: &Table) -> Vec<u64> {
 }
 
 /// Every list of up to three of these frames: in both directions, and with equal ones
-fn every_list(frames: &[u64]) -> impl Iterator<Item = Vec<u64>> + '_ {
+pub(super) fn every_list(frames: &[u64]) -> impl Iterator<Item = Vec<u64>> + '_ {
     let of = frames.len();
     let list = move |n: u32, k: usize| (0..n).map(|i| frames[k / of.pow(i) % of]).collect();
     (0..=3).flat_map(move |n| (0..of.pow(n)).map(move |k| list(n, k)))
@@ -85,14 +85,13 @@ fn in_rooms(table: &Rc<Lent>, frames: &[u64], emit: Emit) {
 
 /// All frames of a table and some past it, ascending, descending and by great steps, each once, twice and ten times
 fn every_frame(table: &Rc<Lent>, emit: Emit) {
-    let n = table.table.segments.len() as u64 / 5 + 61;
+    for frames in all_of(table.table.segments.len() as u64 / 5 + 61) { in_rooms(table, &frames, emit); }
+}
+
+/// The first `n` frames, ascending, descending and by great steps, each once, twice and ten times
+pub(super) fn all_of(n: u64) -> impl Iterator<Item = Vec<u64>> {
     let orders: [fn(u64, u64) -> u64; 3] = [|k, _| k, |k, n| n - 1 - k, |k, n| k * 47 % n];
-    for order in orders {
-        for times in [1, 2, 10] {
-            let frames: Vec<u64> = (0..n * times).map(|k| order(k / times, n)).collect();
-            in_rooms(table, &frames, emit);
-        }
-    }
+    orders.into_iter().flat_map(move |order| [1, 2, 10].map(|times| (0..n * times).map(|k| order(k / times, n)).collect()))
 }
 
 /// Each refusal of a table, with frames and without, with room and with too little: 32 never comes before it

@@ -128,6 +128,7 @@ pub fn fixed(call: Call, emit: Emit) {
                     Call::Cut => Case::Cut { map: map.clone(), a, b, room },
                     Call::Join => Case::Join { first: map.clone(), second, room },
                     Call::Merge => Case::Merge { map: map.clone(), room },
+                    Call::Origins => Case::Origins { map: map.clone(), frames: vec![0, a, b - 1, a], room: 4 },
                     _ => Case::Origin { map: map.clone(), frame: a },
                 });
             }
@@ -137,6 +138,7 @@ pub fn fixed(call: Call, emit: Emit) {
         match call {
             Call::Cut => emit(Case::Cut { map: t(), a, b, room: [10, 2] }),
             Call::Origin => emit(Case::Origin { map: t(), frame: a }),
+            Call::Origins => emit(Case::Origins { map: t(), frames: vec![a, b], room: 2 }),
             _ => {}
         }
     }
@@ -155,6 +157,7 @@ fn small_maps(call: Call, emit: Emit) {
                 Call::Cut => emit(Case::Cut { map, a: first % 3, b: 1 + second % 4, room }),
                 Call::Join => emit(Case::Join { first: map.clone(), second: map, room: [room[0] * 2, room[1] * 2] }),
                 Call::Merge => emit(Case::Merge { map, room }),
+                Call::Origins => emit(Case::Origins { map, frames: vec![first % 5, second % 5, first % 2], room: room[1] + 1 }),
                 _ => emit(Case::Origin { map, frame: first % 5 }),
             }
         }

@@ -10,6 +10,7 @@ pub mod maps;
 pub mod moovs;
 pub mod numbers;
 pub mod offsets;
+mod origins;
 pub mod recordings;
 pub mod tables;
 pub mod videos;
@@ -35,6 +36,7 @@ pub fn fixed(call: Call, emit: Emit) {
         Call::ValidateConstant => videos::near_in_the_document(emit),
         Call::Cut | Call::Join | Call::Merge | Call::Origin => maps::fixed(call, emit),
         Call::Cuts => cuts::fixed(emit),
+        Call::Origins => { maps::fixed(call, emit); origins::fixed(emit) }
         Call::ValidateTimes | Call::CheckMcraw => {}
     }
     limit::cases(call, emit);
@@ -59,6 +61,7 @@ pub fn random(call: Call, r: &mut Random, emit: Emit) {
             | Call::RowsOfTable | Call::ValidateNoVideo | Call::SegmentsOfFrames => tables::cases(call, r, emit),
         Call::Cut | Call::Join | Call::Merge | Call::Origin => maps::cases(call, r, emit),
         Call::Cuts => cuts::cases(r, emit),
+        Call::Origins => origins::cases(r, emit),
     }
 }
 

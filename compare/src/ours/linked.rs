@@ -47,6 +47,12 @@ fn records(table: &Table) -> Option<Vec<TrimSegment>> {
     }).collect())
 }
 
+/// Room for so many origins
+fn origins(len: usize) -> Vec<Origin> {
+    let of = |(w, shift): (&[u64], i64)| Origin { source: w[0], frame: w[1], flag: w[2], shift };
+    lent_words(3 * len).chunks(3).zip(lent_longs(len)).map(of).collect()
+}
+
 /// A call of the library with all that is lent to it
 pub type Ready<'a> = Box<dyn FnMut() -> u64 + 'a>;
 
@@ -60,13 +66,14 @@ pub struct Lent {
     longs: [Vec<i64>; 3],
     counts: Vec<u64>,
     records: Vec<TrimSegment>,
+    origins: Vec<Origin>,
 }
 
 impl Lent {
     /// What is lent for a case; none for a case that can't be put to the library
     pub fn of(case: &Case) -> Option<Self> {
         let (value, none) = (LENT_VALUE, [vec![], vec![], vec![]]);
-        let mut lent = Self { kind: value as u32, u: [value; 3], i: [value as i64; 2], index: value, words: vec![], longs: none, counts: vec![], records: vec![] };
+        let mut lent = Self { kind: value as u32, u: [value; 3], i: [value as i64; 2], index: value, words: vec![], longs: none, counts: vec![], records: vec![], origins: vec![] };
         let rooms: &[usize] = match case {
             Case::RowsOfTable { room, .. } | Case::Cut { room, .. } | Case::Join { room, .. } | Case::Merge { room, .. } => {
                 lent.words = lent_words(room[0]);
@@ -78,6 +85,7 @@ impl Lent {
                 &room[1..2]
             }
             Case::SegmentsOfFrames { room, .. } => { lent.words = lent_words(*room); &[] }
+            Case::Origins { room, .. } => { lent.origins = origins(*room); &[] }
             Case::McrawTimes { room, .. } | Case::CheckMcraw { room, .. } => room,
             Case::VideoFrameTimesOfMoov { room, .. } => room,
             _ => &[],
@@ -96,7 +104,7 @@ impl Lent {
             Case::Check { .. } | Case::SegmentOfFrame { .. } | Case::SegmentOfFrameRecords { .. } | Case::SegmentOfTimeUs { .. }
                 | Case::Continues { .. } | Case::RowsOfTable { .. } | Case::SegmentsOfFrames { .. } => self.of_table(case),
             Case::ValidateNoVideo { .. } | Case::ValidateConstant { .. } | Case::ValidateTimes { .. } | Case::CheckMcraw { .. } => self.of_judge(case),
-            Case::Cut { .. } | Case::Join { .. } | Case::Merge { .. } | Case::Origin { .. } | Case::Cuts { .. } => self.of_maps(case),
+            Case::Cut { .. } | Case::Join { .. } | Case::Merge { .. } | Case::Origin { .. } | Case::Cuts { .. } | Case::Origins { .. } => self.of_maps(case),
             _ => self.of_the_rest(case),
         }
     }
@@ -139,7 +147,7 @@ impl Lent {
 
     fn of_maps<'a>(&'a mut self, case: &'a Case) -> Ready<'a> {
         let ([value, source_frame, flag], [shift, _], index) = (&mut self.u, &mut self.i, &mut self.index);
-        let (words, shifts, counts) = (&mut self.words, &mut self.longs[0], &mut self.counts);
+        let (words, shifts, counts, origins) = (&mut self.words, &mut self.longs[0], &mut self.counts, &mut self.origins);
         let (room, more) = (words.len(), shifts.len());
         let (words, shifts) = (mut_ptr(words), mut_ptr(shifts));
         match case {
@@ -152,6 +160,7 @@ impl Lent {
             }),
             Case::Merge { map, .. } => Box::new(move || with_map!(st_merge, map, words, room, shifts, more, value, index)),
             Case::Origin { map, frame } => Box::new(move || with_map!(st_origin, map, *frame, value, source_frame, flag, shift, index)),
+            Case::Origins { map, frames, .. } => Box::new(move || with_map!(st_origins, map, ptr(frames), frames.len(), mut_ptr(origins), origins.len(), value, index)),
             _ => unreachable!(),
         }
     }
@@ -194,6 +203,10 @@ impl Lent {
         };
         let mut after = Outcome { number, index: if call.refuses() { self.index } else { 0 }, words: self.words, longs: self.longs, counts: self.counts, ..Outcome::default() };
         after.values[..call.values()].copy_from_slice(&values[..call.values()]);
+        if call == Call::Origins {
+            after.words = self.origins.iter().flat_map(|o| [o.source, o.frame, o.flag]).collect();
+            after.longs[0] = self.origins.iter().map(|o| o.shift).collect();
+        }
         after
     }
 }

@@ -1,4 +1,4 @@
-//! Frame maps: cut, cuts, join, merge and origin, with their refusals.
+//! Frame maps: cut, cuts, join, merge, origin and origins, with their refusals.
 
 use super::Refusal;
 use crate::case::{ Answer, Map, Row };
@@ -114,7 +114,21 @@ pub fn merge_rows(rows: Vec<Row>) -> Vec<Row> {
 pub fn origin(map: &Map, frame: u64) -> Result<Answer, Refusal> {
     let (rows, frames) = taken(map)?;
     if frame >= frames { return Err((54, 0)); }
+    let ([source, source_frame, flag], shift) = origin_in(&rows, frame);
+    Ok(Answer::of(&[source as i128, source_frame as i128, flag as i128, shift as i128]))
+}
+
+/// The origin of a frame that the rows have: the source, the frame there and the flag, and the shift
+fn origin_in(rows: &[Row], frame: u64) -> ([u64; 3], i64) {
     let row = rows.iter().find(|r| r.out_first <= frame && frame < r.end()).unwrap();
-    let source_frame = row.source_first + (frame - row.out_first);
-    Ok(Answer::of(&[row.source as i128, source_frame as i128, row.flag as i128, row.shift as i128]))
+    ([row.source, row.source_first + (frame - row.out_first), row.flag], row.shift)
+}
+
+/// The origin of each frame. The frames are tested before the room: 54 with the number of the first past the map, then 32
+pub fn origins(map: &Map, frames: &[u64], room: usize) -> Result<Answer, Refusal> {
+    let (rows, end) = taken(map)?;
+    if let Some(k) = frames.iter().position(|frame| *frame >= end) { return Err((54, k as u64)); }
+    if frames.len() > room { return Err((32, 0)); }
+    let (words, longs): (Vec<[u64; 3]>, Vec<i64>) = frames.iter().map(|frame| origin_in(&rows, *frame)).unzip();
+    Ok(Answer { words: words.concat(), longs, ..Answer::of(&[frames.len() as i128]) })
 }

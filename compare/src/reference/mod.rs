@@ -60,6 +60,7 @@ fn answered(case: &Case) -> Result<Answer, Refusal> {
         Case::Join { first, second, room } => maps::join(first, second, room)?,
         Case::Merge { map, room } => maps::merge(map, room)?,
         Case::Origin { map, frame } => maps::origin(map, *frame)?,
+        Case::Origins { map, frames, room } => maps::origins(map, frames, *room)?,
     })
 }
 

@@ -35,6 +35,7 @@ audited by = record {
   laws = by.laws;
   demands = by.demands;
   many_cuts = by.cuts;
+  many_origins = by.origins;
   refusals = right by;
   differing = differing by;
   each_frame = each_frame;

@@ -21,6 +21,8 @@ use Rattle.segment_table.proofs.cutting.st_merge.Symbol as st-merge·symbol
 use Rattle.segment_table.proofs.cutting.st_merge.Met as st-merge·met
 use Rattle.segment_table.proofs.cutting.st_origin.Symbol as st-origin·symbol
 use Rattle.segment_table.proofs.cutting.st_origin.Met as st-origin·met
+use Rattle.segment_table.proofs.cutting.st_origins.Symbol as st-origins·symbol
+use Rattle.segment_table.proofs.cutting.st_origins.Met as st-origins·met
 use Rattle.segment_table.proofs.judging.st_validate_no_video.Symbol as st-validate-no-video·symbol
 use Rattle.segment_table.proofs.judging.st_validate_no_video.Met as st-validate-no-video·met
 use Rattle.segment_table.proofs.judging.st_validate_constant.Symbol as st-validate-constant·symbol
@@ -79,6 +81,9 @@ module _ {M : Type 1} (𝓤 : Ura M) (𝓛 : Logic 𝓤) (𝓜 : Model 𝓤 𝓛
 
   pub st-origin-quoted : Wired 𝓡.env st-origin·symbol.code → Meets 𝓛 calls.st-origin.types.signature (𝓡.run (𝓡.env st-origin·symbol.name)) (promised calls.st-origin 𝓛)
   st-origin-quoted = st-origin·met.met 𝓤 𝓛 𝓜 𝓡
+
+  pub st-origins-quoted : Wired 𝓡.env st-origins·symbol.code → Meets 𝓛 calls.st-origins.types.signature (𝓡.run (𝓡.env st-origins·symbol.name)) (promised calls.st-origins 𝓛)
+  st-origins-quoted = st-origins·met.met 𝓤 𝓛 𝓜 𝓡
 
   pub st-validate-no-video-quoted : Wired 𝓡.env st-validate-no-video·symbol.code → Meets 𝓛 calls.st-validate-no-video.types.signature (𝓡.run (𝓡.env st-validate-no-video·symbol.name)) (promised calls.st-validate-no-video 𝓛)
   st-validate-no-video-quoted = st-validate-no-video·met.met 𝓤 𝓛 𝓜 𝓡

@@ -24,6 +24,7 @@ faced = record {
   st-join = λ κs a. record { the = record { result = _; last = _ }; said = record { told = refl; words = refl; shifts = refl }; only = λ e p i. record { result = (p.told i).0; last = (tt, (tt, (tt, (tt, (p.words i, (p.shifts i, ((p.told i).1, ((p.told i).2, tt)))))))) } };
   st-merge = λ κs a. record { the = record { result = _; last = _ }; said = record { told = refl; words = refl; shifts = refl }; only = λ e p i. record { result = (p.told i).0; last = (tt, (tt, (p.words i, (p.shifts i, ((p.told i).1, ((p.told i).2, tt)))))) } };
   st-origin = λ κs a. record { the = record { result = _; last = _ }; said = refl; only = λ e p i. record { result = (p i).0; last = (tt, (tt, (tt, ((p i).1.0, ((p i).1.1, ((p i).1.2, ((p i).1.3, ((p i).2, tt)))))))) } };
+  st-origins = λ κs a. record { the = record { result = _; last = _ }; said = record { told = refl; origins = refl }; only = λ e p i. record { result = (p.told i).0; last = (tt, (tt, (tt, (p.origins i, ((p.told i).1, ((p.told i).2, tt)))))) } };
   st-box-size = λ κs a. record { the = record { result = _; last = _ }; said = refl; only = λ e p i. record { result = (p i).0; last = (tt, (tt, ((p i).1.0, ((p i).1.1, ((p i).2, tt))))) } };
   st-children = λ κs a. record { the = record { result = _; last = _ }; said = refl; only = λ e p i. record { result = (p i).0; last = (tt, (tt, ((p i).1.0, ((p i).1.1, ((p i).1.2, ((p i).1.3, ((p i).2, tt))))))) } };
   st-child = λ κs a. record { the = record { result = _; last = _ }; said = refl; only = λ e p i. record { result = (p i).0; last = (tt, (tt, ((p i).1.0, ((p i).1.1, ((p i).2, tt))))) } };

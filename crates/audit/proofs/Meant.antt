@@ -46,5 +46,6 @@ meant = record {
   join = λ u v s t ou ou' os os' r. is;
   merge = λ u s ou ou' os os' r. is;
   origin = λ u s f r. is;
+  origins = λ u s fs out out' r. is;
   segment-of-frame-records = listed;
 }

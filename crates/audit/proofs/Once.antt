@@ -39,6 +39,7 @@ once = record {
   join = λ κs a. record { the = record { result = _; last = _ }; said = record { answer = refl; words = refl; shifts = refl }; only = λ e p i. record { result = p.answer i; last = (tt, (tt, (tt, (tt, (p.words i, (p.shifts i, tt)))))) } };
   merge = λ κs a. record { the = record { result = _; last = _ }; said = record { answer = refl; words = refl; shifts = refl }; only = λ e p i. record { result = p.answer i; last = (tt, (tt, (p.words i, (p.shifts i, tt)))) } };
   origin = λ κs a. record { the = record { result = _; last = _ }; said = refl; only = λ e p i. record { result = p i; last = e.last } };
+  origins = λ κs a. record { the = record { result = _; last = _ }; said = record { answer = refl; origins = refl }; only = λ e p i. record { result = p.answer i; last = (tt, (tt, (tt, (p.origins i, tt)))) } };
   segment-of-frame-records = λ κs a. record { the = record { result = _; last = _ }; said = refl; only = λ e p i. record { result = p i; last = e.last } };
   child = λ κs a. record { the = record { result = record { ref_ptr = _; now = _ }; last = _ }; said = record { bytes = refl; place = refl }; only = λ e p i. record { result = record { ref_ptr = p.place i; now = p.bytes i }; last = e.last } };
   find-box = λ κs a. record { the = record { result = record { ref_ptr = _; now = _ }; last = _ }; said = record { bytes = refl; place = refl }; only = λ e p i. record { result = record { ref_ptr = p.place i; now = p.bytes i }; last = e.last } };

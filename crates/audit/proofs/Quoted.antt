@@ -55,6 +55,8 @@ use Rattle.maps.proofs.join.Symbol as join·symbol
 use Rattle.maps.proofs.join.Met as join·met
 use Rattle.maps.proofs.origin.Symbol as origin·symbol
 use Rattle.maps.proofs.origin.Met as origin·met
+use Rattle.maps.proofs.origins.Symbol as origins·symbol
+use Rattle.maps.proofs.origins.Met as origins·met
 use Rattle.cuts.proofs.cuts.Symbol as cuts·symbol
 use Rattle.cuts.proofs.cuts.Met as cuts·met
 use Rattle.records.proofs.segment_of_frame_records.Symbol as segment-of-frame-records·symbol
@@ -132,6 +134,9 @@ module _ {M : Type 1} (𝓤 : Ura M) (𝓛 : Logic 𝓤) (𝓜 : Model 𝓤 𝓛
 
   pub origin-quoted : Wired 𝓡.env origin·symbol.code → Meets 𝓛 calls.origin.types.signature (𝓡.run (𝓡.env origin·symbol.name)) (promised calls.origin 𝓛)
   origin-quoted = origin·met.met 𝓤 𝓛 𝓜 𝓡
+
+  pub origins-quoted : Wired 𝓡.env origins·symbol.code → Meets 𝓛 calls.origins.types.signature (𝓡.run (𝓡.env origins·symbol.name)) (promised calls.origins 𝓛)
+  origins-quoted = origins·met.met 𝓤 𝓛 𝓜 𝓡
 
   pub cuts-quoted : Wired 𝓡.env cuts·symbol.code → Meets 𝓛 calls.cuts.types.signature (𝓡.run (𝓡.env cuts·symbol.name)) (promised calls.cuts 𝓛)
   cuts-quoted = cuts·met.met 𝓤 𝓛 𝓜 𝓡

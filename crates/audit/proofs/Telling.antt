@@ -64,6 +64,10 @@ telling = record {
   st-join = λ u v s t ou ou' os os' rows index r rows' index'. placed rows;
   st-merge = λ u s ou ou' os os' rows index r rows' index'. placed rows;
   st-origin = λ u s k source frame flag shift index r source' frame' flag' shift' index'. one (λ (c : Result Origin Refusal). told origin_words c (source, frame, flag, shift));
+  st-origins = λ u s fs out out' written index r written' index'. (
+    λ p. record { answer = _; given = record { answer = refl; origins = p.origins }; told = p.told },
+    λ q. record { told = q.told ∙ ap (λ (c : Result ℕ Refusal). told itself c written) q.given.answer; origins = q.given.origins },
+  );
   st-box-size = λ b remaining size header index r size' header' index'. one (λ (c : Result BoxSize Refusal). told size_words c (size, header));
   st-children = λ b at kind start length next index r kind' start' length' next' index'. one (λ (c : Result BoxAt Refusal). told box_words c (kind, start, length, next));
   st-child = λ b kind start length index r start' length' index'. one (λ (c : Result Place Refusal). told place_words c (start, length));

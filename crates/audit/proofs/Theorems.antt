@@ -10,6 +10,7 @@ use Rattle.refusal.specs.Reasons.{number}
 use Rattle.rows.specs.Demands.{Demands}
 use Rattle.maps.specs.Answers.{Cut, Join, Merge, Trace}
 use Rattle.maps.specs.Laws.{Laws}
+use Rattle.maps.specs.Origins.{Traces, OriginsLaws}
 use Rattle.cuts.specs.Answers.{Cuts}
 use Rattle.cuts.specs.Laws.{CutsLaws}
 use Rattle.rules.specs.Records.{Table, frame_total}
@@ -32,6 +33,7 @@ pub record Theorems : Type 0 where
   pub demands : Demands
   pub laws : Laws Cut Join Merge Trace
   pub cuts : CutsLaws Cuts Cut
+  pub origins : OriginsLaws Traces Trace
   pub refusals : (t : Table) → Rightly (check_of t) (tests t) (frame_total t.segments)
   pub by-video : (t : Table) (video : Video) (starts : List ℤ)
       → Rightly (validate_of t (shown_by video starts)) (validate_tests t video starts) (frame_total t.segments)

@@ -29,7 +29,6 @@ by-header b at Bad z e = (λ n. absurd (grind arith), λ n. e)
 by-header b at (Whole found) z e = (e, omega arith, omega arith)
 
 met : (b : List ℕ) (at : ℕ) → Meets b at (children_at b at)
-unfolding children_at
 met b at =
     either (Meets b at) (ltb most_bytes (length b)) (λ e. (λ n. absurd (grind arith), λ n. absurd (grind arith)))
     (λ e. either (Meets b at) (ltb (length b) at) (λ e. (λ n. absurd (grind arith), λ n. absurd (grind arith)))

@@ -17,6 +17,7 @@ use Rattle.judge.specs.Video.{shown_by}
 use Rattle.judge.specs.declared.Video.{Video}
 use Rattle.lookups.specs.Indices.{Indexing}
 use Rattle.maps.specs.Answers.{Cut as Cut·of, Join as Join·of, Merge as Merge·of, Trace}
+use Rattle.maps.specs.Origins.{Traces}
 use Rattle.mcraw.specs.Mcraw.{McrawAnswers}
 use Rattle.records.specs.Records.{locate}
 use Rattle.records.specs.declared.TrimSegment.{TrimSegment}
@@ -54,6 +55,7 @@ use Rattle.maps.specs.contracts.cut as cut·
 use Rattle.maps.specs.contracts.merge as merge·
 use Rattle.maps.specs.contracts.join as join·
 use Rattle.maps.specs.contracts.origin as origin·
+use Rattle.maps.specs.contracts.origins as origins·
 use Rattle.cuts.specs.contracts.cuts as cuts·
 use Rattle.records.specs.contracts.segment_of_frame_records as segment-of-frame-records·
 
@@ -322,6 +324,16 @@ abbrev pub origin : Promise
 origin = record {
   types = origin·.ended;
   Learnt = λ κs a z e. Origin a.0.now a.1.0.now a.1.1.0 z;
+}
+
+-- maps::origins: origins(words, shifts, frames, out) answers ans, and leaves out'
+abbrev pub Origins : List ℕ → List ℤ → List ℕ → List Origin·of → Result ℕ Refusal → List Origin·of → Type 0
+Origins words shifts frames out ans out' = Traces words shifts frames out ans out'
+
+abbrev pub origins : Promise
+origins = record {
+  types = origins·.ended;
+  Learnt = λ κs a z e. Origins a.0.now a.1.0.now a.1.1.0.now a.1.1.1.0.now z e.1.1.1.0.now;
 }
 
 -- cuts::cuts: cuts(words, shifts, ranges, out_words, out_shifts, counts) answers ans, and leaves out_words',

@@ -44,6 +44,7 @@ use Rattle.stops.specs.Stops.{Stopping, Dividing}
 use Rattle.modes.specs.Modes.{ctts_of, NoTopBit}
 use Rattle.maps.specs.Answers as maps
 use Rattle.maps.specs.Laws as laws
+use Rattle.maps.specs.Origins as origin-laws
 use Rattle.cuts.specs.Answers as cuts
 use Rattle.cuts.specs.Laws as cut-laws
 use Rattle.boxes.specs.declared.BoxSize.{BoxSize}
@@ -87,6 +88,7 @@ pub record Answers : Type 0 where
   pub join : OneAnswer calls.join
   pub merge : OneAnswer calls.merge
   pub origin : OneAnswer calls.origin
+  pub origins : OneAnswer calls.origins
   pub segment-of-frame-records : OneAnswer calls.segment-of-frame-records
   -- A part of the caller's own bytes: its bytes and its address, which is all that a shared reference is.
   pub child : OneAnswer calls.child
@@ -112,6 +114,7 @@ pub record Face : Type 0 where
   pub st-join : OneAnswer face.st-join
   pub st-merge : OneAnswer face.st-merge
   pub st-origin : OneAnswer face.st-origin
+  pub st-origins : OneAnswer face.st-origins
   pub st-box-size : OneAnswer face.st-box-size
   pub st-children : OneAnswer face.st-children
   pub st-child : OneAnswer face.st-child
@@ -179,6 +182,9 @@ pub record Telling : Type 0 where
       → face.StOrigin u s k source frame flag shift index r source' frame' flag' shift' index'
       ↔ Tells (calls.Origin u s k)
       (λ c. (r, (source', frame', flag', shift'), index') ≡ told origin_words c (source, frame, flag, shift))
+  pub st-origins : (u : List ℕ) (s : List ℤ) (fs : List ℕ) (out out' : List Origin) (written index r written' index' : ℕ)
+      → face.StOrigins u s fs out written index r out' written' index'
+      ↔ Tells (λ c. calls.Origins u s fs out c out') (λ c. (r, written', index') ≡ told itself c written)
   pub st-box-size : (b : List ℕ) (remaining size header index r size' header' index' : ℕ)
       → face.StBoxSize b remaining size header index r size' header' index'
       ↔ Tells (calls.BoxSize b remaining) (λ c. (r, (size', header'), index') ≡ told size_words c (size, header))
@@ -322,6 +328,8 @@ pub record Meanings : Type 0 where
   pub merge : (u : List ℕ) (s : List ℤ) (ou ou' : List ℕ) (os os' : List ℤ) (r : Result ℕ Refusal)
       → calls.Merge u s ou os r ou' os' ↔ maps.Merge u s ou os r ou' os'
   pub origin : (u : List ℕ) (s : List ℤ) (f : ℕ) (r : Result Origin Refusal) → calls.Origin u s f r ↔ maps.Trace u s f r
+  pub origins : (u : List ℕ) (s : List ℤ) (fs : List ℕ) (out out' : List Origin) (r : Result ℕ Refusal)
+      → calls.Origins u s fs out r out' ↔ origin-laws.Traces u s fs out r out'
   -- The lookup over records answers what the lookup over words answers of the words that say the same.
   pub segment-of-frame-records :
       (sources text : List ℕ) (rs : List TrimSegment) (log : Bool) (f : ℕ) (r : Result ℕ Refusal)
@@ -434,6 +442,12 @@ pub record Claims : Type 0 where
   -- which refusal is given.
   -- (RULES 10.6; cuts/specs/Laws.antt has the lines.)
   pub many_cuts : cut-laws.CutsLaws calls.Cuts calls.Cut
+  -- THE ORIGINS OF A LIST OF FRAMES, in any order: the k-th entry that is answered is what `origin` answers of the k-th
+  -- frame. The list is accepted exactly where the map is, each frame lies in it, and there is room for one entry a
+  -- frame. Else a map that no call takes is refused as `origin` refuses it; then 54 at the number of the first frame
+  -- past the map; then 32. What lies past the list stays as lent, and on a refusal all. (RULES 10.9;
+  -- maps/specs/Origins.antt has the lines.)
+  pub many_origins : origin-laws.OriginsLaws calls.Origins calls.Origin
   pub refusals : Refusals
   -- HOW FAR TWO TABLES OF ONE VIDEO MAY DIFFER, which `validate` or `check_mcraw` accepts. (RULES 6.4;
   -- differ/specs/Differ.antt has the lines.)
@@ -452,5 +466,5 @@ pub record Claims : Type 0 where
   pub ordering : Ordering
   pub ignored : Ignored
   -- 7. THE EXAMPLES of the rules, the auditor's clip, and some more of each call. (RULES 3.6, 4.7, 5.2, 6.5, 8.10, 9.3,
-  -- 10.9.)
+  -- 10.10.)
   pub worked : AllByRecursion Holds examples

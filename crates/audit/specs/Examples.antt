@@ -16,7 +16,7 @@ use Rattle.boxes.specs.Bytes.{trak, mdia, hdlr, vide}
 use Rattle.tracks.specs.Edits.{elst}
 use Rattle.frame_times.specs.Times.{mvhd, mdhd, minf, stbl, stts, ctts, edts}
 use Rattle.differ.specs.Differ.{SameFrames}
-use Rattle.audit.specs.Calls.{TicksToUs, IsUtcSecond, Cut, Cuts, Join, Merge, Origin, VideoFrameTimesOfMoov, McrawTimes}
+use Rattle.audit.specs.Calls.{TicksToUs, IsUtcSecond, Cut, Cuts, Join, Merge, Origin, Origins, VideoFrameTimesOfMoov, McrawTimes}
 use Rattle.audit.specs.Words.{Lent, table, Check, SegmentOfFrame, SegmentOfTimeUs, RowsOfTable, SegmentsOfFrames, Validate, CheckMcraw, map_written}
 
 pub data Example : Type 0 where
@@ -50,6 +50,8 @@ pub data Example : Type 0 where
   merges : (whole : List Row) (are : List Row) → Example
   -- where a frame of a map comes from
   comes : (whole : List Row) (k : ℕ) (is : Result From Refusal) → Example
+  -- where a list of frames comes from, put into this room, and what it holds then
+  come : (whole : List Row) (frames : List ℕ) (room : List From) (is : Result ℕ Refusal) (are : List From) → Example
   -- the frame times of a moov, with offsets by the standard or not, and where each frame starts
   movie : (moov : List ℕ) (standard : Bool) (are : Result FrameTimes Refusal) (starts : List ℤ) → Example
   -- the times of a recording's timestamps, and where each frame starts
@@ -101,6 +103,9 @@ Holds (merges m are) =
     → Merge (words_of m) (shifts_of m) (replicate (5 * length are) 0) (replicate (length are) (pos 0)) r ou os
     → (r ≡ Ok (length are)) × (map_written (length are) ou os ≡ are)
 Holds (comes m k is) = (r : Result From Refusal) → Origin (words_of m) (shifts_of m) k r → r ≡ is
+Holds (come m frames room is are) =
+    (r : Result ℕ Refusal) (out : List From) → Origins (words_of m) (shifts_of m) frames room r out
+    → (r ≡ is) × (out ≡ are)
 Holds (movie moov standard are starts) =
     (r : Result FrameTimes Refusal) (starts' a' b' : List ℤ)
     → VideoFrameTimesOfMoov moov standard (replicate (length starts) (pos 0)) (replicate (length starts) (pos 0))
@@ -117,9 +122,16 @@ abbrev pub times : (frames scale : ℕ) (nominal end : ℤ) → Result FrameTime
 times frames scale nominal end = Ok (record { frames = frames; scale = scale; nominal = nominal; end = end })
 
 -- a frame of a source, with a shift's flag and the shift
+abbrev pub from : (source source_frame flag : ℕ) (shift : ℤ) → From
+from source source_frame flag shift =
+    record { source = source; frame = source_frame; flag = flag; shift = shift }
+
+-- what is in the room before
+abbrev pub nowhere : From
+nowhere = from 7 7 7 (neg_ℤ (pos 7))
+
 abbrev pub origin : (source source_frame flag : ℕ) (shift : ℤ) → Result From Refusal
-origin source source_frame flag shift =
-    Ok (record { source = source; frame = source_frame; flag = flag; shift = shift })
+origin source source_frame flag shift = Ok (from source source_frame flag shift)
 
 -- ---- table T (RULES 3.6)
 -- a row without shift, and one with
@@ -422,4 +434,11 @@ examples =
     ∷ frame (table_t (plain 100) []) 49 (Ok 1)
     ∷ recording (pos 1 ∷ pos 0 ∷ []) (refused reason.Falling 1) (pos 0 ∷ pos 0 ∷ [])
     ∷ comes (row 0 38 2 0 ∷ row 1 5 3 2 ∷ []) 2 (origin 1 5 0 (pos 0))
+    -- the origins of T's frames 30, 29 and 49, with an entry of room left over; of no frame; and of three the second
+    -- past T's end, before the lack of room, and then that
+    ∷ come T (30 ∷ 29 ∷ 49 ∷ []) (nowhere ∷ nowhere ∷ nowhere ∷ nowhere ∷ []) (Ok 3)
+    (from 1 5 0 (pos 0) ∷ from 0 39 0 (pos 0) ∷ from 1 24 0 (pos 0) ∷ nowhere ∷ [])
+    ∷ come T [] [] (Ok 0) []
+    ∷ come T (49 ∷ 50 ∷ 51 ∷ []) [] (refused reason.PastMap 1) []
+    ∷ come T (0 ∷ 1 ∷ []) (nowhere ∷ []) (refused reason.NoRoom 0) (nowhere ∷ [])
     ∷ []

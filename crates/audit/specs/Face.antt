@@ -10,9 +10,10 @@ use Rattle.judge.specs.Judge.{validate_of}
 use Rattle.judge.specs.Video.{constant, nothing, timed}
 use Rattle.records.specs.Records.{locate}
 use Rattle.records.specs.declared.TrimSegment.{TrimSegment}
+use Rattle.rows.specs.declared.Origin.{Origin as Origin·of}
 use Rattle.rules.specs.Lookups.{continues_at, segment_of_frame, segment_of_time}
 use Rattle.rules.specs.Rules.{check_of}
-use Rattle.segment_table.specs.Written.{CutTold, CutsTold, IndexingTold, JoinTold, JudgedTold, McrawTold, MergeTold, MoovTold, RowedTold, origin_of}
+use Rattle.segment_table.specs.Written.{CutTold, CutsTold, IndexingTold, JoinTold, JudgedTold, McrawTold, MergeTold, MoovTold, OriginsTold, RowedTold, origin_of}
 use Rattle.table.specs.Layout.{table_of}
 use Rattle.ticks.specs.Ticks.{ticks_to_us}
 use Rattle.told.specs.Told.{box_words, itself, origin_words, place_words, size_words, told, unsaid, yes_or_no}
@@ -24,6 +25,7 @@ use Rattle.segment_table.specs.contracts.cutting.st_cuts as st-cuts·
 use Rattle.segment_table.specs.contracts.cutting.st_join as st-join·
 use Rattle.segment_table.specs.contracts.cutting.st_merge as st-merge·
 use Rattle.segment_table.specs.contracts.cutting.st_origin as st-origin·
+use Rattle.segment_table.specs.contracts.cutting.st_origins as st-origins·
 use Rattle.segment_table.specs.contracts.judging.st_validate_no_video as st-validate-no-video·
 use Rattle.segment_table.specs.contracts.judging.st_validate_constant as st-validate-constant·
 use Rattle.segment_table.specs.contracts.judging.st_validate_times as st-validate-times·
@@ -131,6 +133,19 @@ st-origin = record {
   Learnt = λ κs a z e. StOrigin a.0.now a.1.0.now a.1.1.0 a.1.1.1.0.now a.1.1.1.1.0.now a.1.1.1.1.1.0.now
       a.1.1.1.1.1.1.0.now a.1.1.1.1.1.1.1.0.now z e.1.1.1.0.now e.1.1.1.1.0.now e.1.1.1.1.1.0.now e.1.1.1.1.1.1.0.now
       e.1.1.1.1.1.1.1.0.now;
+}
+
+-- segment_table::cutting::st_origins: st_origins(words, shifts, frames, out_origins, written, index) answers ans,
+-- and leaves out_origins', written', index'
+abbrev pub StOrigins : List ℕ → List ℤ → List ℕ → List Origin·of → ℕ → ℕ → ℕ → List Origin·of → ℕ → ℕ → Type 0
+StOrigins words shifts frames out_origins written index ans out_origins' written' index' =
+    OriginsTold words shifts frames out_origins written ans out_origins' written' index'
+
+abbrev pub st-origins : Promise
+st-origins = record {
+  types = st-origins·.ended;
+  Learnt = λ κs a z e. StOrigins a.0.now a.1.0.now a.1.1.0.now a.1.1.1.0.now a.1.1.1.1.0.now a.1.1.1.1.1.0.now z
+      e.1.1.1.0.now e.1.1.1.1.0.now e.1.1.1.1.1.0.now;
 }
 
 -- segment_table::judging::st_validate_no_video: st_validate_no_video(sources, segments, times, log, text, index)

@@ -1,13 +1,15 @@
-// Made by tools/calls: of each call for C a function with its parameters that only calls it. It
-// asks nothing, so it proves only where the call asks nothing; and it promises what specs/Face.antt
-// quotes, so it proves only where the call promises that: `quoted` by name, and `placed` as the
-// record has it, by the places of the arguments and of what is left. That no other end meets the
-// record is claimed by `OneAnswer` (specs/Promise.antt).
+//! Made by tools/calls: of each call for C a function with its parameters that only calls it. It
+//! asks nothing, so it proves only where the call asks nothing; and it promises what
+//! specs/Face.antt quotes, so it proves only where the call promises that: `quoted` by name, and
+//! `placed` as the record has it, by the places of the arguments and of what is left. That no other
+//! end meets the record is claimed by `OneAnswer` (specs/Promise.antt).
 ghost use Rattle.audit.specs.Promise.{Regions, Says};
 ghost use Rattle.audit.specs.Face as calls;
 
 use records::TrimSegment;
+use rows::Origin;
 
+/// What is quoted of `segment_table::clock::st_is_utc_second` is promised, and nothing is asked.
 pub fn st_is_utc_second(bytes: &[u8]) -> bool
     ensures quoted { calls.StIsUtcSecond bytes.now result }
     ensures placed { (κs : Regions calls.st-is-utc-second) → Says calls.st-is-utc-second κs
@@ -17,6 +19,7 @@ pub fn st_is_utc_second(bytes: &[u8]) -> bool
     segment_table::clock::st_is_utc_second(bytes)
 }
 
+/// What is quoted of `segment_table::clock::st_ticks_to_us` is promised, and nothing is asked.
 pub fn st_ticks_to_us(ticks: i64, scale: u64, us: &mut i64, index: &mut u64) -> u64
     ensures quoted { calls.StTicksToUs ticks scale us.old index.old result us.new index.new }
     ensures placed { (κs : Regions calls.st-ticks-to-us) → Says calls.st-ticks-to-us κs
@@ -26,6 +29,7 @@ pub fn st_ticks_to_us(ticks: i64, scale: u64, us: &mut i64, index: &mut u64) -> 
     segment_table::clock::st_ticks_to_us(ticks, scale, us, index)
 }
 
+/// What is quoted of `segment_table::cutting::st_cut` is promised, and nothing is asked.
 pub fn st_cut(
     words: &[u64],
     shifts: &[i64],
@@ -47,6 +51,7 @@ pub fn st_cut(
     )
 }
 
+/// What is quoted of `segment_table::cutting::st_cuts` is promised, and nothing is asked.
 pub fn st_cuts(
     words: &[u64],
     shifts: &[i64],
@@ -69,6 +74,7 @@ pub fn st_cuts(
     )
 }
 
+/// What is quoted of `segment_table::cutting::st_join` is promised, and nothing is asked.
 pub fn st_join(
     words: &[u64],
     shifts: &[i64],
@@ -98,6 +104,7 @@ pub fn st_join(
     )
 }
 
+/// What is quoted of `segment_table::cutting::st_merge` is promised, and nothing is asked.
 pub fn st_merge(
     words: &[u64],
     shifts: &[i64],
@@ -115,6 +122,7 @@ pub fn st_merge(
     segment_table::cutting::st_merge(words, shifts, out_words, out_shifts, rows, index)
 }
 
+/// What is quoted of `segment_table::cutting::st_origin` is promised, and nothing is asked.
 pub fn st_origin(
     words: &[u64],
     shifts: &[i64],
@@ -143,6 +151,25 @@ pub fn st_origin(
     )
 }
 
+/// What is quoted of `segment_table::cutting::st_origins` is promised, and nothing is asked.
+pub fn st_origins(
+    words: &[u64],
+    shifts: &[i64],
+    frames: &[u64],
+    out_origins: &mut [Origin],
+    written: &mut u64,
+    index: &mut u64,
+) -> u64
+    ensures quoted { calls.StOrigins words.now shifts.now frames.now out_origins.old written.old
+        index.old result out_origins.new written.new index.new }
+    ensures placed { (κs : Regions calls.st-origins) → Says calls.st-origins κs
+        (words.entry, (shifts.entry, (frames.entry, (out_origins.entry, (written.entry, (index.entry, tt))))))
+        (record { result = result; last = (tt, (tt, (tt, (out_origins.new, (written.new, (index.new, tt)))))) }) }
+{
+    segment_table::cutting::st_origins(words, shifts, frames, out_origins, written, index)
+}
+
+/// What is quoted of `segment_table::judging::st_validate_no_video` is promised, and nothing is asked.
 pub fn st_validate_no_video(
     sources: &[u64],
     segments: &[u64],
@@ -160,6 +187,7 @@ pub fn st_validate_no_video(
     segment_table::judging::st_validate_no_video(sources, segments, times, log, text, index)
 }
 
+/// What is quoted of `segment_table::judging::st_validate_constant` is promised, and nothing is asked.
 pub fn st_validate_constant(
     sources: &[u64],
     segments: &[u64],
@@ -192,6 +220,7 @@ pub fn st_validate_constant(
     )
 }
 
+/// What is quoted of `segment_table::judging::st_validate_times` is promised, and nothing is asked.
 pub fn st_validate_times(
     sources: &[u64],
     segments: &[u64],
@@ -216,6 +245,7 @@ pub fn st_validate_times(
     )
 }
 
+/// What is quoted of `segment_table::judging::st_check_mcraw` is promised, and nothing is asked.
 pub fn st_check_mcraw(
     sources: &[u64],
     segments: &[u64],
@@ -249,6 +279,7 @@ pub fn st_check_mcraw(
     )
 }
 
+/// What is quoted of `segment_table::listed::st_segment_of_frame_records` is promised, and nothing is asked.
 pub fn st_segment_of_frame_records(
     sources: &[u64],
     text: &[u8],
@@ -269,6 +300,7 @@ pub fn st_segment_of_frame_records(
     )
 }
 
+/// What is quoted of `segment_table::recordings::st_mcraw_times` is promised, and nothing is asked.
 pub fn st_mcraw_times(
     timestamps: &[i64],
     starts: &mut [i64],
@@ -291,6 +323,7 @@ pub fn st_mcraw_times(
     )
 }
 
+/// What is quoted of `segment_table::recordings::st_video_frame_times_of_moov` is promised, and nothing is asked.
 pub fn st_video_frame_times_of_moov(
     moov: &[u8],
     standard: bool,
@@ -324,6 +357,7 @@ pub fn st_video_frame_times_of_moov(
     )
 }
 
+/// What is quoted of `segment_table::tables::st_check` is promised, and nothing is asked.
 pub fn st_check(
     sources: &[u64],
     segments: &[u64],
@@ -342,6 +376,7 @@ pub fn st_check(
     segment_table::tables::st_check(sources, segments, times, log, text, frames, index)
 }
 
+/// What is quoted of `segment_table::tables::st_segment_of_frame` is promised, and nothing is asked.
 pub fn st_segment_of_frame(
     sources: &[u64],
     segments: &[u64],
@@ -363,6 +398,7 @@ pub fn st_segment_of_frame(
     )
 }
 
+/// What is quoted of `segment_table::tables::st_segments_of_frames` is promised, and nothing is asked.
 pub fn st_segments_of_frames(
     sources: &[u64],
     segments: &[u64],
@@ -394,6 +430,7 @@ pub fn st_segments_of_frames(
     )
 }
 
+/// What is quoted of `segment_table::tables::st_segment_of_time_us` is promised, and nothing is asked.
 pub fn st_segment_of_time_us(
     sources: &[u64],
     segments: &[u64],
@@ -415,6 +452,7 @@ pub fn st_segment_of_time_us(
     )
 }
 
+/// What is quoted of `segment_table::tables::st_continues` is promised, and nothing is asked.
 pub fn st_continues(
     sources: &[u64],
     segments: &[u64],
@@ -434,6 +472,7 @@ pub fn st_continues(
     segment_table::tables::st_continues(sources, segments, times, log, text, segment, answer, index)
 }
 
+/// What is quoted of `segment_table::tables::st_rows_of_table` is promised, and nothing is asked.
 pub fn st_rows_of_table(
     sources: &[u64],
     segments: &[u64],
@@ -457,6 +496,7 @@ pub fn st_rows_of_table(
     )
 }
 
+/// What is quoted of `segment_table::walk::st_box_size` is promised, and nothing is asked.
 pub fn st_box_size(
     data: &[u8],
     remaining: u64,
@@ -473,6 +513,7 @@ pub fn st_box_size(
     segment_table::walk::st_box_size(data, remaining, size, header, index)
 }
 
+/// What is quoted of `segment_table::walk::st_children` is promised, and nothing is asked.
 pub fn st_children(
     payload: &[u8],
     at: u64,
@@ -491,6 +532,7 @@ pub fn st_children(
     segment_table::walk::st_children(payload, at, kind, start, length, next, index)
 }
 
+/// What is quoted of `segment_table::walk::st_child` is promised, and nothing is asked.
 pub fn st_child(
     payload: &[u8],
     kind: u32,
@@ -507,6 +549,7 @@ pub fn st_child(
     segment_table::walk::st_child(payload, kind, start, length, index)
 }
 
+/// What is quoted of `segment_table::walk::st_find_box` is promised, and nothing is asked.
 pub fn st_find_box(
     bytes: &[u8],
     from: u64,
@@ -526,6 +569,7 @@ pub fn st_find_box(
     segment_table::walk::st_find_box(bytes, from, to, kind, text_types, start, length, index)
 }
 
+/// What is quoted of `segment_table::walk::st_table_text` is promised, and nothing is asked.
 pub fn st_table_text(file: &[u8], start: &mut u64, length: &mut u64, index: &mut u64) -> u64
     ensures quoted { calls.StTableText file.now start.old length.old index.old result start.new
         length.new index.new }

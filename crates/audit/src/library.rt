@@ -1,8 +1,8 @@
-// Made by tools/calls: of each call a function with its parameters that only calls it. It asks
-// nothing, so it proves only where the call asks nothing; and it promises what specs/Calls.antt
-// quotes, so it proves only where the call promises that: `quoted` by name, and `placed` as the
-// record has it, by the places of the arguments and of what is left. That no other end meets the
-// record is claimed by `OneAnswer` (specs/Promise.antt).
+//! Made by tools/calls: of each call a function with its parameters that only calls it. It asks
+//! nothing, so it proves only where the call asks nothing; and it promises what specs/Calls.antt
+//! quotes, so it proves only where the call promises that: `quoted` by name, and `placed` as the
+//! record has it, by the places of the arguments and of what is left. That no other end meets the
+//! record is claimed by `OneAnswer` (specs/Promise.antt).
 ghost use Rattle.audit.specs.Promise.{Regions, Says};
 ghost use Rattle.audit.specs.Calls as calls;
 
@@ -13,6 +13,7 @@ use refusal::Refusal;
 use rows::Origin;
 use ticks::FrameTimes;
 
+/// What is quoted of `ticks::ticks_to_us` is promised, and nothing is asked.
 pub fn ticks_to_us(ticks: i64, scale: u64) -> Result<i64, Refusal>
     ensures quoted { calls.TicksToUs ticks scale result }
     ensures placed { (κs : Regions calls.ticks-to-us) → Says calls.ticks-to-us κs
@@ -22,6 +23,7 @@ pub fn ticks_to_us(ticks: i64, scale: u64) -> Result<i64, Refusal>
     ticks::ticks_to_us(ticks, scale)
 }
 
+/// What is quoted of `utc::is_utc_second` is promised, and nothing is asked.
 pub fn is_utc_second(bytes: &[u8]) -> bool
     ensures quoted { calls.IsUtcSecond bytes.now result }
     ensures placed { (κs : Regions calls.is-utc-second) → Says calls.is-utc-second κs
@@ -31,6 +33,7 @@ pub fn is_utc_second(bytes: &[u8]) -> bool
     utc::is_utc_second(bytes)
 }
 
+/// What is quoted of `table::check` is promised, and nothing is asked.
 pub fn check(
     sources: &[u64],
     words: &[u64],
@@ -46,6 +49,7 @@ pub fn check(
     table::check(sources, words, stamps, log, text)
 }
 
+/// What is quoted of `lookup::segment_of_frame` is promised, and nothing is asked.
 pub fn segment_of_frame(
     sources: &[u64],
     words: &[u64],
@@ -62,6 +66,7 @@ pub fn segment_of_frame(
     lookup::segment_of_frame(sources, words, stamps, log, text, frame)
 }
 
+/// What is quoted of `lookup::segment_of_time_us` is promised, and nothing is asked.
 pub fn segment_of_time_us(
     sources: &[u64],
     words: &[u64],
@@ -78,6 +83,7 @@ pub fn segment_of_time_us(
     lookup::segment_of_time_us(sources, words, stamps, log, text, time)
 }
 
+/// What is quoted of `lookup::continues` is promised, and nothing is asked.
 pub fn continues(
     sources: &[u64],
     words: &[u64],
@@ -94,6 +100,7 @@ pub fn continues(
     lookup::continues(sources, words, stamps, log, text, number)
 }
 
+/// What is quoted of `table_rows::rows_of_table` is promised, and nothing is asked.
 pub fn rows_of_table(
     sources: &[u64],
     words: &[u64],
@@ -112,6 +119,7 @@ pub fn rows_of_table(
     table_rows::rows_of_table(sources, words, stamps, log, text, out_words, out_shifts)
 }
 
+/// What is quoted of `lookups::segments_of_frames` is promised, and nothing is asked.
 pub fn segments_of_frames(
     sources: &[u64],
     words: &[u64],
@@ -130,6 +138,7 @@ pub fn segments_of_frames(
     lookups::segments_of_frames(sources, words, stamps, log, text, frames, out)
 }
 
+/// What is quoted of `judge::validate` is promised, and nothing is asked.
 pub fn validate(
     sources: &[u64],
     words: &[u64],
@@ -148,6 +157,7 @@ pub fn validate(
     judge::validate(sources, words, stamps, log, text, video, starts)
 }
 
+/// What is quoted of `judge::check_mcraw` is promised, and nothing is asked.
 pub fn check_mcraw(
     sources: &[u64],
     words: &[u64],
@@ -176,6 +186,7 @@ pub fn check_mcraw(
     )
 }
 
+/// What is quoted of `boxes::box_size` is promised, and nothing is asked.
 pub fn box_size(data: &[u8], remaining: u64) -> Result<BoxSize, Refusal>
     ensures quoted { calls.BoxSize «data».now remaining result }
     ensures placed { (κs : Regions calls.box-size) → Says calls.box-size κs
@@ -185,6 +196,7 @@ pub fn box_size(data: &[u8], remaining: u64) -> Result<BoxSize, Refusal>
     boxes::box_size(data, remaining)
 }
 
+/// What is quoted of `boxes::children` is promised, and nothing is asked.
 pub fn children(payload: &[u8], at: usize) -> Result<BoxAt, Refusal>
     ensures quoted { calls.Children payload.now at result }
     ensures placed { (κs : Regions calls.children) → Says calls.children κs
@@ -194,6 +206,7 @@ pub fn children(payload: &[u8], at: usize) -> Result<BoxAt, Refusal>
     boxes::children(payload, at)
 }
 
+/// What is quoted of `boxes::child_place` is promised, and nothing is asked.
 pub fn child_place(payload: &[u8], kind: u32) -> Result<Place, Refusal>
     ensures quoted { calls.ChildPlace payload.now kind result }
     ensures placed { (κs : Regions calls.child-place) → Says calls.child-place κs
@@ -203,6 +216,7 @@ pub fn child_place(payload: &[u8], kind: u32) -> Result<Place, Refusal>
     boxes::child_place(payload, kind)
 }
 
+/// What is quoted of `boxes::child` is promised, and nothing is asked.
 pub fn child(payload: &[u8], kind: u32) -> &[u8]
     ensures quoted { calls.Child payload.entry kind result }
     ensures placed { (κs : Regions calls.child) → Says calls.child κs
@@ -212,6 +226,7 @@ pub fn child(payload: &[u8], kind: u32) -> &[u8]
     boxes::child(payload, kind)
 }
 
+/// What is quoted of `boxes::find_box_place` is promised, and nothing is asked.
 pub fn find_box_place(
     bytes: &[u8],
     start: usize,
@@ -227,6 +242,7 @@ pub fn find_box_place(
     boxes::find_box_place(bytes, start, end, kind, text_types)
 }
 
+/// What is quoted of `boxes::find_box` is promised, and nothing is asked.
 pub fn find_box(bytes: &[u8], start: usize, end: usize, kind: u32, text_types: bool) -> &[u8]
     ensures quoted { calls.FindBox bytes.entry start end kind text_types result }
     ensures placed { (κs : Regions calls.find-box) → Says calls.find-box κs
@@ -236,6 +252,7 @@ pub fn find_box(bytes: &[u8], start: usize, end: usize, kind: u32, text_types: b
     boxes::find_box(bytes, start, end, kind, text_types)
 }
 
+/// What is quoted of `boxes::table_text_place` is promised, and nothing is asked.
 pub fn table_text_place(file: &[u8]) -> Result<Place, Refusal>
     ensures quoted { calls.TableTextPlace file.now result }
     ensures placed { (κs : Regions calls.table-text-place) → Says calls.table-text-place κs
@@ -245,6 +262,7 @@ pub fn table_text_place(file: &[u8]) -> Result<Place, Refusal>
     boxes::table_text_place(file)
 }
 
+/// What is quoted of `boxes::table_text` is promised, and nothing is asked.
 pub fn table_text(file: &[u8]) -> &[u8]
     ensures quoted { calls.TableText file.entry result }
     ensures placed { (κs : Regions calls.table-text) → Says calls.table-text κs
@@ -254,6 +272,7 @@ pub fn table_text(file: &[u8]) -> &[u8]
     boxes::table_text(file)
 }
 
+/// What is quoted of `frame_times::video_frame_times_of_moov` is promised, and nothing is asked.
 pub fn video_frame_times_of_moov(
     moov: &[u8],
     standard: bool,
@@ -270,6 +289,7 @@ pub fn video_frame_times_of_moov(
     frame_times::video_frame_times_of_moov(moov, standard, starts, first_work, second_work)
 }
 
+/// What is quoted of `mcraw::mcraw_times` is promised, and nothing is asked.
 pub fn mcraw_times(
     timestamps: &[i64],
     starts: &mut [i64],
@@ -283,6 +303,7 @@ pub fn mcraw_times(
     mcraw::mcraw_times(timestamps, starts, work)
 }
 
+/// What is quoted of `maps::cut` is promised, and nothing is asked.
 pub fn cut(
     words: &[u64],
     shifts: &[i64],
@@ -300,6 +321,7 @@ pub fn cut(
     maps::cut(words, shifts, start, end, out_words, out_shifts)
 }
 
+/// What is quoted of `maps::merge` is promised, and nothing is asked.
 pub fn merge(
     words: &[u64],
     shifts: &[i64],
@@ -315,6 +337,7 @@ pub fn merge(
     maps::merge(words, shifts, out_words, out_shifts)
 }
 
+/// What is quoted of `maps::join` is promised, and nothing is asked.
 pub fn join(
     words: &[u64],
     shifts: &[i64],
@@ -339,6 +362,7 @@ pub fn join(
     )
 }
 
+/// What is quoted of `maps::origin` is promised, and nothing is asked.
 pub fn origin(words: &[u64], shifts: &[i64], frame: u64) -> Result<Origin, Refusal>
     ensures quoted { calls.Origin words.now shifts.now frame result }
     ensures placed { (κs : Regions calls.origin) → Says calls.origin κs
@@ -348,6 +372,22 @@ pub fn origin(words: &[u64], shifts: &[i64], frame: u64) -> Result<Origin, Refus
     maps::origin(words, shifts, frame)
 }
 
+/// What is quoted of `maps::origins` is promised, and nothing is asked.
+pub fn origins(
+    words: &[u64],
+    shifts: &[i64],
+    frames: &[u64],
+    out: &mut [Origin],
+) -> Result<usize, Refusal>
+    ensures quoted { calls.Origins words.now shifts.now frames.now out.old result out.new }
+    ensures placed { (κs : Regions calls.origins) → Says calls.origins κs
+        (words.entry, (shifts.entry, (frames.entry, (out.entry, tt))))
+        (record { result = result; last = (tt, (tt, (tt, (out.new, tt)))) }) }
+{
+    maps::origins(words, shifts, frames, out)
+}
+
+/// What is quoted of `cuts::cuts` is promised, and nothing is asked.
 pub fn cuts(
     words: &[u64],
     shifts: &[i64],
@@ -365,6 +405,7 @@ pub fn cuts(
     cuts::cuts(words, shifts, ranges, out_words, out_shifts, counts)
 }
 
+/// What is quoted of `records::segment_of_frame_records` is promised, and nothing is asked.
 pub fn segment_of_frame_records(
     sources: &[u64],
     text: &[u8],

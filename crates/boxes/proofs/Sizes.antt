@@ -23,7 +23,6 @@ Fitting remaining None = Unit {0}
 Fitting remaining (Some box) = (8 ≤ box.header) × (box.header ≤ box.size) × (box.size ≤ remaining)
 
 fitting-in : (remaining header size : ℕ) → 8 ≤ header → Fitting remaining (fitting_in remaining header size)
-unfolding fitting_in
 fitting-in remaining header size h =
     either (Fitting remaining) (ltb size header) (λ a. tt)
     (λ a. either (Fitting remaining) (ltb remaining size) (λ b. tt)
@@ -64,7 +63,7 @@ module _ (s : List ℕ) (at : ℕ) where
   pub plain : {n k : ℕ} → 8 ≤ length s - at → length s < 2 ^ 64 → n ≡ be32_at s at → n < 2 ^ 32
       → (n + 18446744073709551608) % 2 ^ 64 ≤ length s - at - 8 → k ≡ be32_at s (at + 4)
       → Whole (record { kind = k; start = at + 8; len = (n + 18446744073709551608) % 2 ^ 64; next = at + n }) ≡ header_at s at
-  unfolding header_at fitting_in
+  unfolding header_at
   plain {n} h m e u t k =
       let b : 8 ≤ n = omega arith in
       let l : n ≤ length s - at = omega arith in

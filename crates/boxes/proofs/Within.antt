@@ -175,7 +175,6 @@ module _ (s : List ℕ) where
   Placed r = Within (length s) (result_ok r)
 
   pub child_within : (kind : ℕ) → Placed (child_place s kind)
-  unfolding child_place
   child_within kind = either Placed (ltb most_bytes (length s)) (λ a. tt) (λ a. place-of-within (length s) (first_of kind (boxes_of s)) (search-stays kind false s refl))
 
   pub find_box_within : (start end kind : ℕ) (text : Bool) → Placed (find_box_place s start end kind text)
@@ -196,7 +195,6 @@ module _ (s : List ℕ) where
   found_ends start end kind text e f = subst Placed (sym e ∙ f) (find_box_within start end kind text)
 
   pub table_text_within : Placed (table_text_place s)
-  unfolding table_text_place
   table_text_within =
       either Placed (ltb most_bytes (length s)) (λ a. tt)
       (λ a. in-part-within s (ok_or (found_place (first_of moov (textual (boxes_of s)))) (refusal_at reason.NoTable 0)) table_in (found-within moov true s (refusal_at reason.NoTable 0)) table-of-within)

@@ -18,7 +18,7 @@ abbrev pub most_bytes : ℕ
 most_bytes = 16777216
 
 -- a size and its header's, where the size is at least that and at most what remains
-unfoldable pub fitting_in : ℕ → ℕ → ℕ → Option BoxSize
+abbrev pub fitting_in : ℕ → ℕ → ℕ → Option BoxSize
 fitting_in remaining header size =
     if nat_lt size header then None
     else if nat_lt remaining size then None
@@ -35,7 +35,7 @@ size_of bytes remaining =
     else fitting_in remaining 8 (be32_at bytes 0)
 
 -- the same for a caller's bytes, which may be too long
-unfoldable pub box_size : List ℕ → ℕ → Result BoxSize Refusal
+abbrev pub box_size : List ℕ → ℕ → Result BoxSize Refusal
 box_size bytes remaining =
     if nat_lt most_bytes (length bytes) then refused reason.TooLong 0
     else ok_or (size_of bytes remaining) (refusal_at reason.Missing 0)
@@ -59,7 +59,7 @@ reached_by Bad at = refused reason.Broken at
 reached_by (Whole found) at = Ok found
 
 -- `children`, the box at an offset
-unfoldable pub children_at : List ℕ → ℕ → Result BoxAt Refusal
+abbrev pub children_at : List ℕ → ℕ → Result BoxAt Refusal
 children_at payload at =
     if nat_lt most_bytes (length payload) then refused reason.TooLong 0
     else if nat_lt (length payload) at then refused reason.BadSearch 0

@@ -70,7 +70,7 @@ abbrev pub child_of : ℕ → List ℕ → List ℕ
 child_of kind bytes = part_of bytes (child_in kind bytes)
 
 -- `child`
-unfoldable pub child_place : List ℕ → ℕ → Result Place Refusal
+abbrev pub child_place : List ℕ → ℕ → Result Place Refusal
 child_place payload kind =
     if nat_lt most_bytes (length payload) then refused reason.TooLong 0
     else place_of (first_of kind (boxes_of payload))
@@ -104,7 +104,7 @@ table_in payload =
     (λ inner. only_of (all_of mtrm (boxes_of inner)))
 
 -- `table_text`, in the first moov of a file, with text types (RULES 7.5)
-unfoldable pub table_text_place : List ℕ → Result Place Refusal
+abbrev pub table_text_place : List ℕ → Result Place Refusal
 table_text_place file =
     if nat_lt most_bytes (length file) then refused reason.TooLong 0
     else in_part file (ok_or (found_place (first_of moov (textual (boxes_of file)))) (refusal_at reason.NoTable 0))

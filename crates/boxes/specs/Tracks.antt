@@ -6,14 +6,14 @@ use Rattle.boxes.specs.Places.{bytes_at, child_of}
 use Rattle.boxes.specs.declared.Walk.{Walk}
 
 -- a track whose first mdia's first hdlr has `vide` at 8 (8.4.3: version and flags, four bytes, then the handler's type)
-unfoldable pub is_video : List ℕ → Bool
+abbrev pub is_video : List ℕ → Bool
 is_video track =
     let handler = child_of hdlr (child_of mdia track) in
     if nat_lt (length handler) 12 then false
     else be32_at handler 8 == vide
 
 -- the same of a box of a moov, where it is a trak
-unfoldable pub is_video_track : List ℕ → ℕ → ℕ → ℕ → Bool
+abbrev pub is_video_track : List ℕ → ℕ → ℕ → ℕ → Bool
 is_video_track moov kind start len =
     if kind == trak then is_video (bytes_at moov (place start len))
     else false

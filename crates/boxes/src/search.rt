@@ -1,4 +1,4 @@
-// The walk over the boxes of some bytes.
+//! The walk over the boxes of some bytes.
 ghost use Rattle.std.specs.Prelude.{◌≡◌, length};
 ghost use Rattle.boxes.specs.Boxes.{boxes_of, searched, first_of, is_text};
 ghost use Rattle.boxes.specs.Walks.{stop_at, WalkStays};
@@ -47,7 +47,8 @@ pub(crate) fn find(bytes: &[u8], kind: u32, text_types: bool) -> Walk
     }
 }
 
-// The first child of a type.
+/// The first child of a type among the boxes of some bytes, or how these end without it (RULES
+/// 7.3). The walk stays within the bytes.
 pub fn find_child(bytes: &[u8], kind: u32) -> Walk
     ensures first { result ≡ first_of kind (boxes_of bytes.now) }
     ensures stays { WalkStays (length bytes.now) result }

@@ -6,7 +6,6 @@ use crate::read::{be32, be64};
 use crate::{BoxAt, BoxSize, Header};
 
 // A size and its header's, where the size is at least the header and at most what remains.
-#[tactic(auto, using(conditions::proofs::Tests::tests), unfolding(crate::specs::Boxes::fitting_in))]
 fn fitting(remaining: u64, header: u64, size: u64) -> Option<BoxSize>
     ensures { result ≡ fitting_in remaining header size }
 {
@@ -20,7 +19,7 @@ fn fitting(remaining: u64, header: u64, size: u64) -> Option<BoxSize>
 }
 
 // The Rust's box_size, with no limit (RULES 7.9).
-#[tactic(auto, using(conditions::proofs::Tests::tests), unfolding(crate::specs::Boxes::size_of))]
+#[tactic(auto, unfolding(crate::specs::Boxes::size_of))]
 pub(crate) fn size_of(data: &[u8], remaining: u64) -> Option<BoxSize>
     ensures { result ≡ size_of «data».now remaining }
 {

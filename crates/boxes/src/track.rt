@@ -1,16 +1,15 @@
-// The first video track of a moov: RULES 7.8.
+//! The first video track of a moov: RULES 7.8.
 ghost use Rattle.std.specs.Prelude.{◌≡◌, ◌+◌, ◌≤◌, length};
 ghost use Rattle.boxes.specs.Tracks.{is_video, is_video_track, video_track};
 ghost use Rattle.boxes.specs.Walks.{WalkStays};
 
-use crate::part::inner_child;
+use crate::places::inner_child;
 use crate::read::{be32, code};
 use crate::search::stopped;
 use crate::size::header_at;
 use crate::{BoxAt, Header, Walk};
 
 // Whether a track is a video track: its first mdia's first hdlr has `vide` at 8.
-#[tactic(auto, using(conditions::proofs::Tests::tests), unfolding(crate::specs::Tracks::is_video))]
 fn is_video(trak: &[u8]) -> bool
     ensures { result ≡ is_video trak.now }
 {
@@ -22,7 +21,6 @@ fn is_video(trak: &[u8]) -> bool
 }
 
 // Whether a box of a moov is a video track.
-#[tactic(auto, using(conditions::proofs::Tests::tests), unfolding(crate::specs::Tracks::is_video_track))]
 fn is_video_track(moov: &[u8], child: BoxAt) -> bool
     requires { child.start + child.len ≤ length moov.now }
     ensures { result ≡ is_video_track moov.now child.kind child.start child.len }
@@ -33,7 +31,8 @@ fn is_video_track(moov: &[u8], child: BoxAt) -> bool
     is_video(&moov[child.start..child.start + child.len])
 }
 
-// The first video track of a moov, as video_frame_times_of_moov looks for it.
+/// The first video track of a moov's payload: its first trak whose first mdia's first hdlr has
+/// `vide` at 8 (RULES 7.8; ISO/IEC 14496-12, 8.4.3). The walk stays within the moov.
 pub fn find_video_track(moov: &[u8]) -> Walk
     ensures first { result ≡ video_track moov.now }
     ensures stays { WalkStays (length moov.now) result }

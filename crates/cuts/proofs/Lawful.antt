@@ -59,7 +59,7 @@ found x y z o b n p q =
 
 -- ---- an accepted call
 lent : {u : List ℕ} {s : List ℤ} {ranges : List ℕ} {nu ns nc : ℕ} → Cuttable u s ranges nu ns nc → LentMap u s
-lent c = record { some = c.ready.sound.some; sizes = c.ready.sound.sizes; well = c.ready.sound.well; few = c.few }
+lent c = record { some = c.sound.some; sizes = c.sound.sizes; well = c.sound.well; few = c.few }
 
 module _ (u : List ℕ) (s : List ℤ) (ranges ou : List ℕ) (os : List ℤ) (counts : List ℕ) {n : ℕ} {ou' : List ℕ} {os' : List ℤ} {counts' : List ℕ} (p : Cuts u s ranges ou os counts (Ok n) ou' os' counts') where
   abbrev all : List (List Row)
@@ -141,7 +141,7 @@ module _ (u : List ℕ) (s : List ℤ) (ranges ou : List ℕ) (os : List ℤ) (c
         → get_or counts' k 0 ≤ length ps
         → Cut u s (range_at ranges k).from (range_at ranges k).to pu ps r pu' ps' → r ≡ Ok (get_or counts' k 0)
     answers {pu} {pu'} {ps} {ps'} {r} x y q =
-        let i = can.ready.inside k h in
+        let i = can.inside k h in
         (maps.lawful).cut_accepts u s (range_at ranges k).from (range_at ranges k).to pu pu' ps ps' r (lent can) i.some i.within (omega (arith, count-is)) (omega (arith, count-is)) q
         ∙ ap Ok (sym count-is)
 
@@ -149,7 +149,7 @@ module _ (u : List ℕ) (s : List ℤ) (ranges ou : List ℕ) (os : List ℤ) (c
   what = record {
     map = lent can;
     pairs = can.even;
-    inside = can.ready.inside;
+    inside = can.inside;
     words = can.words;
     shifts = can.shifts;
     counts_fit = can.counts;
@@ -163,10 +163,8 @@ accept {u} {s} {ranges} {ou} {os} {counts} a p =
     ∙ ap (λ (x : Result (Unit {0}) Refusal). result_and x (Ok (length (concat (cuts_of (rows u s) (ranges_of ranges))))))
     (cuts-accepted u s ranges (length ou) (length os) (length counts)
     (record {
-      ready = record {
-        sound = record { some = a.map.some; sizes = a.map.sizes; well = a.map.well };
-        inside = a.inside;
-      };
+      sound = record { some = a.map.some; sizes = a.map.sizes; well = a.map.well };
+      inside = a.inside;
       few = a.map.few;
       even = a.pairs;
       words = a.words;

@@ -23,27 +23,24 @@ use Rattle.rows.specs.declared.Row.{Row}
 use Rattle.rows.specs.Rows.{total}
 use Rattle.rows.specs.Lent.{rows}
 use Rattle.maps.specs.Answers.{most_rows}
-use Rattle.maps.proofs.Chains.{accepted-frames, sound, sound-map}
-use Rattle.cuts.specs.declared.Range.{Range}
-use Rattle.cuts.specs.Answers.{Inside, range_at, ranges_of, cuts_of, concat, range_refusal, ranges_refusal, cuts_fit, cuts_refusal}
-use Rattle.cuts.specs.Writing.{ReadyToCut, room_of}
+use Rattle.maps.specs.Spans.{Sound}
+use Rattle.maps.proofs.Chains.{sound, sound-map}
+use Rattle.maps.specs.declared.Range.{Range}
+use Rattle.cuts.specs.Answers.{Inside, range_at, ranges_of, cuts_of, concat, range_refusal, ranges_refusal, cuts_fit, room_of, cuts_refusal}
 
 -- ---- 50
 inside : (t : ℕ) (r : Range) → range_refusal t r ≡ Ok tt → Inside t r
-unfolding range_refusal
 inside t r e =
     let o = if-ok _ _ _ tt e in
     let p = if-ok _ _ _ tt o.1 in
     record { some = leb-false r.to r.from o.0; within = ltb-false t r.to p.0 }
 
 outside : (t : ℕ) (r : Range) → (Inside t r → ⊥) → range_refusal t r ≡ Err reason.BadRange
-unfolding range_refusal
 outside t r q =
     decide (leb r.to r.from) (λ x. rw x)
     (λ x. decide (ltb t r.to) (λ y. rw (x, y)) (λ y. absurd (q (record { some = leb-false r.to r.from x; within = ltb-false t r.to y }))))
 
 accepted : (t : ℕ) (r : Range) → Inside t r → range_refusal t r ≡ Ok tt
-unfolding range_refusal
 accepted t r i = rw (lt-leb r.to r.from i.some, le-ltb t r.to i.within)
 
 -- what stands past the end of a list of ranges, which no answer rests on
@@ -62,21 +59,23 @@ module _ (t : ℕ) (l : List ℕ) where
   all_read = length-map-range_with_len (range_at l) 0 (length l / 2)
 
   pub ranges-odd : length l % 2 ≡ 1 → ranges_refusal t l ≡ refused reason.BadRange (length l / 2)
-  unfolding ranges_refusal
   ranges-odd e = rw (eq-eqb (length l % 2) 1 e)
 
   ranges-even : (length l % 2 ≡ 1 → ⊥) → ranges_refusal t l ≡ first_refused (range_refusal t) 0 (ranges_of l)
-  unfolding ranges_refusal
   ranges-even h = rw (ne_eqb (length l % 2) 1 h)
 
   pub ranges-unrefused : ranges_refusal t l ≡ Ok tt
       → (length l % 2 ≡ 0) × ((k : ℕ) → k < length l / 2 → Inside t (range_at l k))
-  unfolding ranges_refusal
   ranges-unrefused e =
       let o = if-ok _ _ _ tt e in (
         odd-rest (length l) o.0,
         λ k h. inside t (range_at l k) (rw (read k h) at (none-refused (range_refusal t) 0 (ranges_of l) no_range o.1 k (omega (arith, all_read)))),
       )
+
+  -- a range of them, as it was read
+  pub range-inside : ranges_refusal t l ≡ Ok tt → (k : ℕ) → k < length l / 2 → (r : Range) → r ≡ range_at l k
+      → (r.from < r.to) × (r.to ≤ t)
+  range-inside e k h r q = let i = (ranges-unrefused e).1 k h in rw q (i.some, i.within)
 
   pub ranges-accepted : length l % 2 ≡ 0 → ((k : ℕ) → k < length l / 2 → Inside t (range_at l k))
       → ranges_refusal t l ≡ Ok tt
@@ -95,6 +94,9 @@ module _ (t : ℕ) (l : List ℕ) where
       (λ j b. rw (read j (omega arith)) (accepted t (range_at l j) (p j b)))
       (rw (read k h) (outside t (range_at l k) q))
       ∙ ap (refused reason.BadRange) (zero-add k)
+
+-- for the loop over ranges that were tested
+pub ruleset within = (range-inside)
 
 -- for the loop over the ranges
 pub ruleset ranged = (first-turn, first-hit, first-end, tests)
@@ -141,7 +143,8 @@ module _ (u : List ℕ) (s : List ℤ) (ranges : List ℕ) (nu ns nc : ℕ) wher
 
 -- ---- cuts that aren't refused
 pub record Cuttable (u : List ℕ) (s : List ℤ) (ranges : List ℕ) (nu ns nc : ℕ) : Type 0 where
-  pub ready : ReadyToCut u s ranges
+  pub sound : Sound u s
+  pub inside : (k : ℕ) → k < length ranges / 2 → Inside (total (rows u s)) (range_at ranges k)
   pub few : length s ≤ most_rows
   pub even : length ranges % 2 ≡ 0
   pub words : 5 * length (concat (cuts_of (rows u s) (ranges_of ranges))) ≤ nu
@@ -150,7 +153,6 @@ pub record Cuttable (u : List ℕ) (s : List ℤ) (ranges : List ℕ) (nu ns nc 
 
 pub cuts-unrefused : (u : List ℕ) (s : List ℤ) (ranges : List ℕ) (nu ns nc : ℕ)
     → cuts_refusal u s ranges nu ns nc ≡ Ok tt → Cuttable u s ranges nu ns nc
-unfolding cuts_refusal
 cuts-unrefused u s ranges nu ns nc e =
     let e₀ = and-ok _ _ tt e in
     let e₁ = if-ok _ _ _ tt e₀.1 in
@@ -158,7 +160,8 @@ cuts-unrefused u s ranges nu ns nc e =
     let r = ranges-unrefused (total (rows u s)) ranges e₂.0 in
     let f = fit-facts u s ranges nu ns nc (not-false (cuts_fit (cuts_of (rows u s) (ranges_of ranges)) nu ns nc) (if-ok _ _ _ tt e₂.1).0) in
     record {
-      ready = record { sound = sound u s e₀.0; inside = r.1 };
+      sound = sound u s e₀.0;
+      inside = r.1;
       few = ltb-false most_rows (length s) e₁.0;
       even = r.0;
       words = f.0;
@@ -168,16 +171,15 @@ cuts-unrefused u s ranges nu ns nc e =
 
 pub cuts-accepted : (u : List ℕ) (s : List ℤ) (ranges : List ℕ) (nu ns nc : ℕ) → Cuttable u s ranges nu ns nc
     → cuts_refusal u s ranges nu ns nc ≡ Ok tt
-unfolding cuts_refusal
 cuts-accepted u s ranges nu ns nc o =
     rw (
-      sound-map u s o.ready.sound,
+      sound-map u s o.sound,
       le-ltb most_rows (length s) o.few,
-      ranges-accepted (total (rows u s)) ranges o.even o.ready.inside,
+      ranges-accepted (total (rows u s)) ranges o.even o.inside,
       le-leb (5 * length (concat (cuts_of (rows u s) (ranges_of ranges)))) nu o.words,
       le-leb (length (concat (cuts_of (rows u s) (ranges_of ranges)))) ns o.shifts,
       le-leb (length (cuts_of (rows u s) (ranges_of ranges))) nc (omega (arith, length-cuts (rows u s) ranges, o.counts)),
     )
 
 -- for the tests one after another, and what was tested
-pub ruleset refusing = (accepted-frames, ranges-unrefused, counts-over, rows-asked, cuts-unrefused, tests)
+pub ruleset refusing = (counts-over, rows-asked, cuts-unrefused, tests)

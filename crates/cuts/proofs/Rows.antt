@@ -22,9 +22,11 @@ use Rattle.rows.specs.Lent.{row_at, rows, words_of, shifts_of}
 use Rattle.rows.proofs.Demanded.{demanded}
 use Rattle.rows.proofs.Flat.{words_append, shifts-append, length-words, length-shifts}
 use Rattle.maps.specs.Spans.{Room}
+use Rattle.maps.proofs.Chains.{some-rows}
 use Rattle.maps.proofs.Spans.{span-length}
 use Rattle.maps.proofs.Written.{Written, rows_all, words-length, shifts-length}
-use Rattle.cuts.specs.declared.Range.{Range}
+use Rattle.maps.specs.declared.Range.{Range}
+use Rattle.cuts.proofs.Refused.{range-inside}
 use Rattle.cuts.specs.Answers.{range_at, ranges_of, cuts_of, concat}
 
 -- the rows of the cuts from range k on, of n ranges
@@ -55,7 +57,7 @@ module _ (m : List Row) (f : ℕ → Range) (k n : ℕ) where
   count-end left h = le-leb (length (rest m f k n)) left (omega (arith, ap length (rest-none h)))
 
 -- for the loop that counts
-pub ruleset counting = (span-length, count-over, count-on, count-end)
+pub ruleset counting = (range-inside, span-length, count-over, count-on, count-end)
 
 -- no cut has more rows than the map
 cuts-few : (m : List Row) (l : List Range) → length (concat (cuts_of m l)) ≤ length l * length m
@@ -65,13 +67,15 @@ cuts-few m (r ∷ l) =
     let e = length-append (cut r.from r.to m) (concat (cuts_of m l)) in
     omega (arith, cuts-few m l, demanded.cut_rows m r.from r.to)
 
-pub plainly : (u : List ℕ) (s : List ℤ) (l : List ℕ) (room : ℕ) → 0 < length s → length l / 2 ≤ room / length s
+pub plain : (u : List ℕ) (s : List ℤ) (l : List ℕ) (room : ℕ) → 0 < length s → length l / 2 ≤ room / length s
     → true ≡ leb (length (concat (cuts_of (rows u s) (ranges_of l)))) room
-plainly u s l room some h =
+plain u s l room some h =
     let n = length-map-range_with_len (range_at l) 0 (length l / 2) in
     let m = length-map-range_with_len (row_at u s) 0 (length s) in
     let e : length (ranges_of l) * length (rows u s) ≡ length l / 2 * length s = λ i. n i * m i in
     sym (le-leb (length (concat (cuts_of (rows u s) (ranges_of l)))) room (omega (arith, cuts-few (rows u s) (ranges_of l), e, (le-div_iff_mul-le {k = length s} {x = length l / 2} {y = room} some).0 h)))
+
+pub ruleset plainly = (plain, some-rows)
 
 -- ---- writing
 -- how long a part from n on is

@@ -29,7 +29,7 @@ one-cut m a b = append-nil (cut a b m)
 -- the two tests of a range, with what comes after them
 one-range : (t a b : ℕ) (rest : Result (Unit {0}) Refusal) → result_and (ranges_refusal t (a ∷ b ∷ [])) rest
     ≡ (if leb b a then refused reason.BadRange 0 else if ltb t b then refused reason.BadRange 0 else rest)
-unfolding ranges_refusal first_refused range_refusal
+unfolding first_refused
 one-range t a b rest = decide (leb b a) (λ e. rw e) (λ e. decide (ltb t b) (λ f. rw (e, f)) (λ f. rw (e, f)))
 
 module _ (u : List ℕ) (s : List ℤ) (a b nu ns nc : ℕ) (h : 0 < nc) where
@@ -49,7 +49,6 @@ module _ (u : List ℕ) (s : List ℤ) (a b nu ns nc : ℕ) (h : 0 < nc) where
       )
 
   same-refusal : cuts_refusal u s (a ∷ b ∷ []) nu ns nc ≡ cut_refusal u s a b nu ns
-  unfolding cuts_refusal cut_refusal room_refusal
   same-refusal =
       ap (result_and (map_refusal u s))
       (decide (ltb most_rows (length s)) (λ e. rw e)

@@ -24,7 +24,6 @@ module _ (u : List ℕ) (s : List ℤ) (ranges ou : List ℕ) (os : List ℤ) (c
   -- a map that no call takes: both chains end at the same test
   pub map_refused : (a b : ℕ) (pu : List ℕ) (ps : List ℤ) {pu' : List ℕ} {ps' : List ℤ} {q : Result ℕ Refusal}
       → (LentMap u s → ⊥) → Cut u s a b pu ps q pu' ps' → r ≡ q
-  unfolding cuts_refusal cut_refusal
   map_refused a b pu ps {pu'} {ps'} {q} h c = by (map_refusal u s) refl
     where
       by : (x : Result (Unit {0}) Refusal) → map_refusal u s ≡ x → r ≡ q
@@ -41,7 +40,6 @@ module _ (u : List ℕ) (s : List ℤ) (ranges ou : List ℕ) (os : List ℤ) (c
     is-sound = sound-map u s (record { some = m.some; sizes = m.sizes; well = m.well })
 
     at_range : {k : ℕ} → ranges_refusal t ranges ≡ refused reason.BadRange k → r ≡ refused reason.BadRange k
-    unfolding cuts_refusal
     at_range e = rw (is-sound, le-ltb most_rows (length s) m.few, e) at p.placed.answer
 
     pub torn_refused : length ranges % 2 ≡ 1 → r ≡ refused reason.BadRange (length ranges / 2)
@@ -54,7 +52,6 @@ module _ (u : List ℕ) (s : List ℤ) (ranges ou : List ℕ) (os : List ℤ) (c
 
     pub room_refused : length ranges % 2 ≡ 0 → ((k : ℕ) → k < length ranges / 2 → Inside t (range_at ranges k))
         → (Accepted u s ranges ou os counts → ⊥) → r ≡ refused reason.RowsDontFit 0
-    unfolding cuts_refusal
     room_refused e b q =
         decide (cuts_fit (cuts_of (rows u s) (ranges_of ranges)) (length ou) (length os) (length counts))
         (λ f. let x = fit-facts u s ranges (length ou) (length os) (length counts) f in absurd (q (record { map = m; pairs = e; inside = b; words = x.0; shifts = x.1; counts_fit = x.2 })))

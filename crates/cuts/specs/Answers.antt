@@ -1,7 +1,7 @@
 -- Many cuts of one map (RULES 10.6): the ranges as they are lent, the rows of their cuts, and what `cuts` answers and
 -- leaves in the lent room. A map is lent as its words and shifts. For the answer out_words, out_shifts and counts are
 -- lent, word_room, shift_room and count_room long; with a prime they are what is there afterwards.
-use Rattle.std.specs.Prelude.{ℕ, ◌+◌, ◌*◌, ◌/◌, ◌%◌, ◌≤◌, ◌<◌, Bool, not, ◌&&◌, List, map, ◌≡◌, ℤ, length, get_or, Result, Ok, Err, ◌==◌, nat_lt, nat_le, if◌then◌else◌}
+use Rattle.std.specs.Prelude.{ℕ, ◌+◌, ◌*◌, ◌/◌, ◌%◌, ◌≤◌, ◌<◌, min, Bool, not, ◌&&◌, List, map, ◌≡◌, ℤ, length, get_or, Result, Ok, Err, ◌==◌, nat_lt, nat_le, if◌then◌else◌}
 use Rattle.std.specs.List.{range_with_len, flat_map}
 use Rattle.std.specs.Result.{result_and}
 use Rattle.refusal.specs.declared.Reason.{Reason}
@@ -13,7 +13,7 @@ use Rattle.rows.specs.declared.Row.{Row}
 use Rattle.rows.specs.Rows.{total, cut}
 use Rattle.rows.specs.Lent.{rows}
 use Rattle.maps.specs.Answers.{most_rows, map_refusal, Placed}
-use Rattle.cuts.specs.declared.Range.{Range}
+use Rattle.maps.specs.declared.Range.{Range}
 
 -- a range that has frames, all of them in a map of so many frames
 pub record Inside (frames : ℕ) (range : Range) : Type 0 where
@@ -36,14 +36,14 @@ unfoldable pub concat : {A : Type 0} → List (List A) → List A
 concat lists = flat_map (λ xs. xs) lists
 
 -- 50 of a range of a map of so many frames, by the tests of `cut`
-unfoldable pub range_refusal : ℕ → Range → Result (Unit {0}) Reason
+abbrev pub range_refusal : ℕ → Range → Result (Unit {0}) Reason
 range_refusal frames range =
     if nat_le range.to range.from then Err reason.BadRange
     else if nat_lt frames range.to then Err reason.BadRange
     else Ok tt
 
 -- 50 of the lent words: the last range has no end, or the first range that is refused
-unfoldable pub ranges_refusal : ℕ → List ℕ → Result (Unit {0}) Refusal
+abbrev pub ranges_refusal : ℕ → List ℕ → Result (Unit {0}) Refusal
 ranges_refusal frames ranges =
     if length ranges % 2 == 1 then refused reason.BadRange (length ranges / 2)
     else first_refused (range_refusal frames) 0 (ranges_of ranges)
@@ -55,8 +55,12 @@ cuts_fit asked word_room shift_room count_room =
     && nat_le (length (concat asked)) shift_room
     && nat_le (length asked) count_room
 
+-- the rows for which there is room
+abbrev pub room_of : ℕ → ℕ → ℕ
+room_of word_room shift_room = min (word_room / 5) shift_room
+
 -- the refusals
-unfoldable pub cuts_refusal : List ℕ → List ℤ → List ℕ → ℕ → ℕ → ℕ → Result (Unit {0}) Refusal
+abbrev pub cuts_refusal : List ℕ → List ℤ → List ℕ → ℕ → ℕ → ℕ → Result (Unit {0}) Refusal
 cuts_refusal words shifts ranges word_room shift_room count_room =
     result_and (map_refusal words shifts)
     (if nat_lt most_rows (length shifts) then refused reason.RowsDontFit 0

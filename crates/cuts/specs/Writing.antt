@@ -1,20 +1,22 @@
--- Ranges that can be cut, room for the rows of their cuts, and what is written of them. No public promise names these.
-use Rattle.std.specs.Prelude.{ℕ, ◌/◌, ◌<◌, min, List, map, ◌≡◌, ℤ, length}
+-- Ranges that were tested, and what is written of their cuts. No public promise names these.
+use Rattle.std.specs.Prelude.{ℕ, List, map, ◌≡◌, ℤ, length, Result, Ok, Err}
+use Rattle.refusal.specs.declared.Refusal.{Refusal}
 use Rattle.slices.specs.Slices.{laid}
 use Rattle.rows.specs.declared.Row.{Row}
-use Rattle.rows.specs.Rows.{total}
-use Rattle.rows.specs.Lent.{rows, words_of, shifts_of}
-use Rattle.maps.specs.Spans.{Sound}
-use Rattle.cuts.specs.Answers.{Inside, range_at, concat}
+use Rattle.rows.specs.Lent.{words_of, shifts_of}
+use Rattle.maps.specs.Maps.{rows_in}
+use Rattle.cuts.specs.declared.Ranges.{Ranges}
+use Rattle.cuts.specs.Answers.{ranges_of, cuts_of, concat}
 
--- a map that 51 doesn't refuse, and ranges that 50 doesn't
-pub record ReadyToCut (words : List ℕ) (shifts : List ℤ) (ranges : List ℕ) : Type 0 where
-  pub sound : Sound words shifts
-  pub inside : (k : ℕ) → k < length ranges / 2 → Inside (total (rows words shifts)) (range_at ranges k)
+-- the cuts of a map's ranges
+abbrev pub asked : Ranges → List (List Row)
+asked of = cuts_of (rows_in of.map) (ranges_of of.ranges.now)
 
--- the rows for which there is room
-abbrev pub room_of : ℕ → ℕ → ℕ
-room_of word_room shift_room = min (word_room / 5) shift_room
+-- words, shifts and ranges are the map and its ranges, or they are refused so
+abbrev pub Accepting : Result (Unit {0}) Refusal → List ℕ → List ℤ → List ℕ → Result Ranges Refusal → Type 0
+Accepting refusal words shifts ranges (Ok of) =
+    (refusal ≡ Ok tt) × (of.map.words.now ≡ words) × (of.map.shifts.now ≡ shifts) × (of.ranges.now ≡ ranges)
+Accepting refusal words shifts ranges (Err why) = refusal ≡ Err why
 
 -- the rows of cuts were written, so many, and their counts
 pub record AllWritten

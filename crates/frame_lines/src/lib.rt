@@ -1,4 +1,4 @@
-// What the programs frametimes and frametimes_files print of a file from a reader: RULES 12.
+//! What the programs frametimes and frametimes_files print of a file from a reader: RULES 12.
 #![tactic(auto)]
 
 ghost use Rattle.frame_times.specs.Times.{room};
@@ -8,10 +8,11 @@ ghost use Rattle.frame_lines.specs.Files.{file_times};
 use boxes::read::code;
 use boxes::{Place, find_box_place};
 use frame_times::video_frame_times_of_moov;
-use reading::{Ending, HeldInput};
+use reading::{Ending, Failure, HeldInput};
 use refusal::{Reason, Refusal};
-use std::io::{self, Read};
+use std::io::{self, Read, Write};
 use ticks::FrameTimes;
+use time_lines::Head;
 
 // How many bytes a file may have; a longer one is refused with 30.
 const FILE_BYTES: usize = 32_768;
@@ -38,53 +39,53 @@ fn times_of_file(
     )
 }
 
-// One start a line, for so many frames.
-fn print_starts(rt: &impl Print, starts: &[i64], frames: usize) {
-    for start in starts.iter().take(frames) {
-        let _ = println!(rt; "{start}");
-    }
-}
-
 // The line of a refusal.
-fn print_refusal(rt: &impl Print, reason: Reason) {
+fn write_refusal<W: Write>(out: &mut W, reason: Reason) -> io::Result<()> {
     let number = reason.number();
-    let _ = println!(rt; "refused {number}");
+    writeln!(out, "refused {number}")
 }
 
-// The line of numbers.
-fn print_numbers(rt: &impl Print, times: FrameTimes) {
+// The line of numbers, and a start a line.
+fn write_times<W: Write>(out: &mut W, times: FrameTimes, starts: &[i64]) -> io::Result<()> {
     let FrameTimes {
         frames,
         scale,
         nominal,
         end,
     } = times;
-    let _ = println!(rt; "frames {frames} timescale {scale} nominal {nominal} end {end}");
+    let head = Head {
+        frames,
+        scale,
+        nominal,
+        end,
+    };
+    // there are no more frames than starts
+    let shown = frames.min(starts.len());
+    time_lines::write_times(out, "", head, &starts[..shown])
 }
 
 // All lines for a file, with room for 1,024 frames.
-fn print_file(rt: &impl Print, file: &[u8]) {
+fn write_file<W: Write>(out: &mut W, file: &[u8]) -> io::Result<()> {
     let mut starts = [0i64; 1024];
     let mut first_work = [0i64; 1024];
     let mut second_work = [0i64; 1024];
     match times_of_file(file, &mut starts, &mut first_work, &mut second_work) {
-        Ok(times) => {
-            print_numbers(rt, times);
-            print_starts(rt, &starts, times.frames);
-        }
-        Err(refusal) => print_refusal(rt, refusal.reason),
+        Ok(times) => write_times(out, times, &starts),
+        Err(refusal) => write_refusal(out, refusal.reason),
     }
 }
 
-// Prints the frame times of a file. Where it can't be read to its end that is an error, and nothing
-// is printed: what was read of it has no frame times.
-pub fn run<R: Read>(rt: &impl Print, input: &mut R) -> io::Result<()> {
+/// Writes the lines of RULES 12 for a file of at most 32,768 bytes, and flushes: its frames and
+/// times, or `refused` and a number; 30 for a longer one. Where it can't be read to its end nothing
+/// is written: what was read of it has no frame times.
+pub fn run<R: Read, W: Write>(input: &mut R, out: &mut W) -> Result<(), Failure> {
     let mut file = [0u8; FILE_BYTES];
     let HeldInput { held, end } = reading::read_input(input, &mut file);
-    match end {
-        Ending::Within => print_file(rt, &file[..held]),
-        Ending::Past => print_refusal(rt, Reason::TooLong),
-        Ending::Failed(error) => return Err(error),
-    }
-    Ok(())
+    let written = match end {
+        Ending::Within => write_file(out, &file[..held]),
+        Ending::Past => write_refusal(out, Reason::TooLong),
+        Ending::Failed(error) => return Err(Failure::Input(error)),
+    };
+    written.map_err(Failure::Output)?;
+    out.flush().map_err(Failure::Output)
 }

@@ -40,7 +40,7 @@ told_of n d g = record { count = n; first = d; last = g.cts; last_duration = g.d
 
 tally-more : (n d : ℕ) (g : Frame) (fs : List Frame) → 0 < n
     → tally (told_of n d g) fs ≡ told_of (n + length fs) d (last_of g fs)
-unfolding tally kept_with last_of
+unfolding tally last_of
 tally-more n d g [] p = let e : n ≡ n + 0 = omega arith in ap (λ m. told_of m d g) e
 tally-more n d g (f ∷ fs) p =
     let m : (n + 1) + length fs ≡ n + suc (length fs) = omega arith in
@@ -54,14 +54,13 @@ tally-more n d g (f ∷ fs) p =
     by false r = r g
 
 tally_ends : (fs : List Frame) {k : Kept} → k ≡ tally no_frame fs → (k.count ≡ length fs) × Ends fs k
-unfolding tally kept_with
+unfolding tally
 tally_ends [] e = (ap (λ k. k.count) e, tt)
 tally_ends (f ∷ fs) e =
     let t = e ∙ tally-more 1 f.decode f fs (omega arith) in
     (ap (λ k. k.count) t ∙ omega arith, (ap (λ k. k.first) t, ap (λ k. k.last) t, ap (λ k. k.last_duration) t))
 
 count-with : (k : Kept) (t : ℕ) (c : ℤ) (d : ℕ) → (kept_with k t c d).count ≡ k.count + 1
-unfolding kept_with
 count-with k t c d = grind (arith, nat_tests)
 
 -- ---- the loop: what is done, and the frames that are left, of durations and offsets

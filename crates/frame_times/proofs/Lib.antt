@@ -1,3 +1,4 @@
 pub mod FrameLaws
 pub mod KeepLaws
 pub mod ShowLaws
+pub mod Steps

@@ -26,7 +26,7 @@ pub record Good (edit : Edit) (frame : Frame) : Type 0 where
   pub kept : in_edit edit frame.cts ≡ true
 
 -- one kept frame more
-unfoldable pub kept_with : Kept → ℕ → ℤ → ℕ → Kept
+abbrev pub kept_with : Kept → ℕ → ℤ → ℕ → Kept
 kept_with kept decode cts duration =
     if kept.count == 0 then record { count = 1; first = decode; last = cts; last_duration = duration }
     else if int_le kept.last cts then

@@ -1,11 +1,13 @@
 -- The frame times of a moov: what is answered, from its bytes down to its frames (RULES 8). With `standard` composition
 -- offsets are read by the standard, else by the Rust (`offsets` of tracks/specs/Tables.antt); nothing else goes by it.
-use Rattle.std.specs.Prelude.{ℕ, ◌+◌, min, ◌≡◌, Bool, ◌||◌, List, [], ◌∷◌, map, length, get_or, ℤ, pos, if◌then◌else◌, Option, None, Some, Result, Ok, Err, ◌==◌, nat_lt, int_le}
+use Rattle.std.specs.Prelude.{ℕ, ◌+◌, min, ◌≡◌, Bool, ◌||◌, List, [], ◌∷◌, map, length, get_or, ℤ, pos, if◌then◌else◌, Option, Result, Ok, Err, ◌==◌, nat_lt, int_le}
 use Rattle.std.specs.List.{list_any}
+use Rattle.std.specs.Option.{ok_or}
+use Rattle.std.specs.Result.{result_and}
 use Rattle.refusal.specs.declared.Reason.{Reason}
 use Rattle.refusal.specs.declared.Reason.TheVariants as reason
 use Rattle.refusal.specs.declared.Refusal.{Refusal}
-use Rattle.refusal.specs.Refusals.{refusal_at}
+use Rattle.refusal.specs.Refusals.{refusal_at, refused}
 use Rattle.signed.specs.Signed.{is_outside}
 use Rattle.slices.specs.Slices.{laid, zeros}
 use Rattle.order.specs.Order.{sorted, mode}
@@ -13,6 +15,7 @@ use Rattle.boxes.specs.Bytes.{mdia}
 use Rattle.boxes.specs.Boxes.{most_bytes, boxes_of, first_of}
 use Rattle.boxes.specs.Places.{bytes_at, child_of}
 use Rattle.boxes.specs.Tracks.{video_track}
+use Rattle.boxes.specs.declared.Place.{Place}
 use Rattle.boxes.specs.declared.Walk.{Walk}
 use Rattle.boxes.specs.declared.Walk.TheVariants.{Found, End, Bad as BadAt}
 use Rattle.tracks.specs.declared.Edit.{Edit}
@@ -48,13 +51,9 @@ pub record Outcome : Type 0 where
   pub answer : Result FrameTimes Refusal
   pub starts : List ℤ
 
--- a refusal at an index: no starts go with it
-abbrev pub no_times_at : Reason → ℕ → Outcome
-no_times_at why index = record { answer = Err (refusal_at why index); starts = [] }
-
--- the same at 0
+-- a refusal: no starts go with it
 abbrev pub no_times : Reason → Outcome
-no_times why = no_times_at why 0
+no_times why = record { answer = refused why 0; starts = [] }
 
 -- the answer of an end and starts, where an i64 holds each
 unfoldable pub placed : ℕ → ℤ → ℤ → List ℤ → Outcome
@@ -87,76 +86,95 @@ abbrev pub of_frames : ℕ → Edit → List ℕ → List ℤ → Outcome
 of_frames scale edit durations offsets =
     of_kept scale (mode (map pos durations)) edit (kept edit (frames_from 0 durations offsets))
 
--- of durations, offsets and an edit list that may be refused
-abbrev pub of_edit : Option Edit → ℕ → List ℕ → List ℤ → Outcome
-of_edit None scale durations offsets = no_times reason.Missing
-of_edit (Some edit) scale durations offsets = of_frames scale edit durations offsets
+-- ---- steps that may be refused: `do` goes on from each, as `?` does in the code
+infixl 10 ◌>>=◌
+abbrev pub ◌>>=◌ : {A B : Type 0} → Result A Refusal → (A → Result B Refusal) → Result B Refusal
+Ok value >>= next = next value
+Err refusal >>= next = Err refusal
 
--- past the room test: of a ctts that may be torn, and then of the edit list
-abbrev pub of_offsets : Bool → Option ℕ → List ℕ → List ℕ → ℕ → ℕ → List ℕ → Outcome
-of_offsets standard None ctts edts scale movie durations = no_times reason.Missing
-of_offsets standard (Some entries) ctts edts scale movie durations =
-    of_edit (edit_of edts scale movie) scale durations (offsets standard entries ctts)
+infixl 10 ◌>>◌
+abbrev pub ◌>>◌ : {A : Type 0} → Result (Unit {0}) Refusal → Result A Refusal → Result A Refusal
+step >> next = result_and step next
 
--- of a stts that may be torn: more frames than the moov has bytes are refused, and then more than there is room for
-abbrev pub of_durations : Bool → Option ℕ → ℕ → ℕ → ℕ → ℕ → List ℕ → List ℕ → List ℕ → Outcome
-of_durations standard None bytes room movie scale edts ctts stts = no_times reason.Missing
-of_durations standard (Some entries) bytes room movie scale edts ctts stts =
-    if nat_lt bytes (entry_total (entries_of entries stts)) then no_times reason.Missing
-    else if nat_lt room (entry_total (entries_of entries stts)) then no_times reason.NoRoom
-    else of_offsets standard (optional_entries ctts) ctts edts scale movie (durations entries stts)
+abbrev pub refuse_if : Bool → Reason → Result (Unit {0}) Refusal
+refuse_if test why = if test then refused why 0 else Ok tt
 
--- a box that has to be there, in the part that starts at `base` of the moov: its payload goes on, with where that
--- starts in the moov. Where it isn't, 31 after a clean end; at a broken header 36, with its offset in the moov
-abbrev pub required : ℕ → Walk → List ℕ → (ℕ → List ℕ → Outcome) → Outcome
-required base (Found place) bytes next = next (base + place.start) (bytes_at bytes place)
-required base End bytes next = no_times reason.Missing
-required base (BadAt at) bytes next = no_times_at reason.Broken (base + at)
+-- what has to be there, or 31
+abbrev pub needed : {A : Type 0} → Option A → Result A Refusal
+needed value = ok_or value (refusal_at reason.Missing 0)
 
--- the same for the first child of a type
-abbrev pub in_child : ℕ → ℕ → List ℕ → (ℕ → List ℕ → Outcome) → Outcome
-in_child kind base bytes next = required base (first_of kind (boxes_of bytes)) bytes next
+-- a part of a moov: where in the moov it starts, and its bytes
+pub record Part : Type 0 where
+  pub base : ℕ
+  pub bytes : List ℕ
 
--- of a stbl, which has the tables: the stts has to be there
-unfoldable pub of_tables : Bool → ℕ → ℕ → ℕ → ℕ → List ℕ → ℕ → List ℕ → Outcome
-of_tables standard bytes room movie scale edts base tables =
-    in_child stts base tables
-    (λ at payload.
-    of_durations standard (table_entries payload) bytes room movie scale edts (child_of ctts tables) payload)
+abbrev pub whole_part : List ℕ → Part
+whole_part moov = record { base = 0; bytes = moov }
 
--- a timescale that has to be whole
-abbrev pub with_scale : Option ℕ → (ℕ → Outcome) → Outcome
-with_scale None next = no_times reason.Missing
-with_scale (Some scale) next = next scale
+abbrev pub inner_part : Part → Place → Part
+inner_part part place = record { base = part.base + place.start; bytes = bytes_at part.bytes place }
 
--- of a mdia, which has the timescale and, two boxes below, the stbl; neither timescale may be 0
-abbrev pub of_scale : Bool → ℕ → ℕ → ℕ → ℕ → List ℕ → ℕ → List ℕ → Outcome
-of_scale standard bytes room movie scale edts base media =
-    if scale == 0 || movie == 0 then no_times reason.Missing
-    else in_child minf base media (λ at inner. in_child stbl at inner (of_tables standard bytes room movie scale edts))
+-- the payload that a walk over a part found, which has to be there: 31 after a clean end, at a broken header 36 with its
+-- offset in the moov (RULES 7.6)
+abbrev pub found : Part → Walk → Result Part Refusal
+found part (Found place) = Ok (inner_part part place)
+found part End = refused reason.Missing 0
+found part (BadAt at) = refused reason.Broken (part.base + at)
 
-unfoldable pub of_media : Bool → ℕ → ℕ → ℕ → List ℕ → ℕ → List ℕ → Outcome
-of_media standard bytes room movie edts base media =
-    in_child mdhd base media
-    (λ at payload. with_scale (timescale payload) (λ scale. of_scale standard bytes room movie scale edts base media))
+-- the payload of a part's first child of a type, by what `found` answers
+abbrev pub child : (Part → Walk → Result Part Refusal) → Part → ℕ → Result Part Refusal
+child found part kind = found part (first_of kind (boxes_of part.bytes))
 
--- of a video track, whose edts may be absent
-unfoldable pub of_track : Bool → ℕ → ℕ → ℕ → ℕ → List ℕ → Outcome
-of_track standard bytes room movie base track =
-    in_child mdia base track (of_media standard bytes room movie (child_of edts track))
+-- a video track: the most frames that it may have, the movie's timescale and its own, and the payloads of its tables; an
+-- edts or a ctts that is absent is empty
+pub record Track : Type 0 where
+  pub most_frames : ℕ
+  pub movie : ℕ
+  pub scale : ℕ
+  pub edts : List ℕ
+  pub ctts : List ℕ
+  pub stts : List ℕ
 
--- of a mvhd, which has the movie's timescale; where that isn't whole no track is looked for. That it isn't 0 is tested
--- with the track's own
-abbrev pub of_movie : Bool → List ℕ → ℕ → List ℕ → Outcome
-of_movie standard moov room payload =
-    with_scale (timescale payload)
-    (λ movie. required 0 (video_track moov) moov (of_track standard (length moov) room movie))
+-- A MOOV'S FIRST VIDEO TRACK, in the order of RULES 8.1 and 8.2, by what `found` answers
+abbrev pub track_by : (Part → Walk → Result Part Refusal) → List ℕ → Result Track Refusal
+track_by found moov = do
+  refuse_if (nat_lt most_bytes (length moov)) reason.TooLong
+  header ← child found (whole_part moov) mvhd
+  movie ← needed (timescale header.bytes)
+  track ← found (whole_part moov) (video_track moov)
+  media ← child found track mdia
+  header ← child found media mdhd
+  scale ← needed (timescale header.bytes)
+  refuse_if (scale == 0 || movie == 0) reason.Missing
+  info ← child found media minf
+  tables ← child found info stbl
+  times ← child found tables stts
+  Ok (record {
+    most_frames = length moov;
+    movie = movie;
+    scale = scale;
+    edts = child_of edts track.bytes;
+    ctts = child_of ctts tables.bytes;
+    stts = times.bytes;
+  })
 
--- of a moov: its mvhd, then its first video track
+-- A TRACK'S TIMES, in the order of RULES 8.9: its durations, then its offsets and its edit list
+abbrev pub times_in : Bool → ℕ → Track → Result Outcome Refusal
+times_in standard room track = do
+  entries ← needed (table_entries track.stts)
+  refuse_if (nat_lt track.most_frames (entry_total (entries_of entries track.stts))) reason.Missing
+  refuse_if (nat_lt room (entry_total (entries_of entries track.stts))) reason.NoRoom
+  offset_entries ← needed (optional_entries track.ctts)
+  edit ← needed (edit_of track.edts track.scale track.movie)
+  Ok (of_frames track.scale edit (durations entries track.stts) (offsets standard offset_entries track.ctts))
+
+-- an outcome that may be refused
+abbrev pub outcome_of : Result Outcome Refusal → Outcome
+outcome_of (Ok outcome) = outcome
+outcome_of (Err refusal) = record { answer = Err refusal; starts = [] }
+
 unfoldable pub times_of_moov : Bool → List ℕ → ℕ → Outcome
-times_of_moov standard moov room =
-    if nat_lt most_bytes (length moov) then no_times reason.TooLong
-    else in_child mvhd 0 moov (λ at payload. of_movie standard moov room payload)
+times_of_moov standard moov room = outcome_of (track_by found moov >>= times_in standard room)
 
 -- the room that three slices have
 abbrev pub room : List ℤ → List ℤ → List ℤ → ℕ

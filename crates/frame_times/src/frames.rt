@@ -25,7 +25,6 @@ fn in_edit(edit: Edit, cts: i64) -> bool
 }
 
 // One kept frame more, which comes last where its composition time isn't below the last one's.
-#[tactic(auto, using(conditions::proofs::Tests::tests), unfolding(crate::specs::KeptFrames::kept_with))]
 fn with_frame(kept: Kept, decode: u64, cts: i64, duration: u64) -> Kept
     requires { kept.count ≤ most_bytes }
     ensures { result ≡ kept_with kept decode cts duration }

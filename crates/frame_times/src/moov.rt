@@ -1,13 +1,13 @@
 // From the moov to its first video track, in the order of the Rust: RULES 8.1 and 8.2.
-ghost use Rattle.std.specs.Prelude.{◌≡◌, ℕ, Bool};
-ghost use Rattle.frame_times.specs.Times.{room, times_of_moov};
-ghost use Rattle.frame_times.specs.Found.{of_found};
+ghost use Rattle.std.specs.Prelude.{◌≡◌};
+ghost use Rattle.frame_times.specs.Times.{room, found, track_by, times_of_moov};
+ghost use Rattle.frame_times.specs.Found.{track_seen, answer_seen};
 ghost use Rattle.frame_times.specs.KeptFrames.{OutcomeAnswered};
 
-use crate::part::Part;
+use crate::part::{Part, needed};
 use crate::track::Track;
 use boxes::MOST_BYTES;
-use boxes::part::inner_child;
+use boxes::places::inner_child;
 use boxes::read::code;
 use boxes::track::find_video_track;
 use refusal::{Reason, Refusal};
@@ -15,10 +15,8 @@ use ticks::FrameTimes;
 use tracks::tables::timescale;
 
 // The first video track of a moov.
-#[tactic(auto, using(conditions::proofs::Tests::tests), unfolding(crate::specs::Times::times_of_moov, crate::specs::Times::of_track, crate::specs::Times::of_media, crate::specs::Times::of_tables))]
 fn video_track(moov: &[u8]) -> Result<Track<'_>, Refusal>
-    ensures { (standard : Bool) (room : ℕ)
-        → times_of_moov standard moov.now room ≡ of_found standard room result }
+    ensures { answer_seen track_seen result ≡ track_by found moov.now }
 {
     let most = moov.len();
     if MOST_BYTES < most {
@@ -29,11 +27,11 @@ fn video_track(moov: &[u8]) -> Result<Track<'_>, Refusal>
         base: 0,
     };
     let mvhd = moov.child(b"mvhd")?;
-    let movie = timescale(mvhd.bytes).ok_or(Reason::Missing.at(0))?;
+    let movie = needed(timescale(mvhd.bytes))?;
     let trak = moov.found(find_video_track(moov.bytes))?;
     let mdia = trak.child(b"mdia")?;
     let mdhd = mdia.child(b"mdhd")?;
-    let scale = timescale(mdhd.bytes).ok_or(Reason::Missing.at(0))?;
+    let scale = needed(timescale(mdhd.bytes))?;
     if (scale == 0) | (movie == 0) {
         return Err(Reason::Missing.at(0));
     }
@@ -51,6 +49,7 @@ fn video_track(moov: &[u8]) -> Result<Track<'_>, Refusal>
 }
 
 // Answers with a moov, and leaves the working slices as they happen to be.
+#[tactic(auto, unfolding(crate::specs::Times::times_of_moov))]
 pub(crate) fn of_moov(
     moov: &[u8],
     standard: bool,

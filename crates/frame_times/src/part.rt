@@ -1,13 +1,21 @@
-// Parts of a moov.
-ghost use Rattle.std.specs.Prelude.{◌≡◌, ℕ, List, ◌+◌, ◌≤◌, length};
+// Parts of a moov: RULES 8.1.
+ghost use Rattle.std.specs.Prelude.{◌≡◌, ◌+◌, ◌≤◌, length};
 ghost use Rattle.boxes.specs.Boxes.{most_bytes};
+ghost use Rattle.frame_times.specs.Times.{needed};
 
 use boxes::Walk;
 use boxes::read::code;
 use boxes::search::find_child;
 use refusal::{Reason, Refusal};
 
-// A part of a moov: its bytes, and where in the moov they start.
+/// What has to be there: else 31.
+pub(crate) fn needed<T>(value: Option<T>) -> Result<T, Refusal>
+    ensures { result ≡ needed value }
+{
+    value.ok_or(Reason::Missing.at(0))
+}
+
+/// A part of a moov: its bytes, and where in the moov they start.
 #[derive(Clone, Copy)]
 pub(crate) struct Part<'a> {
     pub bytes: &'a [u8],
@@ -18,15 +26,14 @@ pub(crate) struct Part<'a> {
 impl<'a> Part<'a> {
     ghost use Rattle.boxes.specs.Bytes.{be32_at};
     ghost use Rattle.boxes.specs.Walks.{WalkStays};
-    ghost use Rattle.frame_times.specs.Times.{Outcome, in_child, required};
-    ghost use Rattle.frame_times.specs.Found.{onwards};
+    ghost use Rattle.frame_times.specs.Times.{found, child};
+    ghost use Rattle.frame_times.specs.Found.{part_seen, answer_seen};
 
-    // The payload that a walk over this part found, which has to be there (RULES 7.6); the offset
-    // of a broken header is that in the moov.
+    /// The payload that a walk over this part found, which has to be there: else 31, or 36 with the
+    /// broken header's offset in the moov (RULES 7.6).
     pub(crate) fn found(self, walk: Walk) -> Result<Part<'a>, Refusal>
         requires { WalkStays (length self.bytes.now) walk }
-        ensures { (next : ℕ → List ℕ → Outcome)
-            → required self.entry.base walk self.entry.bytes.now next ≡ onwards result next }
+        ensures { answer_seen part_seen result ≡ found (part_seen self.entry) walk }
     {
         match walk {
             Walk::Found(place) => Ok(Part {
@@ -38,11 +45,10 @@ impl<'a> Part<'a> {
         }
     }
 
-    // The payload of the first child of a type, which has to be there.
+    /// The payload of the first child of a type, which has to be there likewise.
     pub(crate) fn child(self, kind: &[u8; 4]) -> Result<Part<'a>, Refusal>
-        ensures { (next : ℕ → List ℕ → Outcome)
-            → in_child (be32_at kind.now 0) self.entry.base self.entry.bytes.now next
-            ≡ onwards result next }
+        ensures { answer_seen part_seen result
+            ≡ child found (part_seen self.entry) (be32_at kind.now 0) }
     {
         self.found(find_child(self.bytes, code(kind)))
     }

@@ -2,6 +2,7 @@
 ghost use Rattle.std.specs.Prelude.{◌<◌, ◌≤◌, ◌^◌};
 ghost use Rattle.boxes.specs.Boxes.{most_bytes};
 
+use crate::part::needed;
 use crate::times::present;
 use refusal::{Reason, Refusal};
 use ticks::FrameTimes;
@@ -10,9 +11,9 @@ use tracks::edits::edit_of;
 use tracks::entries::Table;
 use tracks::tables::lay;
 
-// A video track: the most frames that it can have, which is the moov's bytes; the movie's
-// timescale, which isn't 0, and its own; the payloads of its tables. An edts or a ctts that is
-// absent is empty.
+/// A video track: the most frames that it can have, which is the moov's bytes; the movie's
+/// timescale, which isn't 0, and its own, in ticks a second; the payloads of its tables. An edts or
+/// a ctts that is absent is empty.
 #[derive(Clone, Copy)]
 pub(crate) struct Track<'a> {
     pub most_frames: usize,
@@ -28,8 +29,8 @@ pub(crate) struct Track<'a> {
     ghost scale_fits: { scale < 2 ^ 32 },
 }
 
-// What tells when a track's frames are: their durations and offsets, how the offsets are read, and
-// the edit.
+/// What tells when a track's frames are: their durations and offsets, how the offsets are read, and
+/// the edit.
 #[derive(Clone, Copy)]
 pub(crate) struct Timing<'a> {
     pub durations: Table<'a>,
@@ -39,8 +40,8 @@ pub(crate) struct Timing<'a> {
 }
 
 impl Track<'_> {
-    ghost use Rattle.frame_times.specs.Times.{room};
-    ghost use Rattle.frame_times.specs.Found.{times_of_track};
+    ghost use Rattle.frame_times.specs.Times.{room, outcome_of, times_in};
+    ghost use Rattle.frame_times.specs.Found.{track_seen};
     ghost use Rattle.frame_times.specs.KeptFrames.{OutcomeAnswered};
 
     // Answers with the tables: the durations are judged, then the offsets and the edit (RULES 8.9).
@@ -53,10 +54,11 @@ impl Track<'_> {
         second_work: &mut [i64],
     ) -> Result<FrameTimes, Refusal>
         ensures { OutcomeAnswered
-            (times_of_track standard (room starts.old first_work.old second_work.old) self.entry)
+            (outcome_of (times_in standard (room starts.old first_work.old second_work.old)
+            (track_seen self.entry)))
             result starts.old starts.new }
     {
-        let durations = Table::of(self.stts).ok_or(Reason::Missing.at(0))?;
+        let durations = needed(Table::of(self.stts))?;
         let frames = lay(durations, self.most_frames, second_work);
         if self.most_frames < frames {
             return Err(Reason::Missing.at(0));
@@ -64,8 +66,8 @@ impl Track<'_> {
         if starts.len().min(first_work.len()).min(second_work.len()) < frames {
             return Err(Reason::NoRoom.at(0));
         }
-        let offsets = Table::of_optional(self.ctts).ok_or(Reason::Missing.at(0))?;
-        let edit = edit_of(self.edts, self.scale, self.movie).ok_or(Reason::Missing.at(0))?;
+        let offsets = needed(Table::of_optional(self.ctts))?;
+        let edit = needed(edit_of(self.edts, self.scale, self.movie))?;
         let timing = Timing {
             durations,
             offsets,

@@ -1,6 +1,5 @@
-// Prints the frame times of each file that is named, as frametimes prints them, under a line
-// `NAME:`. The stored run is of the files in data/, which args names:
-//
+//! Prints the frame times of each file that is named, as frametimes prints them, under a line
+//! `NAME:`. The stored run is of the files in data/, which args names:
 // M1: offsets and no edit.
 // data/m1: tools/make-moov durations=10,10,10 offsets=10,30,0
 // A moov whose size has 64 bits, cut short by its edit.
@@ -23,23 +22,32 @@
 // data/36: tools/make-moov mdat=100 cut=50
 #![tactic(auto)]
 
+use reading::{Buffered, Failure};
+use std::io::Write;
 use std::process::ExitCode;
 use std::rt::Files;
 use std::{env, fs, io};
 
-// What frametimes prints of a file, under its name.
-fn print_named(rt: &(impl Files + Print), name: &str) -> io::Result<()> {
-    let mut file = fs::open(rt, name)?;
-    let _ = println!(rt; "{name}:");
-    frame_lines::run(rt, &mut file)
+// What frametimes prints of a file, under its name, which is there before the file is read.
+fn print_named(rt: &(impl Files + Print), name: &str) -> Result<(), Failure> {
+    let mut file = fs::open(rt, name).map_err(Failure::Input)?;
+    let mut out = Buffered::new(io::writer(rt));
+    writeln!(out, "{name}:").map_err(Failure::Output)?;
+    out.flush().map_err(Failure::Output)?;
+    frame_lines::run(&mut file, &mut out)
 }
 
-// Prints the files that are named, up to the first that can't be opened or read.
+// Prints the files that are named, up to the first that can't be opened or read, or whose lines
+// can't be written.
 fn main(rt: HostRuntime) -> io::Result<ExitCode> {
     for name in env::args(&rt)?.skip(1) {
-        if let Err(error) = print_named(&rt, name.as_str()) {
-            eprintln!(rt; "frametimes_files: {name}: {error}")?;
-            return Ok(ExitCode::FAILURE);
+        match print_named(&rt, name.as_str()) {
+            Ok(()) => {}
+            Err(Failure::Input(error)) => {
+                eprintln!(rt; "frametimes_files: {name}: {error}")?;
+                return Ok(ExitCode::FAILURE);
+            }
+            Err(Failure::Output(_)) => return Ok(reading::say_unwritten(&rt)),
         }
     }
     Ok(ExitCode::SUCCESS)

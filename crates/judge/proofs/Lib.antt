@@ -1,4 +1,3 @@
-pub mod Lent
 pub mod Ready
 pub mod Recordings
 pub mod Meaning

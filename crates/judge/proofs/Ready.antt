@@ -1,15 +1,21 @@
 -- What an accepted table gives to its judge. Assumes nothing.
 use mathlib.Core.Path.{◌≡◌, sym, subst}
-use Prim.Native.Nat.{ℕ, ◌-◌}
+use Prim.Native.Nat.{ℕ, ◌-◌, ◌<◌}
 use native.Mathlib.Omega.{arith}
 use lib.ListN.{length}
 use Rattle.std.specs.Prelude.{Ok}
 use Rattle.signed.specs.Fits.{I64}
-use Rattle.rules.specs.Records.{Table, out_end_us}
+use Rattle.rules.specs.Records.{Table, segment, out_end, out_end_us}
 use Rattle.rules.specs.Rules.{check_of}
 use Rattle.rules.proofs.Accepted.{Accepted, accepted}
 use Rattle.judge.specs.Judge.{last_segment}
-use Rattle.judge.specs.Ready.{Ready}
+
+-- some segments, of which the first one's source is there; the last one ends at the frame total, and at a time that an i64 holds
+pub record Ready (table : Table) (total : ℕ) : Type 0 where
+  pub some : 0 < length table.segments
+  pub named : (segment table 0).words.source < length table.sources
+  pub frames : out_end (last_segment table.segments) ≡ total
+  pub end : I64 (out_end_us (last_segment table.segments))
 
 -- the end time of the last segment of an accepted table
 end-fits : (t : Table) (N : ℕ) → Accepted t N → I64 (out_end_us (last_segment t.segments))
@@ -20,10 +26,4 @@ end-fits t N g =
 pub ready : (t : Table) {N : ℕ} → check_of t ≡ Ok N → Ready t N
 ready t {N} e =
     let g = accepted t N e in
-    record {
-      even = g.even;
-      some = g.some-segments;
-      named = (g.segments 0 g.some-segments).named;
-      frames = g.last;
-      end = end-fits t N g;
-    }
+    record { some = g.some-segments; named = (g.segments 0 g.some-segments).named; frames = g.last; end = end-fits t N g }

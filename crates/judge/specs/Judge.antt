@@ -27,16 +27,21 @@ start_refusal shown segment = starts_at (micros_of (shown.time segment.words.out
 abbrev pub last_segment : List Segment → Segment
 last_segment segments = get_or segments (length segments - 1) no_segment
 
--- 21, 20, 22, then 23 with 24 segment by segment, 25
-unfoldable pub video_refusal : List Segment → Shown → Result (Unit {0}) Refusal
-video_refusal segments shown =
-    if not shown.given then refused reason.NoVideo 0
-    else if shown.over then refused reason.TooLarge 0
-    else if not (out_end (last_segment segments) == shown.frames) then refused reason.OtherFrameCount 0
+-- of a video within its limits: 22, then 23 with 24 segment by segment, 25
+abbrev pub timeline_refusal : List Segment → Shown → Result (Unit {0}) Refusal
+timeline_refusal segments shown =
+    if not (out_end (last_segment segments) == shown.frames) then refused reason.OtherFrameCount 0
     else result_and (first_refused (start_refusal shown) 0 segments)
     (if not (ends_near (out_end_us (last_segment segments)) shown.end shown.nominal shown.scale)
     then refused reason.EndNotNear 0
     else Ok tt)
+
+-- 21, 20, and then these
+unfoldable pub video_refusal : List Segment → Shown → Result (Unit {0}) Refusal
+video_refusal segments shown =
+    if not shown.given then refused reason.NoVideo 0
+    else if shown.over then refused reason.TooLarge 0
+    else timeline_refusal segments shown
 
 -- a table against a video: the check's refusals first; accepted, the frame total
 unfoldable pub validate_of : Table → Shown → Result ℕ Refusal

@@ -2,5 +2,4 @@ pub mod Video
 pub mod Judge
 pub mod Means
 pub mod Grounds
-pub mod Ready
 pub mod Examples

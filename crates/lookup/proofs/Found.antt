@@ -10,7 +10,7 @@ use Rattle.rules.specs.Records.{Table, segment}
 use Rattle.rules.specs.Rules.{check_of}
 use Rattle.rules.proofs.Accepted.{Accepted, accepted}
 use Rattle.rules.proofs.Search.{frames-ordered, times-ordered}
-use Rattle.lookup.specs.Searchable.{Chained, Timed}
+use Rattle.lookup.proofs.Searchable.{Chained, Timed}
 
 module _ (t : Table) {N : ℕ} (e : check_of t ≡ Ok N) where
   given : Accepted t N
@@ -18,17 +18,13 @@ module _ (t : Table) {N : ℕ} (e : check_of t ≡ Ok N) where
 
   pub chained : Chained t
   chained = record {
-    even = given.even;
     some = given.some-segments;
     ends = frames-ordered given;
-    first = given.first;
     chained = λ k h. let z : k + 1 ≡ suc k = omega arith in ap (λ (j : ℕ). (segment t j).words.out) z ∙ (given.follows k (omega arith)).frame;
   }
 
   pub timed : Timed t
   timed = record {
-    even = given.even;
-    some = given.some-segments;
     ends = times-ordered given;
     plain = λ k h. (given.segments k h).out-time.start;
     sum = λ k h. (given.segments k h).out-time.sum;

@@ -18,7 +18,7 @@ use Rattle.rules.specs.declared.Segment.{Segment}
 use Rattle.rules.specs.Records.{Table, no_segment, nth, segment, out_end}
 use Rattle.rules.specs.Lookups.{ended, over_by, over_by_us}
 use Rattle.rules.specs.Walks.{Ordered}
-use Rattle.lookup.specs.Searchable.{Chained, Timed, start_us, end_us}
+use Rattle.lookup.proofs.Searchable.{Chained, Timed, start_us, end_us}
 
 -- which have begun, and which have ended: one that isn't the first begins as the one before it ends, and those that
 -- have ended come first

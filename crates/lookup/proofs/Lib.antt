@@ -1,2 +1,3 @@
+pub mod Searchable
 pub mod Last
 pub mod Found

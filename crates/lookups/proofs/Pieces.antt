@@ -10,7 +10,7 @@ use borrow.Author.Tests.{ne_eqb, le-leb, lt-leb, leb-true, ltb-true}
 use Rattle.rows.specs.Halving.{LastThat}
 use Rattle.rules.specs.Lookups.{ended}
 use Rattle.rules.specs.Records.{Table, segment}
-use Rattle.lookup.specs.Searchable.{Chained}
+use Rattle.lookup.proofs.Searchable.{Chained}
 use Rattle.lookup.proofs.Last.{last-ended, frames-in-turn}
 use Rattle.lookups.specs.declared.Piece.{Piece}
 use Rattle.lookups.specs.Pieces.{index_in, piece_end, piece_at, Covers}

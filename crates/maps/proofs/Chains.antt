@@ -14,6 +14,7 @@ use Rattle.rows.specs.declared.Row.{Row}
 use Rattle.rows.specs.Rows.{total, ok_row, WellFrom, cut, join, merge}
 use Rattle.rows.proofs.Demanded.{demanded}
 use Rattle.rows.specs.Lent.{row_at, rows}
+use Rattle.maps.specs.declared.FrameMap.{FrameMap}
 use Rattle.maps.specs.Answers.{most_rows, sized, first_bad, map_refusal, fits, room_refusal, cut_refusal, join_refusal, merge_refusal, origin_refusal}
 use Rattle.maps.specs.Spans.{Sound}
 
@@ -29,7 +30,6 @@ well-first [] p i w = refl
 well-first (r ∷ m) p i w = rw w.0 (well-first m (p + r.count) (suc i) w.1)
 
 pub sound : (u : List ℕ) (s : List ℤ) → map_refusal u s ≡ Ok tt → Sound u s
-unfolding map_refusal
 sound u s e =
     let o = if-ok _ _ _ tt e in
     let z = not-false (sized (length u) (length s)) o.0 in
@@ -39,13 +39,22 @@ sound u s e =
       well = first-well (rows u s) 0 0 o.1;
     }
 
+pub lengths : (u : List ℕ) (s : List ℤ) → map_refusal u s ≡ Ok tt → length u ≡ 5 * length s
+lengths u s e = (sound u s e).sizes
+
+pub some-rows : (u : List ℕ) (s : List ℤ) → map_refusal u s ≡ Ok tt → 0 < length s
+some-rows u s e = (sound u s e).some
+
+-- a map that was tested
+pub kept : (map : FrameMap) → Sound map.words.now map.shifts.now
+kept map = sound _ _ map.tested
+
 -- what an accepted map's frames say
 pub accepted-frames : (u : List ℕ) (s : List ℤ) {d : ℕ} → Ok d ≡ result_and (map_refusal u s) (Ok (total (rows u s)))
     → Sound u s × (map_refusal u s ≡ Ok tt) × (total (rows u s) ≡ d)
 accepted-frames u s {d} e = let o = ok-of (map_refusal u s) (total (rows u s)) d (sym e) in (sound u s o.0, o.0, o.1)
 
 pub sound-map : (u : List ℕ) (s : List ℤ) → Sound u s → map_refusal u s ≡ Ok tt
-unfolding map_refusal
 sound-map u s o =
     let z : sized (length u) (length s) ≡ true = rw (lt-ltb 0 (length s) o.some) (eq-eqb (length u) (5 * length s) o.sizes) in
     rw z (well-first (rows u s) 0 0 o.well)
@@ -75,26 +84,21 @@ pub too_many : (k nu ns : ℕ) → most_rows < k → fits k nu ns ≡ false
 too_many k nu ns h = rw (lt-leb k most_rows h)
 
 pub room-unrefused : (k nu ns : ℕ) → room_refusal k nu ns ≡ Ok tt → Fits k nu ns
-unfolding room_refusal
 room-unrefused k nu ns e = fits-facts k nu ns (not-false (fits k nu ns) (if-ok _ _ _ tt e).0)
 
 pub room-on : (k nu ns : ℕ) → fits k nu ns ≡ false → room_refusal k nu ns ≡ refused reason.RowsDontFit 0
-unfolding room_refusal
 room-on k nu ns e = rw e
 
 pub room-off : (k nu ns : ℕ) → fits k nu ns ≡ true → room_refusal k nu ns ≡ Ok tt
-unfolding room_refusal
 room-off k nu ns e = rw e
 
 -- the chain of a cut
 module _ (u : List ℕ) (s : List ℤ) (a b nu ns : ℕ) (e : map_refusal u s ≡ Ok tt) (few : length s ≤ most_rows) where
   pub cut-empty : b ≤ a → cut_refusal u s a b nu ns ≡ refused reason.BadRange 0
-  unfolding cut_refusal
   cut-empty h = rw (e, le-ltb most_rows (length s) few, le-leb b a h)
 
   pub cut-room : a < b → b ≤ total (rows u s)
       → cut_refusal u s a b nu ns ≡ room_refusal (length (cut a b (rows u s))) nu ns
-  unfolding cut_refusal
   cut-room h l = rw (e, le-ltb most_rows (length s) few, lt-leb b a h, le-ltb (total (rows u s)) b l)
 
 -- a cut that isn't refused
@@ -107,7 +111,6 @@ pub record Cuttable (u : List ℕ) (s : List ℤ) (a b nu ns : ℕ) : Type 0 whe
 
 pub cut-unrefused : (u : List ℕ) (s : List ℤ) (a b nu ns : ℕ) → cut_refusal u s a b nu ns ≡ Ok tt
     → Cuttable u s a b nu ns
-unfolding cut_refusal
 cut-unrefused u s a b nu ns e =
     let e₀ = and-ok _ _ tt e in
     let e₁ = if-ok _ _ _ tt e₀.1 in
@@ -130,7 +133,6 @@ cut-accepted u s a b nu ns o =
 -- the chain of a merge
 module _ (u : List ℕ) (s : List ℤ) (nu ns : ℕ) (e : map_refusal u s ≡ Ok tt) (few : length s ≤ most_rows) where
   pub merge-room : merge_refusal u s nu ns ≡ room_refusal (length (merge (rows u s))) nu ns
-  unfolding merge_refusal
   merge-room = rw (e, le-ltb most_rows (length s) few)
 
   -- room for all of the map's rows is room for the merged ones
@@ -148,7 +150,6 @@ pub record Mergeable (u : List ℕ) (s : List ℤ) (nu ns : ℕ) : Type 0 where
   pub room : Fits (length (merge (rows u s))) nu ns
 
 pub merge-unrefused : (u : List ℕ) (s : List ℤ) (nu ns : ℕ) → merge_refusal u s nu ns ≡ Ok tt → Mergeable u s nu ns
-unfolding merge_refusal
 merge-unrefused u s nu ns e =
     let e₀ = and-ok _ _ tt e in
     let e₁ = if-ok _ _ _ tt e₀.1 in
@@ -163,7 +164,6 @@ module _ (u : List ℕ) (s : List ℤ) (v : List ℕ) (t : List ℤ) (nu ns : �
   pub join-room : map_refusal u s ≡ Ok tt → map_refusal v t ≡ Ok tt → length s ≤ most_rows → length t ≤ most_rows
       → past (total (rows u s)) (total (rows v t)) max_u64 ≡ false
       → join_refusal u s v t nu ns ≡ room_refusal (length (join (rows u s) (rows v t))) nu ns
-  unfolding join_refusal
   join-room e f few few-second h = rw (e, f, le-ltb most_rows (length s) few, le-ltb most_rows (length t) few-second, h)
 
 pub record Joinable (u : List ℕ) (s : List ℤ) (v : List ℕ) (t : List ℤ) (nu ns : ℕ) : Type 0 where
@@ -176,7 +176,6 @@ pub record Joinable (u : List ℕ) (s : List ℤ) (v : List ℕ) (t : List ℤ) 
 
 pub join-unrefused : (u : List ℕ) (s : List ℤ) (v : List ℕ) (t : List ℤ) (nu ns : ℕ)
     → join_refusal u s v t nu ns ≡ Ok tt → Joinable u s v t nu ns
-unfolding join_refusal
 join-unrefused u s v t nu ns e =
     let e₀ = and-ok _ _ tt e in
     let e₁ = and-ok _ _ tt e₀.1 in
@@ -201,9 +200,7 @@ join-accepted u s v t nu ns o =
 -- the chain of an origin
 module _ (u : List ℕ) (s : List ℤ) (k : ℕ) (e : map_refusal u s ≡ Ok tt) (few : length s ≤ most_rows) where
   pub origin-beyond : total (rows u s) ≤ k → origin_refusal u s k ≡ refused reason.PastMap 0
-  unfolding origin_refusal
   origin-beyond h = rw (e, le-ltb most_rows (length s) few, le-leb (total (rows u s)) k h)
 
   pub origin-accepted : k < total (rows u s) → origin_refusal u s k ≡ Ok tt
-  unfolding origin_refusal
   origin-accepted h = rw (e, le-ltb most_rows (length s) few, lt-leb (total (rows u s)) k h)

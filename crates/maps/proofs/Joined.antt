@@ -50,14 +50,13 @@ length-join u s v t =
     omega (arith, length-map (rows v t) (moved (total (rows u s))), length-rows u s, length-rows v t)
 
 -- what an accepted join knows
-pub joins : {u : List ℕ} {s : List ℤ} {v : List ℕ} {t : List ℤ} {ou : List ℕ} {os : List ℤ} {d : ℕ}
-    → Ok d ≡ result_and (join_refusal u s v t (length ou) (length os)) (Ok (total (rows u s)))
-    → Sound u s × Sound v t × (d ≡ total (rows u s)) × (d + total (rows v t) ≤ max_u64) × Room (length s + length t) ou os
-joins {u} {s} {v} {t} e =
-    let p = ok-of _ _ _ (sym e) in
-    let o = join-unrefused _ _ _ _ _ _ p.0 in
+pub joins : (u : List ℕ) (s : List ℤ) (v : List ℕ) (t : List ℤ) (ou : List ℕ) (os : List ℤ)
+    → join_refusal u s v t (length ou) (length os) ≡ Ok tt
+    → (total (rows u s) + total (rows v t) ≤ max_u64) × Room (length s + length t) ou os
+joins u s v t ou os e =
+    let o = join-unrefused _ _ _ _ _ _ e in
     let n = length-join u s v t in
-    (o.first, o.second, sym p.1, omega (arith, o.short, p.1), record { words = omega (arith, o.room.words); shifts = omega (arith, o.room.shifts) })
+    (o.short, record { words = omega (arith, o.room.words); shifts = omega (arith, o.room.shifts) })
 
 -- what is lent is ou and os; l₁ and m₁ are it with the first map written
 module _ (u : List ℕ) (s : List ℤ) (v : List ℕ) (t : List ℤ) (ou : List ℕ) (os : List ℤ) (room : Room (length s + length t) ou os) where

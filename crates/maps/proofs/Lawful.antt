@@ -293,7 +293,7 @@ module _ (u : List ℕ) (s : List ℤ) (a b c i j : ℕ) (pu pu' qu qu' : List �
         λ e.
             let z = join-room vu vs wu ws (length ju) (length js) (sound-map vu vs (sound left.3.lent)) (sound-map wu ws (sound right.3.lent)) left.3.lent.few right.3.lent.few (not-past (total (rows vu vs)) (total (rows wu ws)) max_u64 t) in
             let f = too_many (length (join (rows vu vs) (rows wu ws))) (length ju) (length js) (omega (arith, length-join vu vs wu ws)) in
-            k.answer ∙ ap (λ (y : Result (Unit {0}) Refusal). result_and y (Ok (length (join (rows vu vs) (rows wu ws))))) (z ∙ room-on _ _ _ f),
+            k.answer ∙ ap (λ (y : Result (Unit {0}) Refusal). result_and y (Ok (length (join (rows vu vs) (rows wu ws))))) (z ∙ room-on (length (join (rows vu vs) (rows wu ws))) (length ju) (length js) f),
       )
 
   join_cuts_rows : (w : ℕ) (wu wu' : List ℕ) (ws ws' : List ℤ) → Cut u s a c wu ws (Ok w) wu' ws' → i + j ≤ w + 1

@@ -6,3 +6,4 @@ pub mod Tested
 pub mod ReadBack
 pub mod Lawful
 pub mod Planned
+pub mod Many

@@ -249,6 +249,9 @@ module _ {u : List ℕ} {s : List ℤ} (m : Sound u s) {k i : ℕ} (x : Holder u
   pub held_fits : r.first + (k - r.out) ≤ max_u64
   held_fits = let h : k < row_end r = rw e x.high in omega (arith, held_low, row-source m i r e x.within)
 
+  pub held-found : {o : Origin} → o ≡ origin_in r k → origin (rows u s) k ≡ Some o
+  held-found f = origin-held m k i x ∙ ap Some (ap (λ (y : Row). origin_in y k) (sym e) ∙ sym f)
+
   pub held-traced : {o : Origin} → origin_refusal u s k ≡ Ok tt → o ≡ origin_in r k
       → Ok o ≡ result_and (origin_refusal u s k) (traced_as (origin (rows u s) k))
   held-traced a f = rw (a, origin-held m k i x, f, e)

@@ -19,6 +19,7 @@ use Rattle.rows.specs.Lent.{row_at, rows, row_words, words_of, shifts_of}
 use Rattle.rows.proofs.Flat.{words_append, shifts-append, length-words, length-shifts}
 use Rattle.maps.specs.Answers.{first_bad}
 use Rattle.maps.specs.Spans.{Room}
+use Rattle.maps.proofs.Chains.{sound}
 use Rattle.maps.proofs.Spans.{row-source, row_out, span-clips}
 
 -- row i as it was read, and the rows after it
@@ -89,7 +90,7 @@ module _ (f : ℕ → Row) (i : ℕ) (x : Row) (e : x ≡ f i) where
       p ∙ shifts-put (run f 0 i) x i (length-map-range_with_len f 0 i) os₀ os d h ∙ ap (λ (l : List Row). laid (shifts_of l) os₀) more
 
 -- for the loops that write a map's rows, clipped or moved
-pub ruleset writing = (span-clips, row_out, words-step, shifts-step)
+pub ruleset writing = (sound, span-clips, row_out, words-step, shifts-step)
 
 -- of the rows C, those but rest have been written over what was lent
 pub record Written (C rest : List Row) (ou₀ : List ℕ) (os₀ : List ℤ) (ou : List ℕ) (os : List ℤ) (w : ℕ) : Type 0 where
@@ -170,4 +171,4 @@ pub glue-fits : (c r : Row) → runs_on c r ≡ true → r.first + r.count ≤ m
 glue-fits c r b h = let o = runs_on-true c r b in omega (arith, o.first)
 
 -- for the loops that merge
-pub ruleset merging = (row-source, merge-start, merge-glues, merge-parts, merge-end, glue-fits)
+pub ruleset merging = (sound, row-source, merge-start, merge-glues, merge-parts, merge-end, glue-fits)

@@ -33,7 +33,7 @@ first_bad next i (row ∷ rest) =
     else first_bad (next + row.count) (suc i) rest
 
 -- 51 of a lent map
-unfoldable pub map_refusal : List ℕ → List ℤ → Result (Unit {0}) Refusal
+abbrev pub map_refusal : List ℕ → List ℤ → Result (Unit {0}) Refusal
 map_refusal words shifts =
     if not (sized (length words) (length shifts)) then refused reason.BadRows 0
     else first_bad 0 0 (rows words shifts)
@@ -44,12 +44,12 @@ fits count word_room shift_room =
     nat_le count most_rows && nat_le (5 * count) word_room && nat_le count shift_room
 
 -- 52 of so many rows out
-unfoldable pub room_refusal : ℕ → ℕ → ℕ → Result (Unit {0}) Refusal
+abbrev pub room_refusal : ℕ → ℕ → ℕ → Result (Unit {0}) Refusal
 room_refusal count word_room shift_room =
     if not (fits count word_room shift_room) then refused reason.RowsDontFit 0 else Ok tt
 
 -- ---- the refusals of each call
-unfoldable pub cut_refusal : List ℕ → List ℤ → ℕ → ℕ → ℕ → ℕ → Result (Unit {0}) Refusal
+abbrev pub cut_refusal : List ℕ → List ℤ → ℕ → ℕ → ℕ → ℕ → Result (Unit {0}) Refusal
 cut_refusal words shifts start end word_room shift_room =
     result_and (map_refusal words shifts)
     (if nat_lt most_rows (length shifts) then refused reason.RowsDontFit 0
@@ -57,7 +57,7 @@ cut_refusal words shifts start end word_room shift_room =
     else if nat_lt (total (rows words shifts)) end then refused reason.BadRange 0
     else room_refusal (length (cut start end (rows words shifts))) word_room shift_room)
 
-unfoldable pub join_refusal : List ℕ → List ℤ → List ℕ → List ℤ → ℕ → ℕ → Result (Unit {0}) Refusal
+abbrev pub join_refusal : List ℕ → List ℤ → List ℕ → List ℤ → ℕ → ℕ → Result (Unit {0}) Refusal
 join_refusal words shifts second_words second_shifts word_room shift_room =
     result_and (map_refusal words shifts)
     (result_and (map_refusal second_words second_shifts)
@@ -68,13 +68,13 @@ join_refusal words shifts second_words second_shifts word_room shift_room =
     else room_refusal
     (length (join (rows words shifts) (rows second_words second_shifts))) word_room shift_room))
 
-unfoldable pub merge_refusal : List ℕ → List ℤ → ℕ → ℕ → Result (Unit {0}) Refusal
+abbrev pub merge_refusal : List ℕ → List ℤ → ℕ → ℕ → Result (Unit {0}) Refusal
 merge_refusal words shifts word_room shift_room =
     result_and (map_refusal words shifts)
     (if nat_lt most_rows (length shifts) then refused reason.RowsDontFit 0
     else room_refusal (length (merge (rows words shifts))) word_room shift_room)
 
-unfoldable pub origin_refusal : List ℕ → List ℤ → ℕ → Result (Unit {0}) Refusal
+abbrev pub origin_refusal : List ℕ → List ℤ → ℕ → Result (Unit {0}) Refusal
 origin_refusal words shifts frame =
     result_and (map_refusal words shifts)
     (if nat_lt most_rows (length shifts) then refused reason.RowsDontFit 0

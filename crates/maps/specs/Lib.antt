@@ -1,3 +1,5 @@
 pub mod Answers
 pub mod Laws
+pub mod Maps
+pub mod Origins
 pub mod Spans

@@ -1,4 +1,4 @@
-// The frame times of a MotionCam recording, of its frames' timestamps in nanoseconds: RULES 9.
+//! The frame times of a MotionCam recording, of its frames' timestamps in nanoseconds: RULES 9.
 #![tactic(auto)]
 
 ghost use Rattle.std.specs.Prelude.{◌≡◌, ◌-◌, ◌≤◌, length};
@@ -11,9 +11,10 @@ ghost use Rattle.mcraw.specs.Examples.{WorkedExamples};
 use refusal::{Reason, Refusal};
 use ticks::FrameTimes;
 
-// The most timestamps, and the timescale of a recording.
+/// The most timestamps; more are refused with 30, `TooLong` (RULES 11).
 pub const MOST_TIMESTAMPS: usize = 16_777_216;
 
+/// The scale of a recording: its ticks are nanoseconds (RULES 9.1).
 pub const NANOSECONDS: u64 = 1_000_000_000;
 
 // The first timestamp that lies below the one before it.
@@ -111,8 +112,12 @@ fn write_times(
     Ok(times)
 }
 
-// The times of a recording's frames, from `mcraw_times` of the Rust: over starts where each frame
-// starts, counted from the first. The working slice is all zero afterwards.
+/// The frame times of a recording, of its timestamps in nanoseconds: over `starts` where each frame
+/// starts, counted from the first, and the working slice all zero afterwards. Both have to be as
+/// long as the timestamps or longer. Refuses, in this order: 30, `TooLong`; 31, `Missing`, under
+/// two timestamps; 34, `Falling`, at the later one of the first pair that falls; 33, `Outside`, for
+/// a span that no i64 holds; 32, `NoRoom`; 31 for a nominal of 0; 33 for an end that no i64 holds.
+/// RULES 9; the Rust's `mcraw_times`.
 pub fn mcraw_times(
     timestamps: &[i64],
     starts: &mut [i64],
@@ -125,7 +130,7 @@ pub fn mcraw_times(
     answer
 }
 
-// The definitions give the numbers of specs/Examples.antt.
+/// A theorem: the definitions give the numbers of specs/Examples.antt.
 #[tactic(auto, unfolding(crate::specs::Mcraw::mcraw_times, crate::specs::Mcraw::refusal_of, crate::specs::Mcraw::times_of, crate::specs::Mcraw::fall_of, crate::specs::Mcraw::gaps, crate::specs::Mcraw::span, crate::specs::Mcraw::nominal, crate::specs::Mcraw::end, crate::specs::Mcraw::starts_of, crate::specs::Mcraw::starts_written, refusal::specs::Refusals::first_refused, order::specs::Order::sorted, order::specs::Order::insert))]
 pub fn worked_examples_hold()
     ensures { WorkedExamples }

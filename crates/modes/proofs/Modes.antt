@@ -1,10 +1,10 @@
 -- Both readings of a moov are the same where no offset of version 0 has its top bit set. Assumes nothing.
-use Rattle.std.specs.Prelude.{if◌then◌else◌, Option, None, Some}
+use Rattle.std.specs.Prelude.{Option, None, Some, Result, Ok, Err, IfOk}
 use Rattle.std.specs.List.{AllByRecursion}
-use mathlib.Core.Path.{◌≡◌, refl, ap, ◌∙◌}
+use mathlib.Core.Path.{◌≡◌, refl, sym, ap, ◌∙◌, subst}
 use mathlib.Core.Bool.{Bool, true, false, ◌||◌}
 use mathlib.Core.List.{List, [], ◌∷◌, map, map-append}
-use Prim.Native.Nat.{ℕ, ◌+◌}
+use Prim.Native.Nat.{ℕ}
 use lib.ListN.{length, get_or}
 use lib.IntN.{ℤ, pos}
 use mir.Syntax.{w32}
@@ -13,6 +13,7 @@ use lib.Dec.{ltb, eqb}
 use borrow.Author.Tests.{eqb-true}
 use Rattle.conditions.proofs.Tests.{decide}
 use Rattle.refusal.specs.declared.Reason.TheVariants as reason
+use Rattle.refusal.specs.declared.Refusal.{Refusal}
 use Rattle.boxes.specs.Bytes.{mdia}
 use Rattle.boxes.specs.Boxes.{most_bytes, boxes_of, first_of}
 use Rattle.boxes.specs.Places.{found_place, part_of, child_of}
@@ -23,12 +24,12 @@ use Rattle.tracks.specs.Tables.{timescale, table_entries, optional_entries, entr
 use Rattle.tracks.specs.Edits.{edit_of}
 use Rattle.tracks.specs.declared.entries.Run.{Run}
 use Rattle.tracks.proofs.EntryLaws.{map-replicate}
-use Rattle.frame_times.specs.Times.{Outcome, no_times, required, with_scale, mvhd, mdhd, minf, stbl, stts, ctts, edts, of_edit, of_offsets, of_durations, of_tables, of_scale, of_media, of_track, times_of_moov}
+use Rattle.frame_times.specs.Times.{Outcome, of_frames, ◌>>=◌, ◌>>◌, refuse_if, needed, Part, whole_part, inner_part, found, Track, track_by, times_in, outcome_of, times_of_moov, mvhd, mdhd, minf, stbl, stts, ctts}
+use Rattle.frame_times.proofs.Steps.{by-needed, by-test}
 use Rattle.modes.specs.Modes.{ctts_of, TopClear, NoTopBit}
 
 same-offsets : (es : List Run) → AllByRecursion (λ (e : Run). TopClear e.value) es
     → map (offset_of true) (per_frame es) ≡ map (offset_of false) (per_frame es)
-unfolding per_frame
 same-offsets [] h = refl
 same-offsets (e ∷ es) h =
     let o : offset_of false e.value ≡ pos e.value = to_z_pos w32 {n = e.value} h.0 in
@@ -45,59 +46,55 @@ same_of c h n e =
     (λ t. ap by t ∙ same-offsets (entries_of n c) (h n e (eqb-true _ _ t)))
     (λ t. ap by t)
 
--- from the tables up to the moov
-same_in : (base : ℕ) (w : Walk) (s : List ℕ) (f g : ℕ → List ℕ → Outcome)
-    → ((at : ℕ) → f at (part_of s (found_place w)) ≡ g at (part_of s (found_place w)))
-    → required base w s f ≡ required base w s g
-same_in base (Found p) s f g h = h (base + p.start)
-same_in base End s f g h = refl
-same_in base (BadAt at) s f g h = refl
+-- so are a track's times
+needed-same : {A B : Type 0} (o : Option A) (f g : A → Result B Refusal) → ((a : A) → o ≡ Some a → f a ≡ g a)
+    → (needed o >>= f) ≡ (needed o >>= g)
+needed-same None f g h = refl
+needed-same (Some a) f g h = h a refl
 
-same-scale : (s : Option ℕ) (f g : ℕ → Outcome) → ((scale : ℕ) → f scale ≡ g scale) → with_scale s f ≡ with_scale s g
-same-scale None f g h = refl
-same-scale (Some scale) f g h = h scale
+same-times : (room : ℕ) (t : Track) → Same t.ctts → times_in true room t ≡ times_in false room t
+same-times room t h =
+    needed-same (table_entries t.stts) _ _
+    (λ n _. ap (λ (r : Result Outcome Refusal). refuse_if (ltb t.most_frames (entry_total (entries_of n t.stts))) reason.Missing >> (refuse_if (ltb room (entry_total (entries_of n t.stts))) reason.NoRoom >> r))
+    (needed-same (optional_entries t.ctts) _ _
+    (λ m e. ap (λ (os : List ℤ). needed (edit_of t.edts t.scale t.movie) >>= (λ edit. Ok (of_frames t.scale edit (durations n t.stts) os))) (h m e))))
 
-module _ (bytes room movie : ℕ) where
-  by_entries : (r : Option ℕ) (c ed : List ℕ) (scale : ℕ) (ds : List ℕ)
-      → ((n : ℕ) → r ≡ Some n → offsets true n c ≡ offsets false n c)
-      → of_offsets true r c ed scale movie ds ≡ of_offsets false r c ed scale movie ds
-  by_entries None c ed scale ds h = refl
-  by_entries (Some n) c ed scale ds h = ap (of_edit (edit_of ed scale movie) scale ds) (h n refl)
+-- the ctts of a track that is found
+module _ (P : Track → Type 0) (next : Part → Result Track Refusal) where
+  through : (p : Part) (w : Walk) → ((q : Part) → q.bytes ≡ part_of p.bytes (found_place w) → IfOk (next q) P)
+      → IfOk (found p w >>= next) P
+  through p (Found place) f = f (inner_part p place) refl
+  through p End f = tt
+  through p (BadAt at) f = tt
 
-  by-durations : (r : Option ℕ) (scale : ℕ) (ed c d : List ℕ) → Same c
-      → of_durations true r bytes room movie scale ed c d ≡ of_durations false r bytes room movie scale ed c d
-  by-durations None scale ed c d h = refl
-  by-durations (Some n) scale ed c d h =
-      ap (λ (o : Outcome). if ltb bytes (entry_total (entries_of n d)) then no_times reason.Missing else if ltb room (entry_total (entries_of n d)) then no_times reason.NoRoom else o)
-      (by_entries (optional_entries c) c ed scale (durations n d) h)
+ctts-is : (moov : List ℕ) → IfOk (track_by found moov) (λ t. t.ctts ≡ ctts_of moov)
+ctts-is moov =
+    let C : Track → Type 0 = λ t. t.ctts ≡ ctts_of moov in
+    let P : Result Track Refusal → Type 0 = λ r. IfOk r C in
+    let whole = whole_part moov in
+    by-test P (ltb most_bytes (length moov)) reason.TooLong tt
+    (through C _ whole (first_of mvhd (boxes_of moov))
+    (λ header _. by-needed P (timescale header.bytes) tt
+    (λ movie. through C _ whole (video_track moov)
+    (λ track t. through C _ track (first_of mdia (boxes_of track.bytes))
+    (λ media m. through C _ media (first_of mdhd (boxes_of media.bytes))
+    (λ header _. by-needed P (timescale header.bytes) tt
+    (λ scale. by-test P (eqb scale 0 || eqb movie 0) reason.Missing tt
+    (through C _ media (first_of minf (boxes_of media.bytes))
+    (λ info i. through C _ info (first_of stbl (boxes_of info.bytes))
+    (λ tables s. through C _ tables (first_of stts (boxes_of tables.bytes))
+    (λ times _. ap (child_of ctts) (s ∙ ap (child_of stbl) (i ∙ ap (child_of minf) (m ∙ ap (child_of mdia) t))))))))))))))
 
-  by-tables : (scale : ℕ) (ed : List ℕ) (base : ℕ) (t : List ℕ) → Same (child_of ctts t)
-      → of_tables true bytes room movie scale ed base t ≡ of_tables false bytes room movie scale ed base t
-  unfolding of_tables
-  by-tables scale ed base t h = same_in base (first_of stts (boxes_of t)) t _ _ (λ at. by-durations (table_entries (child_of stts t)) scale ed (child_of ctts t) (child_of stts t) h)
-
-  by-scale : (scale : ℕ) (ed : List ℕ) (base : ℕ) (m : List ℕ) → Same (child_of ctts (child_of stbl (child_of minf m)))
-      → of_scale true bytes room movie scale ed base m ≡ of_scale false bytes room movie scale ed base m
-  by-scale scale ed base m h =
-      ap (λ (o : Outcome). if eqb scale 0 || eqb movie 0 then no_times reason.Missing else o)
-      (same_in base (first_of minf (boxes_of m)) m _ _ (λ at. same_in at (first_of stbl (boxes_of (child_of minf m))) (child_of minf m) _ _ (λ at'. by-tables scale ed at' (child_of stbl (child_of minf m)) h)))
-
-  by-media : (ed : List ℕ) (base : ℕ) (m : List ℕ) → Same (child_of ctts (child_of stbl (child_of minf m)))
-      → of_media true bytes room movie ed base m ≡ of_media false bytes room movie ed base m
-  unfolding of_media
-  by-media ed base m h = same_in base (first_of mdhd (boxes_of m)) m _ _ (λ at. same-scale (timescale (child_of mdhd m)) _ _ (λ scale. by-scale scale ed base m h))
-
-  by-track : (base : ℕ) (t : List ℕ) → Same (child_of ctts (child_of stbl (child_of minf (child_of mdia t))))
-      → of_track true bytes room movie base t ≡ of_track false bytes room movie base t
-  unfolding of_track
-  by-track base t h = same_in base (first_of mdia (boxes_of t)) t _ _ (λ at. by-media (child_of edts t) at (child_of mdia t) h)
+same-after : (r : Result Track Refusal) (f g : Track → Result Outcome Refusal) {c : List ℕ} → IfOk r (λ t. t.ctts ≡ c)
+    → ((t : Track) → t.ctts ≡ c → f t ≡ g t) → (r >>= f) ≡ (r >>= g)
+same-after (Ok t) f g h e = e t h
+same-after (Err refusal) f g h e = refl
 
 -- both readings of a moov are the same where no offset of version 0 has its top bit set
 pub modes_agree : (moov : List ℕ) (room : ℕ) → NoTopBit (ctts_of moov)
     → times_of_moov true moov room ≡ times_of_moov false moov room
 unfolding times_of_moov
 modes_agree moov room h =
-    ap (λ (o : Outcome). if ltb most_bytes (length moov) then no_times reason.TooLong else o)
-    (same_in 0 (first_of mvhd (boxes_of moov)) moov _ _
-    (λ at. same-scale (timescale (child_of mvhd moov)) _ _
-    (λ movie. same_in 0 (video_track moov) moov _ _ (λ at'. by-track (length moov) room movie at' (part_of moov (found_place (video_track moov))) (same_of _ h)))))
+    ap outcome_of
+    (same-after (track_by found moov) _ _ (ctts-is moov)
+    (λ t e. same-times room t (subst Same (sym e) (same_of _ h))))

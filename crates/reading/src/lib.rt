@@ -1,14 +1,28 @@
-// What the programs read. Which bytes the system gives no contract can say; these say how many
-// bytes of the room are held, and of a reader whose bytes are known, that those are its next ones.
+//! What the programs read, and what they say where they can't read or write. Which bytes the
+//! system gives no contract can say; these say how many bytes of the room are held, and of a reader
+//! whose bytes are known, that those are its next ones.
 #![tactic(auto)]
 
-ghost use Rattle.std.specs.Prelude.{◌≡◌, ◌<◌, length, take, IfSome};
+ghost use Rattle.std.specs.Prelude.{◌≡◌, ◌<◌, ◌≤◌, length, take, IfSome};
 ghost use Rattle.std.specs.Option.{IsNone};
 ghost use Rattle.std.specs.Io.KnownBytes.{Consumes, IsAtEnd};
 ghost use Rattle.reading.specs.Held.{IsPrefixLen};
 ghost use Rattle.reading.specs.declared.Ending.TheVariants.{Within};
 
-use std::io::{self, Read};
+use std::io::{self, Read, Write};
+use std::process::ExitCode;
+
+/// The exit status of a program whose output can't be written.
+const UNWRITTEN: u8 = 2;
+
+/// Why a program ends before its last line.
+#[derive(Debug, Drop)]
+pub enum Failure {
+    /// What it was to answer can't be read, or memory is lacking for it.
+    Input(io::Error),
+    /// What it answers can't be written.
+    Output(io::Error),
+}
 
 // How far reading came: how many bytes are held, and the error that stopped it, where one did.
 #[derive(Drop)]
@@ -17,19 +31,73 @@ struct Progress {
     error: Option<io::Error>,
 }
 
-// Where the input ends: within the room lent, past it, or nowhere, since a read failed.
-#[derive(Drop)]
+/// Where the input ends.
+#[derive(Debug, Drop)]
 pub enum Ending {
+    /// Within the room lent, or right at its end.
     Within,
+    /// Past the room lent: one byte more was there.
     Past,
+    /// Nowhere that is known: a read failed, with this error.
     Failed(io::Error),
 }
 
-// The input, as far as it is held.
-#[derive(Drop)]
+/// The input, as far as it is held.
+#[derive(Debug, Drop)]
 pub struct HeldInput {
+    /// How many bytes of the room are held.
     pub held: usize,
+    /// Where the input ends.
     pub end: Ending,
+}
+
+/// How many bytes wait before a writer.
+const WAITING: usize = 4096;
+
+/// A writer behind room on the stack: what is written waits there until it is full, or flushed. So
+/// a line takes no call of the system for each of its parts.
+#[derive(Drop)]
+pub struct Buffered<W> {
+    inner: W,
+    room: [u8; WAITING],
+    held: usize,
+    ghost within: { held ≤ 4096 },
+}
+
+impl<W: Write> Buffered<W> {
+    /// Nothing waits yet.
+    pub fn new(inner: W) -> Buffered<W> {
+        Buffered {
+            inner,
+            room: [0; WAITING],
+            held: 0,
+        }
+    }
+
+    // What waits is written.
+    fn pass_on(&mut self) -> io::Result<()> {
+        let held = self.held;
+        self.held = 0;
+        self.inner.write_all(&self.room[..held])
+    }
+}
+
+impl<W: Write> Write for Buffered<W> {
+    fn write(&mut self, bytes: &[u8]) -> io::Result<usize> {
+        if self.held == WAITING {
+            self.pass_on()?;
+        }
+        let held = self.held;
+        let taken = bytes.len().min(WAITING - held);
+        self.room[held..held + taken].copy_from_slice(&bytes[..taken]);
+        self.held = held + taken;
+        Ok(taken)
+    }
+
+    fn flush(&mut self) -> io::Result<()> {
+        self.pass_on()?;
+        self.inner.flush()
+    }
 }
 
 // Reads until the room is full, the input ends, or a read fails. `read_exact` does the same, but
@@ -72,7 +140,7 @@ fn after_full<R: Read>(input: &mut R) -> Ending
     Ending::Past
 }
 
-// The whole input, where it has room.
+/// Reads the whole input, where it has room: the bytes are the first ones of `room`.
 #[tactic(auto, using(crate::proofs::Known::all_held))]
 pub fn read_input<R: Read>(input: &mut R, room: &mut [u8]) -> HeldInput
     ensures held { IsPrefixLen result.held room.new }
@@ -88,7 +156,15 @@ pub fn read_input<R: Read>(input: &mut R, room: &mut [u8]) -> HeldInput
     HeldInput { held, end }
 }
 
-// The line of a standard input that can't be read.
-pub fn say_failed(rt: &impl Print) {
-    let _ = println!(rt; "cannot read standard input");
+/// Writes the line of a standard input that can't be read, and flushes.
+pub fn write_unread<W: Write>(out: &mut W) -> io::Result<()> {
+    writeln!(out, "cannot read standard input")?;
+    out.flush()
+}
+
+/// Says on standard error that standard output can't be written. The program's exit status is 2
+/// then; where standard error can't be written either, it alone tells.
+pub fn say_unwritten(rt: &impl Eprint) -> ExitCode {
+    let _ = eprintln!(rt; "cannot write standard output");
+    ExitCode::from(UNWRITTEN)
 }

@@ -1,5 +1,5 @@
-// A layout of a table's segments: a list of records, lent as a slice of structs; and the frame
-// lookup over it. RULES 1.6.
+//! A layout of a table's segments: a list of records, lent as a slice of structs; and the frame
+//! lookup over it. RULES 1.6.
 #![tactic(auto)]
 
 ghost use Rattle.std.specs.Prelude.{◌≡◌, false, map, if◌then◌else◌};
@@ -15,33 +15,33 @@ use table::layout::Segments;
 use table::sources::Sources;
 use table_rows::RowWords;
 
-// A segment as one record, with its times in microseconds: the Rust's TrimSegment.
+/// A segment as one record (RULES 1.6), with its times in microseconds: the Rust's TrimSegment.
 #[repr(C)]
-#[derive(Clone, Copy)]
+#[derive(Clone, Copy, Debug, PartialEq)]
 pub struct TrimSegment {
-    // The source's number.
+    /// The source's number.
     pub source: u64,
-    // Its first frame in the source.
+    /// Its first frame in the source.
     pub src_first_frame: u64,
-    // How many frames it has.
+    /// How many frames it has.
     pub frame_count: u64,
-    // Its first frame in the output.
+    /// Its first frame in the output.
     pub out_first_frame: u64,
-    // Where it starts in the source.
+    /// Where it starts in the source.
     pub src_start_us: i64,
-    // Where it starts in the output.
+    /// Where it starts in the output.
     pub out_start_us: i64,
-    // How long it is.
+    /// How long it is.
     pub duration_us: i64,
-    // Where its capture starts in the source.
+    /// Where its capture starts in the source.
     pub src_capture_start_us: i64,
-    // Where its capture starts in the output.
+    /// Where its capture starts in the output.
     pub out_capture_start_us: i64,
-    // How long its capture is.
+    /// How long its capture is.
     pub capture_duration_us: i64,
-    // Whether it has a shift.
+    /// Whether it has a shift.
     pub shift_present: bool,
-    // The shift, ignored where there is none.
+    /// The shift, ignored where there is none.
     pub clock_shift: i64,
 }
 
@@ -76,9 +76,10 @@ fn segment_of(trim: TrimSegment) -> Segment
     }
 }
 
-// Records, one a segment.
+/// Records, one a segment: a layout of a table's segments, of any length.
 #[derive(Clone, Copy)]
 pub struct Records<'a> {
+    /// The records, in the order of the segments.
     pub all: &'a [TrimSegment],
 }
 
@@ -103,7 +104,9 @@ impl Segments for Records<'_> {
 // Its rows' words are written row by row.
 impl RowWords for Records<'_> {}
 
-// A table whose segments are lent as records: that of their words.
+/// A table whose segments are lent as records: it is the table of their words. Sources are ten
+/// words each (RULES 1.2), `text` has the bytes of creation times, `log` says whether the table
+/// names a telemetry log.
 #[tactic(auto, using(crate::proofs::Laid::words_are))]
 pub fn of_records<'a>(
     sources: &'a [u64],
@@ -122,7 +125,8 @@ pub fn of_records<'a>(
     }
 }
 
-// The segment that has a frame; past the last frame, the last segment.
+/// The number of the segment that has a frame; past the last frame, the last segment's. The table
+/// is checked first: refuses 1 to 17, as `check` does (RULES 3), at their index. RULES 1.6, 4.2.
 #[tactic(auto, unfolding(crate::specs::Records::locate))]
 pub fn segment_of_frame_records(
     sources: &[u64],

@@ -31,12 +31,15 @@ pub enum Reason {
     /// that is source start plus duration or the capture pair, or, tested after 16, out start
     /// plus duration or its capture pair
     TooLate = 14,
+    /// 0 for the first
     FrameGap = 15,
+    /// those of the first are free
     TimeGap = 16,
     BadShift = 17,
     TooLarge = 20,
     NoVideo = 21,
     OtherFrameCount = 22,
+    /// of a table, the time of a segment's first frame
     NoFrameTime = 23,
     OtherFrameTime = 24,
     /// that is |2 end_us scale - 2 end 1,000,000| over 2 nominal 1,000,000 + scale, where end_us
@@ -49,16 +52,18 @@ pub enum Reason {
     /// of `cut`, `cuts`, `join` and `merge` that is 52
     NoRoom = 32,
     Outside = 33,
+    /// equal neighbours don't
     Falling = 34,
     NoRecordingTimes = 35,
     /// its size isn't whole or doesn't fit, or, of `find_box` with text_types, its type has a
-    /// byte outside 20..7E hex
+    /// byte outside 20 to 7E hex
     Broken = 36,
     NoTable = 40,
     SeveralTables = 41,
     BadSearch = 42,
     BadRange = 50,
     BadRows = 51,
+    /// all cuts of one call together may have more
     RowsDontFit = 52,
     JoinWraps = 53,
     PastMap = 54,
@@ -85,72 +90,76 @@ impl Reason {
     {
         match self {
             Reason::Malformed => {
-                "a slice length isn't a multiple of its record, the two segment slices disagree, \
-                 a flag or kind is outside its set, or a present creation time's range leaves the \
+                "a slice length is no multiple of its record, the two segment slices disagree, a \
+                 flag or kind is outside its set, or a present creation time's range leaves the \
                  text"
             }
-            Reason::OverLimit => "over 64 sources or 512 segments",
-            Reason::NoSources => "no sources",
-            Reason::ZeroInSource => "source: frames, or either fps number, is 0",
-            Reason::BadDate => "source: its creation time fails the UTC rule",
-            Reason::BadClock => "source: its clock rate has a 0, or its modulus is 0",
-            Reason::NoClock => "source: a log is named and it has no clock",
-            Reason::NoSegments => "no segments",
-            Reason::NoSuchSource => "segment: no such source",
-            Reason::NoFrames => "segment: frame count 0",
-            Reason::FramesWrap => "segment: out or source first frame plus count passes 2^64 - 1",
-            Reason::PastSource => "segment: source end past the source's frames",
-            Reason::NegativeTime => "segment: any of the six times negative",
-            Reason::TooLate => "segment: a start plus its duration passes 2^63 - 1",
-            Reason::FrameGap => "segment: out first frame isn't the end before (0 for the first)",
+            Reason::OverLimit => "there are over 64 sources or over 512 segments",
+            Reason::NoSources => "there are no sources",
+            Reason::ZeroInSource => "the source has 0 frames, or a 0 in its frames a second",
+            Reason::BadDate => "the source's creation time fails the UTC rule",
+            Reason::BadClock => "the source's clock has a 0 in its rate, or the modulus 0",
+            Reason::NoClock => "a log is named, and the source has no clock",
+            Reason::NoSegments => "there are no segments",
+            Reason::NoSuchSource => "the segment names no source of the table",
+            Reason::NoFrames => "the segment's frame count is 0",
+            Reason::FramesWrap => {
+                "the segment's out first or source first plus its frame count passes 2^64 - 1"
+            }
+            Reason::PastSource => {
+                "the segment's source first plus its frame count passes its source's frames"
+            }
+            Reason::NegativeTime => "one of the segment's six times is below 0",
+            Reason::TooLate => "one of the segment's starts plus its duration passes 2^63 - 1",
+            Reason::FrameGap => "the segment's out first isn't where the frames before it end",
             Reason::TimeGap => {
-                "segment: out start or out capture start isn't the end before; the first is free"
+                "the segment's out start or out capture start isn't where the times before it end"
             }
             Reason::BadShift => {
-                "segment: shift without clock, clock without shift, or a modulus with shift \
-                 outside 0..modulus"
+                "the segment has a shift and no clock, a clock and no shift, or a shift outside \
+                 its clock's modulus"
             }
             Reason::TooLarge => {
-                "a rate number or timescale over 4,294,967,295, or over 16,777,216 starts"
+                "a rate number or timescale is over 4,294,967,295, or there are over 16,777,216 \
+                 starts"
             }
-            Reason::NoVideo => "no video given",
-            Reason::OtherFrameCount => "last out end isn't the video's frame count",
-            Reason::NoFrameTime => {
-                "a time can't be had: scale 0, or outside 64 bits; of a table, a segment's frame \
-                 time"
-            }
-            Reason::OtherFrameTime => "a segment's frame time differs from out start",
+            Reason::NoVideo => "no video is given",
+            Reason::OtherFrameCount => "the table's frames aren't as many as the video's",
+            Reason::NoFrameTime => "a time can't be had: its scale is 0, or it is outside 64 bits",
+            Reason::OtherFrameTime => "the segment's out start isn't its first frame's time",
             Reason::EndNotNear => "the table's end isn't near the video's",
-            Reason::TooLong => "over 16,777,216 bytes or timestamps",
+            Reason::TooLong => "over 16,777,216 bytes or timestamps are lent",
             Reason::Missing => {
                 "missing: the boxes end without the one that is looked for, no size is whole and \
                  fits, or no frame times can be had"
             }
-            Reason::NoRoom => "lent room too small",
-            Reason::Outside => "a start, span or end outside 64 bits",
-            Reason::Falling => "timestamps not ascending (equal neighbours are allowed)",
+            Reason::NoRoom => "too little room is lent",
+            Reason::Outside => "a start, a span or an end is outside 64 bits",
+            Reason::Falling => "the timestamps fall",
             Reason::NoRecordingTimes => {
-                "recording whose frame times can't be had: no frames, or a nominal interval of 0"
+                "the recording has no frame times: no frames, or a nominal interval of 0"
             }
             Reason::Broken => {
                 "broken: before what is looked for stands a broken box header, at the index"
             }
-            Reason::NoTable => "no MTRM box: no moov, no udta in it, or none in that",
-            Reason::SeveralTables => "more than one MTRM box",
+            Reason::NoTable => "the file has no MTRM box: no moov, no udta in it, or none in that",
+            Reason::SeveralTables => "the file has more than one MTRM box",
             Reason::BadSearch => {
-                "a search range outside the bytes, or starting past its end; an offset past the \
-                 bytes"
+                "a search range lies outside the bytes, or starts past its end, or an offset lies \
+                 past the bytes"
             }
             Reason::BadRange => {
-                "cut range: a >= b, or b past the map; of many cuts also an odd number of words"
+                "a cut's range has no frames, or ends past the map; of many cuts also a range \
+                 without its end"
             }
-            Reason::BadRows => "map rows malformed, slice lengths that disagree, or no rows",
+            Reason::BadRows => {
+                "a map's rows aren't well formed, slice lengths disagree, or there are no rows"
+            }
             Reason::RowsDontFit => {
-                "over 1,024 rows in or out (all cuts of one call together may have more), or lent \
-                 room too small"
+                "a map has, or would have, over 1,024 rows, or too little room is lent for rows"
             }
-            Reason::JoinWraps => "joined frames pass 2^64 - 1",
-            Reason::PastMap => "frame past the map",
+            Reason::JoinWraps => "the frames of both maps together pass 2^64 - 1",
+            Reason::PastMap => "a frame lies past the map",
         }
     }
 

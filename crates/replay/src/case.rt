@@ -1,9 +1,9 @@
-// A case is a line of words: the name of a call, and then its arguments (compare/README.md has
-// their forms).
+//! A case is a line of words: the name of a call, and then its arguments (compare/README.md has
+//! their forms).
 use std::alloc::{AllocError, AllocFailed, Global};
-use steps::{Integer, Number};
+use steps::Words;
 
-// Why a case has no answer.
+/// Why a case has no answer.
 #[derive(Clone, Copy)]
 pub enum Fault {
     // The line is no case.
@@ -23,41 +23,42 @@ impl<T: Drop> From<AllocFailed<T>> for Fault {
     }
 }
 
-// What of a line isn't read yet. Words are bytes, with spaces, tabs or carriage returns between
-// them.
+/// What of a line isn't read yet. Words are bytes, with spaces, tabs or carriage returns between
+/// them.
 #[derive(Drop)]
 pub struct Case<'a> {
-    rest: &'a [u8],
+    words: Words<'a>,
     alloc: Global,
 }
 
-// What is read from the next words of a case.
+/// What is read from the next words of a case.
 pub trait Argument: Drop {
     fn read(case: &mut Case<'_>) -> Result<Self, Fault>;
 }
 
 impl<'a> Case<'a> {
     pub fn new(alloc: Global, text: &'a [u8]) -> Case<'a> {
-        Case { rest: text, alloc }
+        Case {
+            words: Words { rest: text },
+            alloc,
+        }
     }
 
     pub fn alloc(&self) -> Global {
         self.alloc
     }
 
-    // The next word, empty where there is none.
+    /// The next word, empty where there is none.
     pub fn word(&mut self) -> &'a [u8] {
-        let word = steps::word(self.rest);
-        self.rest = steps::rest(self.rest);
-        word
+        self.words.next()
     }
 
-    // The next argument.
+    /// The next argument.
     pub fn take<T: Argument>(&mut self) -> Result<T, Fault> {
         T::read(self)
     }
 
-    // All words are read.
+    /// All words are read.
     pub fn end(&mut self) -> Result<(), Fault> {
         if self.word().is_empty() {
             Ok(())
@@ -69,19 +70,13 @@ impl<'a> Case<'a> {
 
 impl Argument for u64 {
     fn read(case: &mut Case<'_>) -> Result<u64, Fault> {
-        match steps::number_of(case.word()) {
-            Number::Is(n) => Ok(n),
-            Number::Large | Number::Not => Err(Fault::Malformed),
-        }
+        steps::number_of(case.word()).or(Err(Fault::Malformed))
     }
 }
 
 impl Argument for i64 {
     fn read(case: &mut Case<'_>) -> Result<i64, Fault> {
-        match steps::integer_of(case.word()) {
-            Integer::Is(z) => Ok(z),
-            Integer::Large | Integer::Not => Err(Fault::Malformed),
-        }
+        steps::integer_of(case.word()).or(Err(Fault::Malformed))
     }
 }
 
@@ -123,8 +118,8 @@ impl<T: Argument> Argument for Vec<T> {
     }
 }
 
-// Bytes: how many, and then, unless that is 0, one word of two hex digits each, no letter of which
-// is upper-case.
+/// Bytes: how many, and then, unless that is 0, one word of two hex digits each, no letter of which
+/// is upper-case.
 #[derive(Drop)]
 pub struct Bytes(pub Vec<u8>);
 

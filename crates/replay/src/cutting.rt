@@ -1,4 +1,4 @@
-// Cuts, joins, merges and origins of maps.
+//! Cuts, joins, merges and origins of maps.
 use crate::case::{Argument, Case, Fault};
 use crate::lent::{Room, Rows};
 use crate::line::{Line, Values};
@@ -34,7 +34,7 @@ impl Values for Origin {
     }
 }
 
-// cut MAP A B ROOM ROOM
+/// cut MAP A B ROOM ROOM
 pub fn cut(case: &mut Case<'_>, line: &mut Line) -> Result<(), Fault> {
     let map: Map = case.take()?;
     let start = case.take()?;
@@ -47,7 +47,7 @@ pub fn cut(case: &mut Case<'_>, line: &mut Line) -> Result<(), Fault> {
     line.rows(answer, &rows)
 }
 
-// join MAP MAP ROOM ROOM
+/// join MAP MAP ROOM ROOM
 pub fn join(case: &mut Case<'_>, line: &mut Line) -> Result<(), Fault> {
     let first: Map = case.take()?;
     let second: Map = case.take()?;
@@ -67,7 +67,7 @@ pub fn join(case: &mut Case<'_>, line: &mut Line) -> Result<(), Fault> {
     line.rows(answer, &rows)
 }
 
-// merge MAP ROOM ROOM
+/// merge MAP ROOM ROOM
 pub fn merge(case: &mut Case<'_>, line: &mut Line) -> Result<(), Fault> {
     let map: Map = case.take()?;
     let mut rows: Rows = case.take()?;
@@ -78,7 +78,7 @@ pub fn merge(case: &mut Case<'_>, line: &mut Line) -> Result<(), Fault> {
     line.rows(answer, &rows)
 }
 
-// origin MAP FRAME
+/// origin MAP FRAME
 pub fn origin(case: &mut Case<'_>, line: &mut Line) -> Result<(), Fault> {
     let map: Map = case.take()?;
     let frame = case.take()?;
@@ -87,7 +87,19 @@ pub fn origin(case: &mut Case<'_>, line: &mut Line) -> Result<(), Fault> {
     line.answer(maps::origin(words, shifts, frame))
 }
 
-// cuts MAP RANGES ROOM ROOM ROOM
+/// origins MAP FRAMES ROOM
+pub fn origins(case: &mut Case<'_>, line: &mut Line) -> Result<(), Fault> {
+    let map: Map = case.take()?;
+    let frames: Vec<u64> = case.take()?;
+    let mut out: Room<Origin> = case.take()?;
+    case.end()?;
+    let (words, shifts) = map.lend();
+    let answer = maps::origins(words, shifts, frames.as_slice(), out.lend());
+    line.answer(answer)?;
+    line.origins(&out, answer.unwrap_or(0))
+}
+
+/// cuts MAP RANGES ROOM ROOM ROOM
 pub fn cuts(case: &mut Case<'_>, line: &mut Line) -> Result<(), Fault> {
     let map: Map = case.take()?;
     let ranges: Vec<u64> = case.take()?;

@@ -1,4 +1,4 @@
-// Tables against their videos and recordings.
+//! Tables against their videos and recordings.
 use crate::case::{Case, Fault};
 use crate::lent::Room;
 use crate::line::Line;
@@ -11,14 +11,14 @@ fn validate(line: &mut Line, table: &Table, video: Video, starts: &[i64]) -> Res
     line.answer(judge::validate(sources, words, stamps, log, text, video, starts))
 }
 
-// validate_no_video TABLE
+/// validate_no_video TABLE
 pub fn validate_no_video(case: &mut Case<'_>, line: &mut Line) -> Result<(), Fault> {
     let table: Table = case.take()?;
     case.end()?;
     validate(line, &table, Video::Nothing, &[])
 }
 
-// validate_constant TABLE FRAMES NUM DEN
+/// validate_constant TABLE FRAMES NUM DEN
 pub fn validate_constant(case: &mut Case<'_>, line: &mut Line) -> Result<(), Fault> {
     let table: Table = case.take()?;
     let frames = case.take()?;
@@ -37,7 +37,7 @@ pub fn validate_constant(case: &mut Case<'_>, line: &mut Line) -> Result<(), Fau
     )
 }
 
-// validate_times TABLE SCALE STARTS END NOMINAL
+/// validate_times TABLE SCALE STARTS END NOMINAL
 pub fn validate_times(case: &mut Case<'_>, line: &mut Line) -> Result<(), Fault> {
     let table: Table = case.take()?;
     let scale = case.take()?;
@@ -53,7 +53,7 @@ pub fn validate_times(case: &mut Case<'_>, line: &mut Line) -> Result<(), Fault>
     validate(line, &table, video, starts.as_slice())
 }
 
-// check_mcraw TABLE TIMESTAMPS ROOM ROOM
+/// check_mcraw TABLE TIMESTAMPS ROOM ROOM
 pub fn check_mcraw(case: &mut Case<'_>, line: &mut Line) -> Result<(), Fault> {
     let table: Table = case.take()?;
     let timestamps: Vec<i64> = case.take()?;

@@ -1,10 +1,10 @@
-// The slices that are lent to a call to be written.
+//! The slices that are lent to a call to be written.
 ghost use Rattle.std.specs.Prelude.{◌<◌, ◌≤◌, ◌^◌, pos, IfOk, vec_len};
 ghost use Rattle.std.specs.Int.Signed.{◌<ℤ◌};
 ghost use Rattle.replay.specs.Lent.{most_lent};
 
 use crate::case::{Argument, Case, Fault};
-use std::fmt::Display;
+use rows::Origin;
 
 // The most elements of a slice that is lent.
 const MOST: u64 = 65_536;
@@ -19,9 +19,9 @@ fn distance(k: usize) -> u64
     FIRST + (k as u64) % 1000 * 3
 }
 
-// What a lent slice holds, so that it can be seen afterwards what the call wrote.
-pub trait Element: Copy + PartialEq + Display + Drop {
-    // Element k before the call, which is never 0.
+/// What a lent slice holds, so that it can be seen afterwards what the call wrote.
+pub trait Element: Copy + PartialEq + Drop {
+    /// Element k before the call, which is never 0.
     fn lent(k: usize) -> Self;
 }
 
@@ -41,7 +41,18 @@ impl Element for i64 {
     }
 }
 
-// A slice that is lent, one of the last arguments of a case, which has its length alone.
+impl Element for Origin {
+    fn lent(k: usize) -> Origin {
+        Origin {
+            source: u64::lent(k),
+            frame: u64::lent(k),
+            flag: u64::lent(k),
+            shift: i64::lent(k),
+        }
+    }
+}
+
+/// A slice that is lent, one of the last arguments of a case, which has its length alone.
 #[derive(Drop)]
 pub struct Room<T>(Vec<T>);
 
@@ -70,12 +81,12 @@ impl<T: Element> Room<T> {
         self.0.as_mut_slice()
     }
 
-    // What it holds after the call.
+    /// What it holds after the call.
     pub fn held(&self) -> &[T] {
         self.0.as_slice()
     }
 
-    // Whether it is as it was lent from element n on.
+    /// Whether it is as it was lent from element n on.
     pub fn is_kept(&self, n: usize) -> bool {
         self.0
             .iter()
@@ -85,7 +96,7 @@ impl<T: Element> Room<T> {
     }
 }
 
-// The slices that rows are written over, their words and their shifts.
+/// The slices that rows are written over, their words and their shifts.
 #[derive(Drop)]
 pub struct Rows {
     pub words: Room<u64>,

@@ -1,4 +1,4 @@
-// A table's segments as a list of records.
+//! A table's segments as a list of records.
 ghost use Rattle.std.specs.Prelude.{◌≡◌, ◌+◌, ◌*◌, ◌≤◌, length};
 ghost use Rattle.table.specs.Layout.{segment_words, segment_stamps, words_at, stamps_at};
 ghost use Rattle.records.specs.Segments.{stamps_of};
@@ -33,8 +33,8 @@ fn record_at(words: &[u64], stamps: &[i64], k: usize) -> TrimSegment
     }
 }
 
-// The records of the words, which are malformed where they aren't whole records, each with a flag
-// of 0 or 1.
+/// The records of the words, which are malformed where they aren't whole records, each with a flag
+/// of 0 or 1.
 pub fn records_of(alloc: Global, words: &[u64], stamps: &[i64]) -> Result<Vec<TrimSegment>, Fault> {
     let count = words.len() / WORDS;
     if words.len() != count * WORDS

@@ -1,6 +1,6 @@
-// replay FILE..: the library's calls on stored cases. A file has a case a line, and each line is
-// answered by one. In the stored run the files are those of data/, and stdout has the answers that
-// they are held to, one file after the other (compare/README.md).
+//! replay FILE..: the library's calls on stored cases. A file has a case a line, and each line is
+//! answered by one. In the stored run the files are those of data/, and stdout has the answers that
+//! they are held to, one file after the other (compare/README.md).
 #![tactic(auto)]
 
 mod case;
@@ -16,6 +16,7 @@ mod times;
 
 use case::{Case, Fault};
 use line::Line;
+use reading::Failure;
 use std::alloc::{AllocError, Global};
 use std::io::{BufRead, BufReader, BufWriter, Write};
 use std::process::ExitCode;
@@ -37,6 +38,7 @@ fn call(case: &mut Case<'_>, line: &mut Line) -> Result<(), Fault> {
         "join" => cutting::join(case, line),
         "merge" => cutting::merge(case, line),
         "origin" => cutting::origin(case, line),
+        "origins" => cutting::origins(case, line),
         "video_frame_times_of_moov" => times::video_frame_times_of_moov(case, line),
         "mcraw_times" => times::mcraw_times(case, line),
         "check" => tables::check(case, line),
@@ -66,23 +68,34 @@ fn answer(alloc: Global, text: &[u8]) -> Result<String, AllocError> {
 
 // Answers all cases of a file, a line each. They are bytes: one that is no text is malformed, and
 // those after it are answered.
-fn replay<R: Files + AllocGlobal + Print>(rt: &R, name: &str) -> io::Result<()> {
-    let cases = BufReader::new(rt.alloc(), fs::open(rt, name)?)?;
-    let mut out = BufWriter::new(rt.alloc(), io::writer(rt))?;
+fn replay<R: Files + AllocGlobal + Print>(rt: &R, name: &str) -> Result<(), Failure> {
+    let file = fs::open(rt, name).map_err(Failure::Input)?;
+    let cases = BufReader::new(rt.alloc(), file).map_err(Failure::Input)?;
+    let mut out = BufWriter::new(rt.alloc(), io::writer(rt)).map_err(Failure::Input)?;
     for case in cases.split(rt.alloc(), b'\n') {
-        let line = answer(rt.alloc(), case?.as_slice())?;
-        writeln!(out, "{line}")?;
+        let case = case.map_err(Failure::Input)?;
+        let line = answer(rt.alloc(), case.as_slice()).map_err(lacking)?;
+        writeln!(out, "{line}").map_err(Failure::Output)?;
     }
-    out.flush()
+    out.flush().map_err(Failure::Output)
+}
+
+// Memory that is lacking for an answer.
+fn lacking(error: AllocError) -> Failure {
+    Failure::Input(io::Error::from(error))
 }
 
 // Answers the files that are named, up to the first that can't be opened or read, or whose answers
 // can't be written.
 fn main(rt: HostRuntime) -> io::Result<ExitCode> {
     for name in env::args(&rt)?.skip(1) {
-        if let Err(error) = replay(&rt, name.as_str()) {
-            eprintln!(rt; "replay: {name}: {error}")?;
-            return Ok(ExitCode::FAILURE);
+        match replay(&rt, name.as_str()) {
+            Ok(()) => {}
+            Err(Failure::Input(error)) => {
+                eprintln!(rt; "replay: {name}: {error}")?;
+                return Ok(ExitCode::FAILURE);
+            }
+            Err(Failure::Output(_)) => return Ok(reading::say_unwritten(&rt)),
         }
     }
     Ok(ExitCode::SUCCESS)

@@ -1,4 +1,4 @@
-// Box sizes and searches.
+//! Box sizes and searches.
 use crate::case::{Bytes, Case, Fault};
 use crate::line::{Line, Values};
 use boxes::{BoxAt, BoxSize, Place};
@@ -27,7 +27,7 @@ impl Values for Place {
     }
 }
 
-// box_size BYTES REMAINING
+/// box_size BYTES REMAINING
 pub fn box_size(case: &mut Case<'_>, line: &mut Line) -> Result<(), Fault> {
     let Bytes(bytes) = case.take()?;
     let remaining = case.take()?;
@@ -35,7 +35,7 @@ pub fn box_size(case: &mut Case<'_>, line: &mut Line) -> Result<(), Fault> {
     line.answer(boxes::box_size(bytes.as_slice(), remaining))
 }
 
-// children BYTES AT
+/// children BYTES AT
 pub fn children(case: &mut Case<'_>, line: &mut Line) -> Result<(), Fault> {
     let Bytes(bytes) = case.take()?;
     let at = case.take()?;
@@ -62,7 +62,7 @@ fn say_place(
     line.answer(place)
 }
 
-// child BYTES KIND
+/// child BYTES KIND
 pub fn child(case: &mut Case<'_>, line: &mut Line) -> Result<(), Fault> {
     let Bytes(bytes) = case.take()?;
     let kind = case.take()?;
@@ -72,7 +72,7 @@ pub fn child(case: &mut Case<'_>, line: &mut Line) -> Result<(), Fault> {
     say_place(line, bytes, place, boxes::child(bytes, kind))
 }
 
-// find_box BYTES FROM TO KIND TEXT_TYPES
+/// find_box BYTES FROM TO KIND TEXT_TYPES
 pub fn find_box(case: &mut Case<'_>, line: &mut Line) -> Result<(), Fault> {
     let Bytes(bytes) = case.take()?;
     let from = case.take()?;
@@ -86,7 +86,7 @@ pub fn find_box(case: &mut Case<'_>, line: &mut Line) -> Result<(), Fault> {
     say_place(line, bytes, place, part)
 }
 
-// table_text BYTES
+/// table_text BYTES
 pub fn table_text(case: &mut Case<'_>, line: &mut Line) -> Result<(), Fault> {
     let Bytes(bytes) = case.take()?;
     case.end()?;

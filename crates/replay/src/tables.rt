@@ -1,10 +1,10 @@
-// The check of tables, their lookups and their rows.
+//! The check of tables, their lookups and their rows.
 use crate::case::{Argument, Bytes, Case, Fault};
 use crate::lent::{Room, Rows};
 use crate::line::Line;
 use crate::listed;
 
-// A table, as the calls take it.
+/// A table, as the calls take it.
 #[derive(Drop)]
 pub struct Table {
     sources: Vec<u64>,
@@ -43,7 +43,7 @@ impl Table {
     }
 }
 
-// check TABLE
+/// check TABLE
 pub fn check(case: &mut Case<'_>, line: &mut Line) -> Result<(), Fault> {
     let table: Table = case.take()?;
     case.end()?;
@@ -51,7 +51,7 @@ pub fn check(case: &mut Case<'_>, line: &mut Line) -> Result<(), Fault> {
     line.answer(table::check(sources, words, stamps, log, text))
 }
 
-// segment_of_frame TABLE FRAME
+/// segment_of_frame TABLE FRAME
 pub fn segment_of_frame(case: &mut Case<'_>, line: &mut Line) -> Result<(), Fault> {
     let table: Table = case.take()?;
     let frame = case.take()?;
@@ -60,7 +60,7 @@ pub fn segment_of_frame(case: &mut Case<'_>, line: &mut Line) -> Result<(), Faul
     line.answer(lookup::segment_of_frame(sources, words, stamps, log, text, frame))
 }
 
-// segment_of_frame_records TABLE FRAME, where the table's words are lent as records
+/// segment_of_frame_records TABLE FRAME, where the table's words are lent as records
 pub fn segment_of_frame_records(case: &mut Case<'_>, line: &mut Line) -> Result<(), Fault> {
     let table: Table = case.take()?;
     let frame = case.take()?;
@@ -71,7 +71,7 @@ pub fn segment_of_frame_records(case: &mut Case<'_>, line: &mut Line) -> Result<
     line.answer(records::segment_of_frame_records(sources, text, records, log, frame))
 }
 
-// segment_of_time_us TABLE TIME
+/// segment_of_time_us TABLE TIME
 pub fn segment_of_time_us(case: &mut Case<'_>, line: &mut Line) -> Result<(), Fault> {
     let table: Table = case.take()?;
     let time = case.take()?;
@@ -80,7 +80,7 @@ pub fn segment_of_time_us(case: &mut Case<'_>, line: &mut Line) -> Result<(), Fa
     line.answer(lookup::segment_of_time_us(sources, words, stamps, log, text, time))
 }
 
-// continues TABLE SEGMENT
+/// continues TABLE SEGMENT
 pub fn continues(case: &mut Case<'_>, line: &mut Line) -> Result<(), Fault> {
     let table: Table = case.take()?;
     let segment = case.take()?;
@@ -89,7 +89,7 @@ pub fn continues(case: &mut Case<'_>, line: &mut Line) -> Result<(), Fault> {
     line.answer(lookup::continues(sources, words, stamps, log, text, segment))
 }
 
-// segments_of_frames TABLE FRAMES ROOM
+/// segments_of_frames TABLE FRAMES ROOM
 pub fn segments_of_frames(case: &mut Case<'_>, line: &mut Line) -> Result<(), Fault> {
     let table: Table = case.take()?;
     let frames: Vec<u64> = case.take()?;
@@ -102,7 +102,7 @@ pub fn segments_of_frames(case: &mut Case<'_>, line: &mut Line) -> Result<(), Fa
     line.written(&out, answer.unwrap_or(0))
 }
 
-// rows_of_table TABLE ROOM ROOM
+/// rows_of_table TABLE ROOM ROOM
 pub fn rows_of_table(case: &mut Case<'_>, line: &mut Line) -> Result<(), Fault> {
     let table: Table = case.take()?;
     let mut rows: Rows = case.take()?;

@@ -1,4 +1,4 @@
-// The frame times of moovs and of recordings.
+//! The frame times of moovs and of recordings.
 use crate::case::{Bytes, Case, Fault};
 use crate::lent::Room;
 use crate::line::{Line, Values};
@@ -24,7 +24,7 @@ fn say_times(
     line.written(starts, answer.map_or(0, |times| times.frames))
 }
 
-// video_frame_times_of_moov BYTES FLAG ROOM ROOM ROOM
+/// video_frame_times_of_moov BYTES FLAG ROOM ROOM ROOM
 pub fn video_frame_times_of_moov(case: &mut Case<'_>, line: &mut Line) -> Result<(), Fault> {
     let Bytes(moov) = case.take()?;
     let standard = case.take()?;
@@ -44,7 +44,7 @@ pub fn video_frame_times_of_moov(case: &mut Case<'_>, line: &mut Line) -> Result
     say_times(line, answer, &starts)
 }
 
-// mcraw_times LONGS ROOM ROOM
+/// mcraw_times LONGS ROOM ROOM
 pub fn mcraw_times(case: &mut Case<'_>, line: &mut Line) -> Result<(), Fault> {
     let timestamps: Vec<i64> = case.take()?;
     let mut starts: Room<i64> = case.take()?;

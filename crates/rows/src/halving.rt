@@ -1,12 +1,13 @@
-// Of things in order, the last that passes a test, by halving: one loop for rows and for segments,
-// by frames and by times.
+//! Of things in order, the last that passes a test, by halving: one loop for rows and for segments,
+//! by frames and by times.
 
 ghost use Rattle.std.specs.Prelude.{ℕ, ◌≤◌, ◌<◌, true, false};
 ghost use Rattle.rows.specs.Halving.{LastThat};
 
-// The last of n things that has begun, or the first where none has; those that have begun come
-// first. It is one of `left` things from number `at` on. The number of turns doesn't depend on what
-// is read, so that a turn waits for little else.
+/// The last of n things that has begun, or the first where none has; those that have begun come
+/// first.
+// It is one of `left` things from number `at` on. The number of turns doesn't depend on what is
+// read, so that a turn waits for little else.
 #[inline(always)]
 pub fn last_that<F: Fn(usize) -> bool>(n: usize, begun: F) -> usize
     requires some { 0 < n }

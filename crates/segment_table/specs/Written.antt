@@ -10,6 +10,7 @@ use Rattle.rules.specs.Records.{Table}
 use Rattle.table_rows.specs.Rows as table
 use Rattle.lookups.specs.Indices.{indices_of, indices_refusal}
 use Rattle.maps.specs.Answers.{cut_refusal, join_refusal, merge_refusal, origin_refusal, traced_as}
+use Rattle.maps.specs.Origins.{origin_at, origins_refusal}
 use Rattle.cuts.specs.Answers.{ranges_of, cuts_of, concat, cuts_refusal}
 use Rattle.slices.specs.Slices.{laid, after, zeros}
 use Rattle.mcraw.specs.Mcraw.{mcraw_times, starts_written}
@@ -77,6 +78,14 @@ CutsTold words shifts ranges out_words out_shifts counts =
 abbrev pub origin_of : List ℕ → List ℤ → ℕ → Result Origin Refusal
 origin_of words shifts frame =
     result_and (origin_refusal words shifts frame) (traced_as (origin (rows words shifts) frame))
+
+-- the origins of frames were asked for: number, origins, how many, index
+pub record OriginsTold (words : List ℕ) (shifts : List ℤ) (frames : List ℕ) (out : List Origin) (written number : ℕ)
+    (out' : List Origin) (written' index' : ℕ) : Type 0 where
+  pub told : (number, written', index')
+      ≡ told itself (result_and (origins_refusal words shifts frames (length out)) (Ok (length frames))) written
+  pub origins : out'
+      ≡ after (origins_refusal words shifts frames (length out)) (map (origin_at (rows words shifts)) frames) out
 
 -- a recording's frame times were asked for: number, starts, working slice, frame count, scale, nominal, end, index
 pub record McrawTold (timestamps starts work : List ℤ) (frames scale : ℕ) (nominal end : ℤ) (number : ℕ)

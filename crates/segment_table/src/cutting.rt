@@ -1,10 +1,12 @@
-// Maps: cut, many cuts, join, merge, and the origin of a frame.
+//! Maps: cut, many cuts, join, merge, the origin of a frame, and those of a list of frames.
 ghost use Rattle.std.specs.Prelude.{◌≡◌};
 ghost use Rattle.told.specs.Told.{told, origin_words};
-ghost use Rattle.segment_table.specs.Written.{CutTold, CutsTold, JoinTold, MergeTold, origin_of};
+ghost use Rattle.segment_table.specs.Written.{CutTold, CutsTold, JoinTold, MergeTold, OriginsTold, origin_of};
 
-// The frames start..end of a map as a map: each row's overlap, counted from start. Lent: a map, and
-// room for the rows. Writes the rows, rows (how many), index. Refuses: 51, 52, 50, 52.
+use rows::Origin;
+
+/// The frames start..end of a map as a map: each row's overlap, counted from start. Lent: a map, and
+/// room for the rows. Writes the rows, rows (how many), index. Refuses: 51, 52, 50, 52.
 #[unsafe(no_mangle)]
 pub extern "C" fn st_cut(
     words: &[u64],
@@ -23,10 +25,10 @@ pub extern "C" fn st_cut(
     told::tell(answer, rows, index)
 }
 
-// Cuts of several ranges of a map, which is tested once: of each range the rows that st_cut writes,
-// one cut after the other. Lent: a map; ranges, two words each, start and end, or none; room for
-// the rows of all cuts, and for a count of each. Writes the rows, counts (how many each cut has),
-// rows (how many in all, which may be over 1,024), index. Refuses: 51, 52, 50, 52.
+/// Cuts of several ranges of a map, which is tested once: of each range the rows that st_cut writes,
+/// one cut after the other. Lent: a map; ranges, two words each, start and end, or none; room for
+/// the rows of all cuts, and for a count of each. Writes the rows, counts (how many each cut has),
+/// rows (how many in all, which may be over 1,024), index. Refuses: 51, 52, 50, 52.
 #[unsafe(no_mangle)]
 pub extern "C" fn st_cuts(
     words: &[u64],
@@ -45,9 +47,9 @@ pub extern "C" fn st_cuts(
     told::tell(answer, rows, index)
 }
 
-// Two maps as one, the second after the first.
-// Lent: two maps, and room for the rows. Writes the rows, rows (how many), index. Refuses: 51 (of
-// the first map, then of the second), 52, 53, 52.
+/// Two maps as one, the second after the first.
+/// Lent: two maps, and room for the rows. Writes the rows, rows (how many), index. Refuses: 51 (of
+/// the first map, then of the second), 52, 53, 52.
 #[unsafe(no_mangle)]
 pub extern "C" fn st_join(
     words: &[u64],
@@ -73,9 +75,9 @@ pub extern "C" fn st_join(
     told::tell(answer, rows, index)
 }
 
-// A map with one row of neighbours that continue: the same source, frames that run on, flag and
-// shift equal. Lent: a map, and room for the rows. Writes the rows, rows (how many), index.
-// Refuses: 51, 52, 52.
+/// A map with one row of neighbours that continue: the same source, frames that run on, flag and
+/// shift equal. Lent: a map, and room for the rows. Writes the rows, rows (how many), index.
+/// Refuses: 51, 52, 52.
 #[unsafe(no_mangle)]
 pub extern "C" fn st_merge(
     words: &[u64],
@@ -92,8 +94,8 @@ pub extern "C" fn st_merge(
     told::tell(answer, rows, index)
 }
 
-// Where a frame comes from: its source, its frame there, the shift's flag (1 present, 0 absent) and
-// the shift. Lent: a map. Writes source, source_frame, flag, shift, index. Refuses: 51, 52, 54.
+/// Where a frame comes from: its source, its frame there, the shift's flag (1 present, 0 absent) and
+/// the shift. Lent: a map. Writes source, source_frame, flag, shift, index. Refuses: 51, 52, 54.
 #[unsafe(no_mangle)]
 pub extern "C" fn st_origin(
     words: &[u64],
@@ -111,4 +113,23 @@ pub extern "C" fn st_origin(
 {
     let answer = maps::origin(words, shifts, frame);
     told::several::tell_origin(answer, source, source_frame, flag, shift, index)
+}
+
+/// Where each frame of a list comes from, in any order: what st_origin answers of it, as one struct a
+/// frame. The map is tested once, also for an empty list. Lent: a map, the frames, and room for one
+/// origin a frame. Writes out_origins, written (how many), index. Refuses: 51, 52, 54, 32.
+#[unsafe(no_mangle)]
+pub extern "C" fn st_origins(
+    words: &[u64],
+    shifts: &[i64],
+    frames: &[u64],
+    out_origins: &mut [Origin],
+    written: &mut u64,
+    index: &mut u64,
+) -> u64
+    ensures { OriginsTold words.now shifts.now frames.now out_origins.old written.old result
+        out_origins.new written.new index.new }
+{
+    let answer = maps::origins(words, shifts, frames, out_origins);
+    told::tell(answer, written, index)
 }

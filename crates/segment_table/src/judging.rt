@@ -1,4 +1,4 @@
-// Judging: a table against the video of its file, and against a MotionCam recording.
+//! Judging: a table against the video of its file, and against a MotionCam recording.
 ghost use Rattle.std.specs.Prelude.{◌≡◌};
 ghost use Rattle.table.specs.Layout.{table_of};
 ghost use Rattle.judge.specs.Video.{nothing, constant, timed};
@@ -8,8 +8,8 @@ ghost use Rattle.segment_table.specs.Written.{JudgedTold};
 
 use judge::Video;
 
-// Judges a table where its file has no video: it is always refused.
-// Lent: a table. Writes index. Refuses: 1 to 17, 21.
+/// Judges a table where its file has no video: it is always refused.
+/// Lent: a table. Writes index. Refuses: 1 to 17, 21.
 #[tactic(auto, unfolding(judge::specs::Video::shown_by))]
 #[unsafe(no_mangle)]
 pub extern "C" fn st_validate_no_video(
@@ -36,8 +36,8 @@ pub extern "C" fn st_validate_no_video(
     told::tell_refusal(answer, index)
 }
 
-// Judges a table by a video of video_frames frames at numerator / denominator a second: its frame
-// total. Lent: a table. Writes frames, index. Refuses: 1 to 17, 20, 22, 23 with 24, 25.
+/// Judges a table by a video of video_frames frames at numerator / denominator a second: its frame
+/// total. Lent: a table. Writes frames, index. Refuses: 1 to 17, 20, 22, 23 with 24, 25.
 #[tactic(auto, unfolding(judge::specs::Video::shown_by))]
 #[unsafe(no_mangle)]
 pub extern "C" fn st_validate_constant(
@@ -67,9 +67,9 @@ pub extern "C" fn st_validate_constant(
     told::tell(answer, frames, index)
 }
 
-// Judges a table by a video's frame times, in ticks of scale a second: its frame total. The last
-// frame ends at end. Lent: a table, the starts. Writes frames, index. Refuses: 1 to 17, 20, 22, 23
-// with 24, 25.
+/// Judges a table by a video's frame times, in ticks of scale a second: its frame total. The last
+/// frame ends at end. Lent: a table, the starts. Writes frames, index. Refuses: 1 to 17, 20, 22, 23
+/// with 24, 25.
 #[tactic(auto, unfolding(judge::specs::Video::shown_by))]
 #[unsafe(no_mangle)]
 pub extern "C" fn st_validate_times(
@@ -100,11 +100,11 @@ pub extern "C" fn st_validate_times(
     told::tell(answer, frames, index)
 }
 
-// Judges a table by the timestamps of a MotionCam recording's frames, in nanoseconds: its frame
-// total. One timestamp is judged as one frame at the rate of segment 0's source.
-// Lent: a table, the timestamps, two working slices as long as the timestamps or longer (of one
-// timestamp, of any length). Writes both working slices (all 0), frames, index. Refuses: 1 to 17,
-// 30, 35, 34, 33, 32, 35, 33, 20, 22, 23 with 24, 25.
+/// Judges a table by the timestamps of a MotionCam recording's frames, in nanoseconds: its frame
+/// total. One timestamp is judged as one frame at the rate of segment 0's source.
+/// Lent: a table, the timestamps, two working slices as long as the timestamps or longer (of one
+/// timestamp, of any length). Writes both working slices (all 0), frames, index. Refuses: 1 to 17,
+/// 30, 35, 34, 33, 32, 35, 33, 20, 22, 23 with 24, 25.
 #[unsafe(no_mangle)]
 pub extern "C" fn st_check_mcraw(
     sources: &[u64],

@@ -1,13 +1,13 @@
-// Lists of records: the lookup over a table whose segments are lent as a list of structs.
+//! Lists of records: the lookup over a table whose segments are lent as a list of structs.
 ghost use Rattle.std.specs.Prelude.{◌≡◌};
 ghost use Rattle.records.specs.Records.{locate};
 ghost use Rattle.told.specs.Told.{told, itself};
 
 use records::TrimSegment;
 
-// The segment of a frame, over a list of records instead of words; the answer is
-// st_segment_of_frame's. Lent: the sources' words, the text, the records. Writes segment, index.
-// Refuses: 1 to 17.
+/// The segment of a frame, over a list of records instead of words; the answer is
+/// st_segment_of_frame's. Lent: the sources' words, the text, the records. Writes segment, index.
+/// Refuses: 1 to 17.
 #[unsafe(no_mangle)]
 pub extern "C" fn st_segment_of_frame_records(
     sources: &[u64],

@@ -1,5 +1,5 @@
-// Tables: the check, both lookups and those of a list of frames, whether a segment continues the
-// one before, the rows of its map.
+//! Tables: the check, both lookups and those of a list of frames, whether a segment continues the
+//! one before, the rows of its map.
 ghost use Rattle.std.specs.Prelude.{◌≡◌};
 ghost use Rattle.rules.specs.Rules.{check_of};
 ghost use Rattle.rules.specs.Lookups.{segment_of_frame, segment_of_time, continues_at};
@@ -7,8 +7,8 @@ ghost use Rattle.table.specs.Layout.{table_of};
 ghost use Rattle.told.specs.Told.{told, itself, yes_or_no};
 ghost use Rattle.segment_table.specs.Written.{RowedTold, IndexingTold};
 
-// Checks a table: its frame total.
-// Lent: a table. Writes frames, index. Refuses: 1 to 17.
+/// Checks a table: its frame total.
+/// Lent: a table. Writes frames, index. Refuses: 1 to 17.
 #[unsafe(no_mangle)]
 pub extern "C" fn st_check(
     sources: &[u64],
@@ -30,8 +30,8 @@ pub extern "C" fn st_check(
     )
 }
 
-// The segment of a frame: the number of segments that end at or before it, at most the last index.
-// Lent: a table. Writes segment, index. Refuses: 1 to 17.
+/// The segment of a frame: the number of segments that end at or before it, at most the last index.
+/// Lent: a table. Writes segment, index. Refuses: 1 to 17.
 #[unsafe(no_mangle)]
 pub extern "C" fn st_segment_of_frame(
     sources: &[u64],
@@ -52,10 +52,10 @@ pub extern "C" fn st_segment_of_frame(
     told::tell(answer, segment, index)
 }
 
-// The segment of each frame of a list, in any order: what st_segment_of_frame answers of it. The
-// table is checked once, also for an empty list. The frames and out_segments may not be one array.
-// Lent: a table, the frames, and room for one index a frame. Writes out_segments, written (how
-// many), index. Refuses: 1 to 17, 32.
+/// The segment of each frame of a list, in any order: what st_segment_of_frame answers of it. The
+/// table is checked once, also for an empty list. The frames and out_segments may not be one array.
+/// Lent: a table, the frames, and room for one index a frame. Writes out_segments, written (how
+/// many), index. Refuses: 1 to 17, 32.
 #[unsafe(no_mangle)]
 pub extern "C" fn st_segments_of_frames(
     sources: &[u64],
@@ -83,8 +83,8 @@ pub extern "C" fn st_segments_of_frames(
     told::tell(answer, written, index)
 }
 
-// The segment of a time in microseconds: the number of segments that end at or before it, at most
-// the last index. Lent: a table. Writes segment, index. Refuses: 1 to 17.
+/// The segment of a time in microseconds: the number of segments that end at or before it, at most
+/// the last index. Lent: a table. Writes segment, index. Refuses: 1 to 17.
 #[unsafe(no_mangle)]
 pub extern "C" fn st_segment_of_time_us(
     sources: &[u64],
@@ -105,9 +105,9 @@ pub extern "C" fn st_segment_of_time_us(
     told::tell(answer, segment, index)
 }
 
-// Whether a segment continues the one before it: the same source, source frames that run on, equal
-// shift. Answers 1 or 0, and 0 for the first segment and for one that isn't there. Lent: a table.
-// Writes answer, index. Refuses: 1 to 17.
+/// Whether a segment continues the one before it: the same source, source frames that run on, equal
+/// shift. Answers 1 or 0, and 0 for the first segment and for one that isn't there. Lent: a table.
+/// Writes answer, index. Refuses: 1 to 17.
 #[unsafe(no_mangle)]
 pub extern "C" fn st_continues(
     sources: &[u64],
@@ -128,8 +128,8 @@ pub extern "C" fn st_continues(
     told::tell(continues, answer, index)
 }
 
-// The map of an accepted table: one row a segment, an absent shift as 0. Lent: a table, and room
-// for the rows. Writes the rows, rows (how many), index. Refuses: 1 to 17, 32.
+/// The map of an accepted table: one row a segment, an absent shift as 0. Lent: a table, and room
+/// for the rows. Writes the rows, rows (how many), index. Refuses: 1 to 17, 32.
 #[unsafe(no_mangle)]
 pub extern "C" fn st_rows_of_table(
     sources: &[u64],

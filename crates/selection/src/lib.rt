@@ -1,4 +1,4 @@
-// The k-th smallest of a lent slice of i64.
+//! The k-th smallest of a lent slice of i64.
 #![tactic(auto)]
 
 ghost use Rattle.std.specs.Prelude.{◌≡◌, true, ◌+◌, ◌-◌, ◌*◌, ◌<◌, length, get_or, take, pos, int_lt, int_le};
@@ -24,9 +24,7 @@ struct Bounds {
     pub up_to: usize,
 }
 
-// The k-th smallest, counted from 0. A range of values that has it is halved by counting, and where
-// it has at most half of the elements that are left, only those are kept; few are sorted. What xs
-// holds afterwards isn't said.
+/// The k-th smallest of a slice, counted from 0. What `xs` holds afterwards isn't said.
 pub fn select(xs: &mut [i64], k: usize) -> i64
     requires { k < length xs.old }
     ensures { result ≡ get_or (sorted xs.old) k (pos 0) }
@@ -39,6 +37,8 @@ pub fn select(xs: &mut [i64], k: usize) -> i64
     let mut rank = k;
     let mut below = begun.below;
     let mut up_to = begun.up_to;
+    // A range of values that has the wanted one is halved by counting. Where it has at most half of
+    // the elements that are left, only those are kept; few are sorted.
     while low < high {
         if left <= SMALL {
             order::sort_small(&mut xs[..left]);

@@ -1,88 +1,60 @@
 -- What a line asks for.
-use Rattle.std.specs.Prelude.{ℕ, Bool, not, List, [], ◌∷◌, ℤ, pos, length, ◌==◌, if◌then◌else◌}
-use Rattle.steps.specs.declared.Number.{Number}
-use Rattle.steps.specs.declared.Number.TheVariants as number
-use Rattle.steps.specs.declared.Integer.{Integer}
-use Rattle.steps.specs.declared.Integer.TheVariants as integer
-use Rattle.steps.specs.declared.Keyword.{Keyword}
-use Rattle.steps.specs.declared.Keyword.TheVariants as keyword
+use Rattle.std.specs.Prelude.{ℕ, not, List, ℤ, length, codes, ◌==◌, if◌then◌else◌, Option, Some, None, Result, Ok, Err}
+use Rattle.std.specs.Result.{result_and}
+use Rattle.std.specs.Str.{bytes_eq}
+use Rattle.steps.specs.declared.Fault.{Fault}
+use Rattle.steps.specs.declared.Fault.TheVariants.{Unknown}
 use Rattle.steps.specs.declared.Step.{Step}
-use Rattle.steps.specs.declared.Step.TheVariants.{Nothing, Row, Cut, Origin, Join, Merge, Unknown, Large}
-use Rattle.steps.specs.Words.{same_as, code_of, word_of, rest_of}
-use Rattle.steps.specs.Numbers.{number_in, integer_in}
+use Rattle.steps.specs.declared.Step.TheVariants.{Row, Cut, Origin, Join, Merge}
+use Rattle.steps.specs.Words.{code_of, word_of, rest_of}
+use Rattle.steps.specs.Numbers.{with, number_in, integer_in}
 
--- the first word of a line is a number, with which f goes on
-abbrev pub with_number : Number → (ℕ → Step) → Step
-with_number (number.Is value) f = f value
-with_number number.Large f = Large
-with_number number.Not f = Unknown
+-- the end of a line
+abbrev pub end_in : List ℕ → Result (Unit {0}) Fault
+end_in line = if length (word_of line) == 0 then Ok tt else Err Unknown
 
-abbrev pub with_integer : Integer → (ℤ → Step) → Step
-with_integer (integer.Is value) f = f value
-with_integer integer.Large f = Large
-with_integer integer.Not f = Unknown
+-- the first word of a line is a number, with which f goes on in the rest of the line
+abbrev pub with_number : {A : Type 0} → List ℕ → (ℕ → List ℕ → Result A Fault) → Result A Fault
+with_number line f = with (number_in (word_of line)) (λ n. f n (rest_of line))
 
--- a line has no word
-abbrev pub none : List ℕ → Bool
-none line = length (word_of line) == 0
-
--- a step that nothing may follow
-unfoldable pub ended_by : Step → List ℕ → Step
-ended_by step line = if none line then step else Unknown
+-- shift SHIFT, or nothing
+abbrev pub shift_in : List ℕ → Result (Option ℤ) Fault
+shift_in line =
+    if length (word_of line) == 0 then Ok None
+    else if not (bytes_eq (word_of line) (codes "shift")) then Err Unknown
+    else with (integer_in (word_of (rest_of line)))
+    (λ shift. result_and (end_in (rest_of (rest_of line))) (Ok (Some shift)))
 
 -- row SOURCE FIRST COUNT, or row SOURCE FIRST COUNT shift SHIFT
-unfoldable pub row_shift : ℕ → ℕ → ℕ → List ℕ → Step
-row_shift source first count line =
-    if none line then Row source first count 0 (pos 0)
-    else if not (same_as (word_of line) (115 ∷ 104 ∷ 105 ∷ 102 ∷ 116 ∷ [])) then Unknown
-    else with_integer (integer_in (word_of (rest_of line)))
-    (λ shift. ended_by (Row source first count 1 shift) (rest_of (rest_of line)))
+abbrev pub row_in : List ℕ → Result Step Fault
+row_in line =
+    with_number line (λ source line. with_number line (λ first line. with_number line (λ count line.
+    with (shift_in line) (λ shift. Ok (Row source first count shift)))))
 
-unfoldable pub row_count : ℕ → ℕ → List ℕ → Step
-row_count source first line =
-    with_number (number_in (word_of line)) (λ count. row_shift source first count (rest_of line))
-
-unfoldable pub row_first : ℕ → List ℕ → Step
-row_first source line = with_number (number_in (word_of line)) (λ first. row_count source first (rest_of line))
-
-unfoldable pub row_source : List ℕ → Step
-row_source line = with_number (number_in (word_of line)) (λ source. row_first source (rest_of line))
-
--- cut A B
-unfoldable pub cut_end : ℕ → List ℕ → Step
-cut_end start line = with_number (number_in (word_of line)) (λ end. ended_by (Cut start end) (rest_of line))
-
-unfoldable pub cut_start : List ℕ → Step
-cut_start line = with_number (number_in (word_of line)) (λ start. cut_end start (rest_of line))
+-- cut START END
+abbrev pub cut_in : List ℕ → Result Step Fault
+cut_in line = with_number line (λ start line. with_number line (λ end line. result_and (end_in line) (Ok (Cut start end))))
 
 -- origin FRAME
-unfoldable pub origin_frame : List ℕ → Step
-origin_frame line = with_number (number_in (word_of line)) (λ frame. ended_by (Origin frame) (rest_of line))
+abbrev pub origin_in : List ℕ → Result Step Fault
+origin_in line = with_number line (λ frame line. result_and (end_in line) (Ok (Origin frame)))
 
--- the word that begins a step: row, cut, origin, join, merge
-unfoldable pub keyword_in : List ℕ → Keyword
-keyword_in word =
-    if length word == 0 then keyword.Absent
-    else if same_as word (114 ∷ 111 ∷ 119 ∷ []) then keyword.Row
-    else if same_as word (99 ∷ 117 ∷ 116 ∷ []) then keyword.Cut
-    else if same_as word (111 ∷ 114 ∷ 105 ∷ 103 ∷ 105 ∷ 110 ∷ []) then keyword.Origin
-    else if same_as word (106 ∷ 111 ∷ 105 ∷ 110 ∷ []) then keyword.Join
-    else if same_as word (109 ∷ 101 ∷ 114 ∷ 103 ∷ 101 ∷ []) then keyword.Merge
-    else keyword.Other
+-- a step without numbers
+abbrev pub alone_in : Step → List ℕ → Result Step Fault
+alone_in step line = result_and (end_in line) (Ok step)
 
--- what a keyword makes of the words after it
-abbrev pub step_by : Keyword → List ℕ → Step
-step_by keyword.Absent line = Nothing
-step_by keyword.Row line = row_source line
-step_by keyword.Cut line = cut_start line
-step_by keyword.Origin line = origin_frame line
-step_by keyword.Join line = ended_by Join line
-step_by keyword.Merge line = ended_by Merge line
-step_by keyword.Other line = Unknown
+-- the step that begins with a word
+abbrev pub step_in : List ℕ → List ℕ → Result Step Fault
+step_in keyword line =
+    if bytes_eq keyword (codes "row") then row_in line
+    else if bytes_eq keyword (codes "cut") then cut_in line
+    else if bytes_eq keyword (codes "origin") then origin_in line
+    else if bytes_eq keyword (codes "join") then alone_in Join line
+    else if bytes_eq keyword (codes "merge") then alone_in Merge line
+    else Err Unknown
 
--- what a line without its comment asks for, and a line
-unfoldable pub step_in : List ℕ → Step
-step_in line = step_by (keyword_in (word_of line)) (rest_of line)
-
-unfoldable pub step_of : List ℕ → Step
-step_of line = step_in (code_of line)
+-- a line
+abbrev pub step_of : List ℕ → Result (Option Step) Fault
+step_of line =
+    if length (word_of (code_of line)) == 0 then Ok None
+    else with (step_in (word_of (code_of line)) (rest_of (code_of line))) (λ step. Ok (Some step))

@@ -1,6 +1,5 @@
 -- A line as words: what stands before its comment, cut at blanks.
-use Rattle.std.specs.Prelude.{ℕ, Bool, not, ◌||◌, List, drop, ◌==◌, nat_eq}
-use Rattle.std.specs.Cmp.Lexicographic.{pointwise}
+use Rattle.std.specs.Prelude.{ℕ, Bool, not, ◌||◌, List, drop, ◌==◌}
 use Rattle.std.specs.List.{prefix_len, take_while}
 use Rattle.steps.specs.declared.Kind.{Kind}
 use Rattle.steps.specs.declared.Kind.TheVariants.{Blank, Word, Text}
@@ -15,21 +14,17 @@ passing Blank byte = blank byte
 passing Word byte = not (blank byte)
 passing Text byte = not (byte == 35)
 
--- the same bytes
-unfoldable pub same_as : List ℕ → List ℕ → Bool
-same_as = pointwise nat_eq
-
 -- a line before its comment
-unfoldable pub code_of : List ℕ → List ℕ
+abbrev pub code_of : List ℕ → List ℕ
 code_of line = take_while (passing Text) line
 
 -- a line from its first word on
-unfoldable pub trimmed : List ℕ → List ℕ
+abbrev pub trimmed : List ℕ → List ℕ
 trimmed line = drop (prefix_len (passing Blank) line) line
 
 -- the first word, and what comes after it
-unfoldable pub word_of : List ℕ → List ℕ
+abbrev pub word_of : List ℕ → List ℕ
 word_of line = take_while (passing Word) (trimmed line)
 
-unfoldable pub rest_of : List ℕ → List ℕ
+abbrev pub rest_of : List ℕ → List ℕ
 rest_of line = drop (prefix_len (passing Word) (trimmed line)) (trimmed line)

@@ -1,13 +1,15 @@
-// One line of text as one step on a frame map: `row`, `cut`, `join`, `merge` or `origin` with its
-// numbers. `#` begins a comment. Words and numbers are public: other programs read their lines with
-// them.
+//! One line of text as one step on a frame map: `row`, `cut`, `join`, `merge` or `origin` with its
+//! numbers. `#` begins a comment. Words and numbers are public: other programs read their lines
+//! with them.
 #![tactic(auto)]
 
-ghost use Rattle.std.specs.Prelude.{◌≡◌, length, drop, ◌≤◌};
-ghost use Rattle.std.specs.List.{prefix_len};
-ghost use Rattle.steps.specs.Words.{passing, same_as, code_of, trimmed, word_of, rest_of};
-ghost use Rattle.steps.specs.Numbers.{digit_of, overs_of, number_in, signed_as, integer_in};
-ghost use Rattle.steps.specs.Steps.{ended_by, row_shift, row_count, row_first, row_source, cut_end, cut_start, origin_frame, keyword_in, step_in, step_of};
+ghost use Rattle.std.specs.Prelude.{◌≡◌, length, ◌≤◌, ◌<◌, ◌+◌, ◌*◌, ◌^◌, IsTrue, SomeIff};
+ghost use Rattle.std.specs.Char.{is_ascii_digit, digit_value};
+ghost use Rattle.std.specs.List.{list_all, prefix_len};
+ghost use Rattle.std.specs.Str.Parse.{digits_value};
+ghost use Rattle.steps.specs.Words.{passing, code_of, trimmed, word_of, rest_of};
+ghost use Rattle.steps.specs.Numbers.{number_in, signed_as, integer_in};
+ghost use Rattle.steps.specs.Steps.{end_in, shift_in, row_in, cut_in, origin_in, alone_in, step_in, step_of};
 
 // Kinds of bytes: blanks between words, bytes of words, bytes before a comment.
 #[derive(Clone, Copy)]
@@ -17,51 +19,43 @@ enum Kind {
     Text,
 }
 
-// A word as a number below 2^64.
-#[derive(Clone, Copy)]
-pub enum Number {
-    Is(u64),
+/// Why a line is no step, or a word no number.
+#[derive(Clone, Copy, Debug, PartialEq, Eq)]
+pub enum Fault {
+    /// The words are those of no step, or a word isn't a number.
+    Unknown,
+    /// A number that 64 bits don't hold.
     Large,
-    Not,
 }
 
-// A word as a signed number of 64 bits.
-#[derive(Clone, Copy)]
-pub enum Integer {
-    Is(i64),
-    Large,
-    Not,
-}
-
-// The word that begins a step.
-#[derive(Clone, Copy)]
-enum Keyword {
-    Absent,
-    Row,
-    Cut,
-    Origin,
-    Join,
-    Merge,
-    Other,
-}
-
-// What a line asks for; `Large` is a number over 64 bits.
-#[derive(Clone, Copy)]
+/// What a line asks for. Numbers are frames, and a source's number; a shift is microseconds.
+#[derive(Clone, Copy, Debug, PartialEq, Eq)]
 pub enum Step {
-    Nothing,
+    /// A row more: its source, the first of its source frames, how many, and its shift, if any.
     Row {
         source: u64,
         first: u64,
         count: u64,
-        flag: u64,
-        shift: i64,
+        shift: Option<i64>,
     },
-    Cut(u64, u64),
+    /// The frames from start to end, without end.
+    Cut {
+        start: u64,
+        end: u64,
+    },
+    /// Where a frame comes from.
     Origin(u64),
+    /// The rows that follow are a second map, joined to the first.
     Join,
+    /// One row of neighbours that continue.
     Merge,
-    Unknown,
-    Large,
+}
+
+/// The words of a line that aren't read yet. Spaces, tabs and carriage returns stand between words.
+#[derive(Clone, Copy, Debug)]
+pub struct Words<'a> {
+    /// What is left of the line.
+    pub rest: &'a [u8],
 }
 
 // Whether a byte is of a kind.
@@ -69,9 +63,9 @@ fn passes(kind: Kind, byte: u8) -> bool
     ensures { result ≡ passing kind byte }
 {
     match kind {
-        Kind::Blank => (byte == 32) | (byte == 9) | (byte == 13),
-        Kind::Word => !((byte == 32) | (byte == 9) | (byte == 13)),
-        Kind::Text => byte != 35,
+        Kind::Blank => (byte == b' ') | (byte == b'\t') | (byte == b'\r'),
+        Kind::Word => !((byte == b' ') | (byte == b'\t') | (byte == b'\r')),
+        Kind::Text => byte != b'#',
     }
 }
 
@@ -80,36 +74,10 @@ fn leading(text: &[u8], kind: Kind) -> usize
     ensures value { result ≡ prefix_len (passing kind) text.now }
     ensures bound { result ≤ length text.now }
 {
-    let mut i = 0;
-    while i < text.len() {
-        if !passes(kind, text[i]) {
-            return i;
-        }
-        i += 1;
-    }
-    i
-}
-
-// Whether two words are the same.
-#[tactic(auto, unfolding(crate::specs::Words::same_as))]
-fn same(word: &[u8], other: &[u8]) -> bool
-    ensures { result ≡ same_as word.now other.now }
-{
-    if word.len() != other.len() {
-        return false;
-    }
-    let mut i = 0;
-    while i < word.len() {
-        if word[i] != other[i] {
-            return false;
-        }
-        i += 1;
-    }
-    true
+    text.iter().take_while(|byte| passes(kind, **byte)).count()
 }
 
 // A line before its comment.
-#[tactic(auto, unfolding(crate::specs::Words::code_of))]
 fn code(line: &[u8]) -> &[u8]
     ensures { result.now ≡ code_of line.now }
 {
@@ -118,7 +86,6 @@ fn code(line: &[u8]) -> &[u8]
 }
 
 // A line from its first word on.
-#[tactic(auto, unfolding(crate::specs::Words::trimmed))]
 fn trim(line: &[u8]) -> &[u8]
     ensures { result.now ≡ trimmed line.now }
 {
@@ -127,8 +94,7 @@ fn trim(line: &[u8]) -> &[u8]
 }
 
 // The first word of a line, empty where there is none.
-#[tactic(auto, unfolding(crate::specs::Words::word_of))]
-pub fn word(line: &[u8]) -> &[u8]
+fn word(line: &[u8]) -> &[u8]
     ensures { result.now ≡ word_of line.now }
 {
     let trimmed = trim(line);
@@ -137,8 +103,7 @@ pub fn word(line: &[u8]) -> &[u8]
 }
 
 // What comes after the first word.
-#[tactic(auto, unfolding(crate::specs::Words::rest_of))]
-pub fn rest(line: &[u8]) -> &[u8]
+fn rest(line: &[u8]) -> &[u8]
     ensures { result.now ≡ rest_of line.now }
 {
     let trimmed = trim(line);
@@ -146,249 +111,181 @@ pub fn rest(line: &[u8]) -> &[u8]
     &trimmed[n..]
 }
 
-// A digit's value; more than 9 where it is no digit.
-fn digit(byte: u8) -> u64
-    ensures { result ≡ digit_of byte }
+// The number with a decimal digit more, where 64 bits hold it.
+fn with_digit(number: u64, digit: u8) -> Option<u64>
+    requires { IsTrue (is_ascii_digit digit) }
+    ensures { SomeIff result (number * 10 + digit_value digit < 2 ^ 64)
+        (number * 10 + digit_value digit) }
 {
-    if byte < 48 {
-        return 10;
-    }
-    if 57 < byte {
-        return 10;
-    }
-    (byte - 48) as u64
+    number.checked_mul(10)?.checked_add(u64::from(digit - b'0'))
 }
 
-// Digits that go on where the number is too large already: it is no number if one of them isn't a
-// digit.
-fn overs(word: &[u8], from: usize) -> Number
-    requires { from ≤ length word.now }
-    ensures { result ≡ overs_of (drop from word.now) }
+// The number of some decimal digits, where 64 bits hold it.
+fn from_digits(digits: &[u8]) -> Option<u64>
+    requires { IsTrue (list_all is_ascii_digit digits.now) }
+    ensures { SomeIff result (digits_value 10 digits.now < 2 ^ 64) (digits_value 10 digits.now) }
 {
-    let mut i = from;
-    while i < word.len() {
-        if 9 < digit(word[i]) {
-            return Number::Not;
-        }
-        i += 1;
+    let mut number: u64 = 0;
+    for digit in digits {
+        number = with_digit(number, *digit)?;
     }
-    Number::Large
+    Some(number)
 }
 
-// A word of decimal digits as a number.
-pub fn number_of(word: &[u8]) -> Number
+// Whether all bytes are decimal digits.
+fn are_digits(bytes: &[u8]) -> bool
+    ensures { result ≡ list_all is_ascii_digit bytes.now }
+{
+    bytes.iter().all(|byte| byte.is_ascii_digit())
+}
+
+/// A word of decimal digits as a number of 64 bits.
+pub fn number_of(word: &[u8]) -> Result<u64, Fault>
     ensures { result ≡ number_in word.now }
 {
-    if word.len() == 0 {
-        return Number::Not;
+    if word.is_empty() | !are_digits(word) {
+        return Err(Fault::Unknown);
     }
-    let mut number: u64 = 0;
-    let mut i = 0;
-    while i < word.len() {
-        let value = digit(word[i]);
-        if 9 < value {
-            return Number::Not;
-        }
-        i += 1;
-        if (u64::MAX - value) / 10 < number {
-            return overs(word, i);
-        }
-        number = 10 * number + value;
-    }
-    Number::Is(number)
+    from_digits(word).ok_or(Fault::Large)
 }
 
 // A number with a sign.
-fn with_sign(negative: bool, number: Number) -> Integer
+fn with_sign(negative: bool, number: Result<u64, Fault>) -> Result<i64, Fault>
     ensures { result ≡ signed_as negative number }
 {
-    match number {
-        Number::Is(size) => match signed::with_sign(negative, size) {
-            Some(value) => Integer::Is(value),
-            None => Integer::Large,
-        },
-        Number::Large => Integer::Large,
-        Number::Not => Integer::Not,
-    }
+    signed::with_sign(negative, number?).ok_or(Fault::Large)
 }
 
-// A word of decimal digits as a signed number, with `-` before it where it is below 0.
-pub fn integer_of(word: &[u8]) -> Integer
+/// A word of decimal digits as a signed number of 64 bits, with `-` before it where it is below 0.
+pub fn integer_of(word: &[u8]) -> Result<i64, Fault>
     ensures { result ≡ integer_in word.now }
 {
-    if word.len() == 0 {
-        return Integer::Not;
+    match word {
+        [b'-', digits @ ..] => with_sign(true, number_of(digits)),
+        _ => with_sign(false, number_of(word)),
     }
-    if word[0] == 45 {
-        return with_sign(true, number_of(&word[1..]));
-    }
-    with_sign(false, number_of(word))
 }
 
-// A step that nothing may follow.
-#[tactic(auto, unfolding(crate::specs::Steps::ended_by))]
-fn ended(step: Step, line: &[u8]) -> Step
-    ensures { result ≡ ended_by step line.now }
-{
-    if word(line).len() == 0 {
-        return step;
+impl<'a> Words<'a> {
+    /// The next word, empty where there is none.
+    pub fn next(&mut self) -> &'a [u8]
+        ensures word { result.now ≡ word_of self.old.rest.now }
+        ensures rest { self.new.rest.now ≡ rest_of self.old.rest.now }
+    {
+        let next = word(self.rest);
+        self.rest = rest(self.rest);
+        next
     }
-    Step::Unknown
-}
 
-// The shift of a row, if it has one.
-#[tactic(auto, unfolding(crate::specs::Steps::row_shift))]
-fn row_shift(source: u64, first: u64, count: u64, line: &[u8]) -> Step
-    ensures { result ≡ row_shift source first count line.now }
-{
-    let next = word(line);
-    if next.len() == 0 {
-        return Step::Row {
+    // The next word as a number.
+    fn number(&mut self) -> Result<u64, Fault>
+        ensures value { result ≡ number_in (word_of self.old.rest.now) }
+        ensures rest { self.new.rest.now ≡ rest_of self.old.rest.now }
+    {
+        number_of(self.next())
+    }
+
+    // The end of a line.
+    fn end(self) -> Result<(), Fault>
+        ensures { result ≡ end_in self.entry.rest.now }
+    {
+        if word(self.rest).is_empty() {
+            Ok(())
+        } else {
+            Err(Fault::Unknown)
+        }
+    }
+
+    // shift SHIFT, or nothing.
+    fn shift(mut self) -> Result<Option<i64>, Fault>
+        ensures { result ≡ shift_in self.entry.rest.now }
+    {
+        let next = self.next();
+        if next.is_empty() {
+            return Ok(None);
+        }
+        if next != b"shift".as_slice() {
+            return Err(Fault::Unknown);
+        }
+        let shift = integer_of(self.next())?;
+        self.end()?;
+        Ok(Some(shift))
+    }
+
+    // row SOURCE FIRST COUNT, or row SOURCE FIRST COUNT shift SHIFT.
+    fn row(mut self) -> Result<Step, Fault>
+        ensures { result ≡ row_in self.entry.rest.now }
+    {
+        let source = self.number()?;
+        let first = self.number()?;
+        let count = self.number()?;
+        let shift = self.shift()?;
+        Ok(Step::Row {
             source,
             first,
             count,
-            flag: 0,
-            shift: 0,
-        };
+            shift,
+        })
     }
-    if !same(next, b"shift") {
-        return Step::Unknown;
+
+    // cut START END.
+    fn cut(mut self) -> Result<Step, Fault>
+        ensures { result ≡ cut_in self.entry.rest.now }
+    {
+        let start = self.number()?;
+        let end = self.number()?;
+        self.end()?;
+        Ok(Step::Cut { start, end })
     }
-    let after = rest(line);
-    match integer_of(word(after)) {
-        Integer::Is(shift) => {
-            let row = Step::Row {
-                source,
-                first,
-                count,
-                flag: 1,
-                shift,
-            };
-            ended(row, rest(after))
+
+    // origin FRAME.
+    fn origin(mut self) -> Result<Step, Fault>
+        ensures { result ≡ origin_in self.entry.rest.now }
+    {
+        let frame = self.number()?;
+        self.end()?;
+        Ok(Step::Origin(frame))
+    }
+
+    // A step without numbers.
+    fn alone(self, step: Step) -> Result<Step, Fault>
+        ensures { result ≡ alone_in step self.entry.rest.now }
+    {
+        self.end()?;
+        Ok(step)
+    }
+
+    // The step that begins with a word.
+    fn step(self, keyword: &[u8]) -> Result<Step, Fault>
+        ensures { result ≡ step_in keyword.now self.entry.rest.now }
+    {
+        if keyword == b"row".as_slice() {
+            return self.row();
         }
-        Integer::Large => Step::Large,
-        Integer::Not => Step::Unknown,
+        if keyword == b"cut".as_slice() {
+            return self.cut();
+        }
+        if keyword == b"origin".as_slice() {
+            return self.origin();
+        }
+        if keyword == b"join".as_slice() {
+            return self.alone(Step::Join);
+        }
+        if keyword == b"merge".as_slice() {
+            return self.alone(Step::Merge);
+        }
+        Err(Fault::Unknown)
     }
 }
 
-// The count of a row, and what follows it.
-#[tactic(auto, unfolding(crate::specs::Steps::row_count))]
-fn row_count(source: u64, first: u64, line: &[u8]) -> Step
-    ensures { result ≡ row_count source first line.now }
-{
-    match number_of(word(line)) {
-        Number::Is(count) => row_shift(source, first, count, rest(line)),
-        Number::Large => Step::Large,
-        Number::Not => Step::Unknown,
-    }
-}
-
-// The source first of a row, and what follows it.
-#[tactic(auto, unfolding(crate::specs::Steps::row_first))]
-fn row_first(source: u64, line: &[u8]) -> Step
-    ensures { result ≡ row_first source line.now }
-{
-    match number_of(word(line)) {
-        Number::Is(first) => row_count(source, first, rest(line)),
-        Number::Large => Step::Large,
-        Number::Not => Step::Unknown,
-    }
-}
-
-// The source of a row, and what follows it.
-#[tactic(auto, unfolding(crate::specs::Steps::row_source))]
-fn row_source(line: &[u8]) -> Step
-    ensures { result ≡ row_source line.now }
-{
-    match number_of(word(line)) {
-        Number::Is(source) => row_first(source, rest(line)),
-        Number::Large => Step::Large,
-        Number::Not => Step::Unknown,
-    }
-}
-
-// The end of a cut.
-#[tactic(auto, unfolding(crate::specs::Steps::cut_end))]
-fn cut_end(start: u64, line: &[u8]) -> Step
-    ensures { result ≡ cut_end start line.now }
-{
-    match number_of(word(line)) {
-        Number::Is(end) => ended(Step::Cut(start, end), rest(line)),
-        Number::Large => Step::Large,
-        Number::Not => Step::Unknown,
-    }
-}
-
-// The start of a cut, and what follows it.
-#[tactic(auto, unfolding(crate::specs::Steps::cut_start))]
-fn cut_start(line: &[u8]) -> Step
-    ensures { result ≡ cut_start line.now }
-{
-    match number_of(word(line)) {
-        Number::Is(start) => cut_end(start, rest(line)),
-        Number::Large => Step::Large,
-        Number::Not => Step::Unknown,
-    }
-}
-
-// The frame whose origin is asked.
-#[tactic(auto, unfolding(crate::specs::Steps::origin_frame))]
-fn origin_frame(line: &[u8]) -> Step
-    ensures { result ≡ origin_frame line.now }
-{
-    match number_of(word(line)) {
-        Number::Is(frame) => ended(Step::Origin(frame), rest(line)),
-        Number::Large => Step::Large,
-        Number::Not => Step::Unknown,
-    }
-}
-
-// Which word begins a step.
-#[tactic(auto, unfolding(crate::specs::Steps::keyword_in))]
-fn keyword_of(word: &[u8]) -> Keyword
-    ensures { result ≡ keyword_in word.now }
-{
-    if word.len() == 0 {
-        return Keyword::Absent;
-    }
-    if same(word, b"row") {
-        return Keyword::Row;
-    }
-    if same(word, b"cut") {
-        return Keyword::Cut;
-    }
-    if same(word, b"origin") {
-        return Keyword::Origin;
-    }
-    if same(word, b"join") {
-        return Keyword::Join;
-    }
-    if same(word, b"merge") {
-        return Keyword::Merge;
-    }
-    Keyword::Other
-}
-
-// What a line without its comment asks for.
-#[tactic(auto, unfolding(crate::specs::Steps::step_in))]
-fn step_in(line: &[u8]) -> Step
-    ensures { result ≡ step_in line.now }
-{
-    match keyword_of(word(line)) {
-        Keyword::Absent => Step::Nothing,
-        Keyword::Row => row_source(rest(line)),
-        Keyword::Cut => cut_start(rest(line)),
-        Keyword::Origin => origin_frame(rest(line)),
-        Keyword::Join => ended(Step::Join, rest(line)),
-        Keyword::Merge => ended(Step::Merge, rest(line)),
-        Keyword::Other => Step::Unknown,
-    }
-}
-
-// What a line asks for.
-#[tactic(auto, unfolding(crate::specs::Steps::step_of))]
-pub fn parse(line: &[u8]) -> Step
+/// What a line asks for, if anything: a line may be blank, or a comment alone.
+pub fn parse(line: &[u8]) -> Result<Option<Step>, Fault>
     ensures { result ≡ step_of line.now }
 {
-    step_in(code(line))
+    let mut words = Words { rest: code(line) };
+    let keyword = words.next();
+    if keyword.is_empty() {
+        return Ok(None);
+    }
+    Ok(Some(words.step(keyword)?))
 }

@@ -33,7 +33,7 @@ place-back End = refl
 place-back (BadAt at) = refl
 
 child-back : (b : List ℕ) (kind : ℕ) → taken_back (child_place b kind) ≡ child_undivided b kind
-unfolding child_place child_undivided
+unfolding child_undivided
 child-back b kind = chosen taken_back (ltb most_bytes (length b)) _ _ _ _ refl (place-back (first_of kind (boxes_of b)))
 
 -- `find_box`
@@ -57,7 +57,7 @@ reached-back Bad at = refl
 reached-back (Whole found) at = refl
 
 children-back : (b : List ℕ) (at : ℕ) → taken_back (children_at b at) ≡ children_undivided b at
-unfolding children_at children_undivided
+unfolding children_undivided
 children-back b at =
     chosen taken_back (ltb most_bytes (length b)) _ _ _ _ refl
     (chosen taken_back (ltb (length b) at) _ _ _ _ refl (reached-back (header_at b at) at))

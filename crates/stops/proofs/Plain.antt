@@ -1,4 +1,4 @@
--- Below the stts no answer is 36. Assumes nothing.
+-- Of a track no answer is 36. Assumes nothing.
 use mathlib.Core.Bool.{Bool}
 use Rattle.std.specs.List.{list_any}
 use mathlib.Core.List.{List, [], ◌∷◌}
@@ -9,13 +9,15 @@ use lib.Signed.{le_z}
 use lib.Dec.{ltb}
 use Rattle.conditions.proofs.Tests.{either}
 use Rattle.signed.specs.Signed.{is_outside}
-use Rattle.std.specs.Prelude.{Option, None, Some}
 use Rattle.tracks.specs.declared.Edit.{Edit}
-use Rattle.tracks.specs.Tables.{optional_entries, entries_of, entry_total, durations, offsets}
+use Rattle.tracks.specs.Tables.{table_entries, optional_entries, entries_of, entry_total}
 use Rattle.tracks.specs.Edits.{edit_of}
+use Rattle.std.specs.Prelude.{Result}
 use Rattle.refusal.specs.declared.Reason.TheVariants as reason
+use Rattle.refusal.specs.declared.Refusal.{Refusal}
 use Rattle.frame_times.specs.Frames.{Frame}
-use Rattle.frame_times.specs.Times.{Outcome, placed, shown, of_kept, of_edit, of_offsets, of_durations}
+use Rattle.frame_times.specs.Times.{Outcome, placed, shown, of_kept, Track, times_in, outcome_of}
+use Rattle.frame_times.proofs.Steps.{by-needed, by-test}
 use Rattle.stops.proofs.Answers.{Told}
 
 -- an outcome that isn't 36
@@ -32,20 +34,12 @@ unfolding of_kept shown
 plain-kept scale nominal e [] = λ e. grind arith
 plain-kept scale nominal e (f ∷ fs) = either Plain (le_z nominal (pos 0)) (λ t e. grind arith) (λ t. plain-placed scale nominal _ _)
 
--- from the edit list on, the ctts, and the stts
-plain-edit : (e : Option Edit) (scale : ℕ) (ds : List ℕ) (os : List ℤ) → Plain (of_edit e scale ds os)
-plain-edit None scale ds os = λ e. grind arith
-plain-edit (Some e) scale ds os = plain-kept scale _ e _
-
-plain-offsets : (standard : Bool) (r : Option ℕ) (ctts edts : List ℕ) (scale movie : ℕ) (ds : List ℕ)
-    → Plain (of_offsets standard r ctts edts scale movie ds)
-plain-offsets standard None ctts edts scale movie ds = λ e. grind arith
-plain-offsets standard (Some n) ctts edts scale movie ds = plain-edit (edit_of edts scale movie) scale ds (offsets standard n ctts)
-
-pub plain-durations : (standard : Bool) (r : Option ℕ) (bytes room movie scale : ℕ) (edts ctts stts : List ℕ)
-    → Plain (of_durations standard r bytes room movie scale edts ctts stts)
-plain-durations standard None bytes room movie scale edts ctts stts = λ e. grind arith
-plain-durations standard (Some n) bytes room movie scale edts ctts stts =
-    either Plain (ltb bytes (entry_total (entries_of n stts))) (λ t e. grind arith)
-    (λ t. either Plain (ltb room (entry_total (entries_of n stts))) (λ t e. grind arith)
-    (λ t. plain-offsets standard (optional_entries ctts) ctts edts scale movie (durations n stts)))
+-- from the track on
+pub plain-times : (standard : Bool) (room : ℕ) (t : Track) → Plain (outcome_of (times_in standard room t))
+plain-times standard room t =
+    let P : Result Outcome Refusal → Type 0 = λ r. Plain (outcome_of r) in
+    by-needed P (table_entries t.stts) (λ e. grind arith)
+    (λ n. by-test P (ltb t.most_frames (entry_total (entries_of n t.stts))) reason.Missing (λ e. grind arith)
+    (by-test P (ltb room (entry_total (entries_of n t.stts))) reason.NoRoom (λ e. grind arith)
+    (by-needed P (optional_entries t.ctts) (λ e. grind arith)
+    (λ m. by-needed P (edit_of t.edts t.scale t.movie) (λ e. grind arith) (λ e. plain-kept t.scale _ e _)))))

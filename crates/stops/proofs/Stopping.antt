@@ -27,7 +27,6 @@ use Rattle.stops.proofs.Descent.{moov-told}
 
 -- `child`
 child-told : (b : List ℕ) (kind : ℕ) → Told reason.Broken (StopsAt false b) (child_place b kind)
-unfolding child_place
 child-told b kind =
     either (Told reason.Broken (StopsAt false b)) (ltb most_bytes (length b)) (λ t n. absurd (grind arith))
     (λ t. place-told (StopsAt false b) (first_of kind (boxes_of b)) (λ at e. stopped-at-bad false (λ k start len. eqb k kind) b e))
@@ -37,7 +36,6 @@ abbrev AllWalked : List ℕ → Bool → Type 0
 AllWalked s text = ending (searched text (boxes_of s)) ≡ End
 
 child-ended : (b : List ℕ) (kind : ℕ) → Told reason.Missing (λ i. AllWalked b false) (child_place b kind)
-unfolding child_place
 child-ended b kind =
     either (Told reason.Missing (λ i. AllWalked b false)) (ltb most_bytes (length b)) (λ t n. absurd (grind arith))
     (λ t. place-ended (AllWalked b false) (first_of kind (boxes_of b)) (walk_ends false (λ k start len. eqb k kind) b))
@@ -86,7 +84,6 @@ module _ (b : List ℕ) (at : ℕ) where
   reached-told (Whole found) e l = tt
 
   children-told : Told reason.Broken BrokenThere (children_at b at)
-  unfolding children_at
   children-told =
       either (Told reason.Broken BrokenThere) (ltb most_bytes (length b)) (λ t n. absurd (grind arith))
       (λ t. either (Told reason.Broken BrokenThere) (ltb (length b) at) (λ u n. absurd (grind arith))

@@ -6,7 +6,6 @@ use Rattle.std.specs.Prelude.{ℕ, ◌+◌, ◌-◌, ◌≤◌, Bool, true, fals
 use Rattle.slices.specs.Slices.{laid}
 use Rattle.boxes.specs.Bytes.{be32_at, mdia}
 use Rattle.boxes.specs.Boxes.{Boxes, clean, bad, box, header_at, boxes_of, is_text, searched, first_of}
-use Rattle.boxes.specs.Places.{bytes_at}
 use Rattle.boxes.specs.Tracks.{video_track}
 use Rattle.boxes.specs.declared.Header.TheVariants.{Bad}
 use Rattle.boxes.specs.declared.Place.{Place}
@@ -17,7 +16,7 @@ use Rattle.refusal.specs.Refusals.{refused}
 use Rattle.boxes.specs.declared.Walk.{Walk}
 use Rattle.boxes.specs.declared.Walk.TheVariants.{Found, End, Bad as BadAt}
 use Rattle.ticks.specs.declared.FrameTimes.{FrameTimes}
-use Rattle.frame_times.specs.Times.{mvhd, mdhd, minf, stbl, stts, room}
+use Rattle.frame_times.specs.Times.{Part, whole_part, inner_part, mvhd, mdhd, minf, stbl, stts, room}
 use Rattle.stops.specs.Undivided.{taken_back, child_undivided, find_box_undivided, children_undivided, times_undivided}
 
 -- how some boxes end
@@ -37,17 +36,6 @@ Broken text bytes at =
 pub record StopsAt (text : Bool) (bytes : List ℕ) (at : ℕ) : Type 0 where
   pub comes : ending (searched text (boxes_of bytes)) ≡ BadAt at
   pub broken : Broken text bytes at
-
--- a part of a moov, and where it starts there
-pub record Part : Type 0 where
-  pub base : ℕ
-  pub bytes : List ℕ
-
-abbrev pub whole_part : List ℕ → Part
-whole_part moov = record { base = 0; bytes = moov }
-
-abbrev pub inner_part : Part → Place → Part
-inner_part part place = record { base = part.base + place.start; bytes = bytes_at part.bytes place }
 
 -- a search for a box that has to be there: the part of the moov that is walked over, and how the walk for the box ends
 pub record Search : Type 0 where

@@ -1,23 +1,20 @@
 -- The undivided answers, in which 31 stands for both 31 and 36 (RULES 7.6): however a walk ends without a box that has
 -- to be there. And 36 taken back to 31. Frame times have `standard` as in frame_times/specs/Times.antt.
-use Rattle.std.specs.Prelude.{ℕ, ◌-◌, Bool, ◌||◌, List, length, if◌then◌else◌, unwrap_or, Result, Ok, Err, ◌==◌, nat_lt}
+use Rattle.std.specs.Prelude.{ℕ, ◌-◌, Bool, List, length, if◌then◌else◌, Result, Ok, Err, nat_lt}
 use Rattle.std.specs.Option.{ok_or}
 use Rattle.refusal.specs.declared.Reason.{Reason}
 use Rattle.refusal.specs.declared.Reason.TheVariants as reason
 use Rattle.refusal.specs.declared.Refusal.{Refusal}
 use Rattle.refusal.specs.Refusals.{refusal_at, refused}
-use Rattle.boxes.specs.Bytes.{mdia}
 use Rattle.boxes.specs.Boxes.{most_bytes, header_at, boxes_of, searched, place, first_of}
-use Rattle.boxes.specs.Places.{found_place, bytes_at, in_part, child_of}
-use Rattle.boxes.specs.Tracks.{video_track}
+use Rattle.boxes.specs.Places.{found_place, in_part}
 use Rattle.boxes.specs.declared.Header.{Header}
 use Rattle.boxes.specs.declared.Header.TheVariants.{Whole, Short, Bad}
 use Rattle.boxes.specs.declared.Place.{Place}
 use Rattle.boxes.specs.declared.BoxAt.{BoxAt}
 use Rattle.boxes.specs.declared.Walk.{Walk}
 use Rattle.boxes.specs.declared.Walk.TheVariants.{Found, End, Bad as BadAt}
-use Rattle.tracks.specs.Tables.{timescale, table_entries}
-use Rattle.frame_times.specs.Times.{Outcome, mvhd, mdhd, minf, stbl, stts, ctts, edts, no_times, of_durations}
+use Rattle.frame_times.specs.Times.{Outcome, ◌>>=◌, Part, inner_part, track_by, times_in, outcome_of}
 
 -- a refusal with 36 taken back to 31, whose index is 0
 abbrev pub undivided : Reason → ℕ → Refusal
@@ -58,43 +55,11 @@ children_undivided payload at =
     else if nat_lt (length payload) at then refused reason.BadSearch 0
     else reached_undivided (header_at payload at)
 
--- frame times: a box that has to be there goes on with its payload; without it there are no times
-abbrev pub required_undivided : Walk → List ℕ → (List ℕ → Outcome) → Outcome
-required_undivided (Found place) bytes next = next (bytes_at bytes place)
-required_undivided End bytes next = no_times reason.Missing
-required_undivided (BadAt at) bytes next = no_times reason.Missing
-
-abbrev pub in_child_undivided : ℕ → List ℕ → (List ℕ → Outcome) → Outcome
-in_child_undivided kind bytes next = required_undivided (first_of kind (boxes_of bytes)) bytes next
-
--- a timescale; 0 where it isn't whole
-abbrev pub scale_of : List ℕ → ℕ
-scale_of payload = unwrap_or (timescale payload) 0
-
-unfoldable pub tables_undivided : Bool → ℕ → ℕ → ℕ → ℕ → List ℕ → List ℕ → Outcome
-tables_undivided standard bytes room movie scale edts tables =
-    in_child_undivided stts tables
-    (λ payload.
-    of_durations standard (table_entries payload) bytes room movie scale edts (child_of ctts tables) payload)
-
-abbrev pub scale_undivided : Bool → ℕ → ℕ → ℕ → ℕ → List ℕ → List ℕ → Outcome
-scale_undivided standard bytes room movie scale edts media =
-    if scale == 0 || movie == 0 then no_times reason.Missing
-    else in_child_undivided minf media
-    (λ inner. in_child_undivided stbl inner (tables_undivided standard bytes room movie scale edts))
-
-unfoldable pub media_undivided : Bool → ℕ → ℕ → ℕ → List ℕ → List ℕ → Outcome
-media_undivided standard bytes room movie edts media =
-    in_child_undivided mdhd media
-    (λ payload. scale_undivided standard bytes room movie (scale_of payload) edts media)
-
-unfoldable pub track_undivided : Bool → ℕ → ℕ → ℕ → List ℕ → Outcome
-track_undivided standard bytes room movie track =
-    in_child_undivided mdia track (media_undivided standard bytes room movie (child_of edts track))
+-- frame times: the payload of a box that has to be there; missing, however the walk for it ends
+abbrev pub found_undivided : Part → Walk → Result Part Refusal
+found_undivided part (Found place) = Ok (inner_part part place)
+found_undivided part End = refused reason.Missing 0
+found_undivided part (BadAt at) = refused reason.Missing 0
 
 unfoldable pub times_undivided : Bool → List ℕ → ℕ → Outcome
-times_undivided standard moov room =
-    if nat_lt most_bytes (length moov) then no_times reason.TooLong
-    else in_child_undivided mvhd moov
-    (λ payload.
-    required_undivided (video_track moov) moov (track_undivided standard (length moov) room (scale_of payload)))
+times_undivided standard moov room = outcome_of (track_by found_undivided moov >>= times_in standard room)

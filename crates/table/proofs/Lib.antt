@@ -1,3 +1,4 @@
 pub mod Lent
+pub mod Known
 pub mod Checks
 pub mod Lengths

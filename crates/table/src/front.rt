@@ -1,4 +1,5 @@
-// 1 to 8: a table's flags and kinds, its sources, and its limits.
+// What refuses a table before its segments are walked: its flags and kinds, its sources, and its
+// limits (1 to 8 of RULES 3).
 ghost use Rattle.std.specs.Prelude.{◌≡◌, true, false, ◌<◌, length};
 ghost use Rattle.std.specs.List.{list_any};
 ghost use Rattle.refusal.specs.Refusals.{first_refused};
@@ -12,31 +13,24 @@ use crate::layout::Segments;
 use refusal::{Reason, Refusal};
 
 impl<'a, S: Segments> SegmentTable<'a, S> {
-    // 1, of source k.
-    #[tactic(auto, unfolding(rules::specs::Rules::bad_source))]
+    // Whether a flag or the kind of source k is outside its set, or its creation time's range
+    // leaves the text (1).
     fn is_bad(&self, k: usize) -> bool
         requires { k < length self.now.sources }
         ensures { result ≡ bad_source (length self.now.text) (source self.now k) }
     {
-        let source = self.source(k);
-        rules::bad_words(
-            self.text.len() as u64,
-            source.dated,
-            source.from,
-            source.size,
-            source.kind,
-        )
+        self.source(k).is_bad(self.text.len() as u64)
     }
 
-    // 4 to 7 of source k.
+    // What refuses source k for a 0, its creation time or its clock (4 to 7).
     fn source_refusal(&self, k: usize) -> Result<(), Reason>
         requires { k < length self.now.sources }
         ensures { result ≡ source_refusal self.now.log self.now.text (source self.now k) }
     {
-        rules::source_refusal(self.log, self.text, self.source(k))
+        self.source(k).refusal(self.log, self.text)
     }
 
-    // A yes says that neither 1 nor any of 4 to 7 refuses source k.
+    // A yes says that nothing refuses source k.
     #[inline(never)]
     fn is_fine_whole(&self, k: usize) -> bool
         requires { k < length self.now.sources }
@@ -69,7 +63,7 @@ impl<'a, S: Segments> SegmentTable<'a, S> {
         source.denominator != 0
     }
 
-    // 1, of all sources.
+    // Whether a flag, a kind or a range of any source refuses the table (1).
     #[tactic(auto, using(crate::proofs::Checks::loops))]
     fn has_bad_source(&self) -> bool
         ensures { result ≡ list_any (bad_source (length self.now.text)) self.now.sources }
@@ -83,7 +77,7 @@ impl<'a, S: Segments> SegmentTable<'a, S> {
         false
     }
 
-    // 1, of all segments.
+    // Whether the flag of any segment is outside its set (1).
     #[tactic(auto, using(crate::proofs::Checks::loops), unfolding(rules::specs::Rules::bad_segment))]
     pub(crate) fn has_bad_flag(&self) -> bool
         requires { self.now.uneven ≡ false }
@@ -98,7 +92,7 @@ impl<'a, S: Segments> SegmentTable<'a, S> {
         false
     }
 
-    // 1, of lengths that fit.
+    // Whether either holds: malformed (1), of lengths that fit.
     #[tactic(auto, unfolding(rules::specs::Rules::malformed))]
     fn is_malformed(&self) -> bool
         requires { self.now.uneven ≡ false }
@@ -107,7 +101,7 @@ impl<'a, S: Segments> SegmentTable<'a, S> {
         self.has_bad_source() | self.has_bad_flag()
     }
 
-    // 4 to 7, source by source.
+    // What refuses the first source that isn't fine (4 to 7).
     #[tactic(auto, using(crate::proofs::Checks::loops))]
     fn first_refused_source(&self) -> Result<(), Refusal>
         ensures { result
@@ -122,7 +116,7 @@ impl<'a, S: Segments> SegmentTable<'a, S> {
         Ok(())
     }
 
-    // The same of all sources.
+    // A yes says that nothing refuses any source.
     #[tactic(auto, using(crate::proofs::Checks::loops))]
     fn has_fine_sources(&self) -> bool
         ensures { result ≡ true → FineSources self.now }
@@ -136,8 +130,8 @@ impl<'a, S: Segments> SegmentTable<'a, S> {
         true
     }
 
-    // A yes says that none of 2 to 8 refuses, nor 1 of sources. After a no they are tested in
-    // order.
+    // A yes says that neither the limits nor the sources refuse the table, and that there are
+    // sources and segments (1 of sources, 2 to 8). After a no they are tested in order.
     pub(crate) fn has_fine_front(&self) -> bool
         ensures { result ≡ true → FineFront self.now }
     {
@@ -152,7 +146,7 @@ impl<'a, S: Segments> SegmentTable<'a, S> {
         self.has_fine_sources()
     }
 
-    // 1 to 8, of lengths that fit.
+    // Whatever refuses the table before its segments (1 to 8), in order, of lengths that fit.
     #[tactic(auto, unfolding(rules::specs::Rules::front_refusal))]
     fn front_refusal(&self) -> Result<(), Refusal>
         requires { self.now.uneven ≡ false }
@@ -176,7 +170,8 @@ impl<'a, S: Segments> SegmentTable<'a, S> {
         Ok(())
     }
 
-    // Checks a table that one of 1 to 8 may refuse: by these in their order, then its segments.
+    // Checks a table that something before its segments may refuse: by that in order (1 to 8), then
+    // its segments.
     #[cold]
     #[inline(never)]
     #[tactic(auto, using(crate::proofs::Checks::checks))]

@@ -1,4 +1,4 @@
-// How a table's segments are lent: what a layout owes, and the layout as rows of words.
+//! How a table's segments are lent: what a layout owes, and the layout as rows of words.
 
 ghost use Rattle.std.specs.Prelude.{◌≡◌, false, Bool, List, ◌+◌, ◌*◌, ◌≤◌, ◌<◌, length, get_or};
 ghost use Rattle.rules.specs.declared.Segment.{Segment};
@@ -7,36 +7,42 @@ ghost use Rattle.table.specs.Layout.{segment_words, segment_stamps, words_at, st
 
 use rules::{Segment, Stamps, Words};
 
-// How many unsigned words a segment has, and how many signed ones: RULES 1.3.
+/// How many unsigned words a segment has (RULES 1.3).
 pub const WORDS: usize = 5;
 
+/// How many signed words a segment has (RULES 1.3).
 pub const STAMPS: usize = 7;
 
-// Segments, however they are lent. A layout is a view of lent slices.
+/// Segments, however they are lent. A layout is a view of lent slices.
 pub trait Segments: Copy {
-    // Whether the lent slices' lengths are no whole number of segments, or disagree; then nothing
-    // is read of them.
+    // Whether the lengths are uneven, and the segments; where they are, `count` alone is held to
+    // the list.
     ghost uneven: { Self → Bool };
 
-    // The segments; where lengths don't fit, `count` alone is held to them.
     ghost listed: { Self → List Segment };
 
+    /// Whether the lent slices' lengths are no whole number of segments, or disagree; then nothing
+    /// is read of them.
     fn is_uneven(&self) -> bool
         ensures { result ≡ uneven self.now };
 
+    /// How many segments there are.
     fn count(&self) -> usize
         ensures { result ≡ length (listed self.now) };
 
+    /// Segment k, of lengths that fit.
     fn segment(&self, k: usize) -> Segment
         requires even { uneven self.now ≡ false }
         requires inside { k < length (listed self.now) }
         ensures { result ≡ get_or (listed self.now) k no_segment };
 }
 
-// Rows of words: five unsigned words a segment in one slice, seven signed ones in the other.
+/// Rows of words: five unsigned words a segment in one slice, seven signed ones in the other.
 #[derive(Clone, Copy)]
 pub struct Rows<'a> {
+    /// Source, source first, frame count, out first, whether there is a shift: of each segment.
     pub words: &'a [u64],
+    /// Its six times in microseconds, and its shift.
     pub stamps: &'a [i64],
 }
 

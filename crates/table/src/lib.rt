@@ -1,8 +1,8 @@
-// A table as it is lent, RULES 1.4, and its check: once for every layout of its segments. The
-// Rust's `SegmentTable`.
+//! A table as it is lent, RULES 1.4, and its check: once for every layout of its segments. The
+//! Rust's `SegmentTable`.
 #![tactic(auto)]
 
-ghost use Rattle.std.specs.Prelude.{◌≡◌, false, ◌<◌, length};
+ghost use Rattle.std.specs.Prelude.{◌≡◌, false, ◌<◌, length, Ok, Err, MatchResult};
 ghost use Rattle.rules.specs.Records.{Table, source, segment};
 ghost use Rattle.rules.specs.Rules.{check_of};
 ghost use Rattle.table.specs.Layout.{table_with, table_of};
@@ -20,15 +20,17 @@ use sources::Sources;
 use std::marker::Model;
 use walk::Walked;
 
-// A table as it is lent. In a contract it is the records that it holds, whatever the layout of its
-// segments.
+/// A table as it is lent (RULES 1.4). In a contract it is the records that it holds, whatever the
+/// layout of its segments.
 #[derive(Drop)]
 pub struct SegmentTable<'a, S: Segments> {
+    /// Its sources, ten words each.
     pub sources: Sources<'a>,
+    /// Its segments, in a layout.
     pub segments: S,
-    // The bytes of its creation times.
+    /// The bytes of its creation times.
     pub text: &'a [u8],
-    // Whether it names a telemetry log.
+    /// Whether it names a telemetry log.
     pub log: bool,
 }
 
@@ -39,7 +41,17 @@ impl<'a, S: Segments> Model for SegmentTable<'a, S> {
         (S.listed table.segments) table.log table.text.now };
 }
 
-// What is a table in contracts. Crates above add methods by traits over this one.
+/// A table that its check accepts: what is asked of it checks nothing again.
+#[derive(Drop)]
+pub struct Accepted<'t, 'a, S: Segments> {
+    /// The table.
+    pub table: &'t SegmentTable<'a, S>,
+    /// How many frames it has: where the frames of its last segment end.
+    pub frames: u64,
+    ghost checked: { check_of table.now ≡ Ok frames },
+}
+
+/// What is a table in contracts. Crates above add methods by traits over this one.
 pub trait Tabled {
     // The table that it is.
     ghost table: { Self → Table };
@@ -49,8 +61,13 @@ impl<S: Segments> Tabled for SegmentTable<'_, S> {
     ghost table = { λ table. table };
 }
 
+impl<S: Segments> Tabled for Accepted<'_, '_, S> {
+    ghost table = { λ accepted. accepted.table.now };
+}
+
 impl<'a> SegmentTable<'a, Rows<'a>> {
-    // A table whose segments are lent as words, five unsigned ones and seven signed ones each.
+    /// The table whose segments are lent as words, five unsigned ones and seven signed ones each
+    /// (RULES 1.3). Nothing is tested yet.
     #[inline(always)]
     #[tactic(auto, unfolding(crate::specs::Layout::table_of))]
     pub fn of_words(
@@ -72,7 +89,7 @@ impl<'a> SegmentTable<'a, Rows<'a>> {
 }
 
 impl<'a, S: Segments> SegmentTable<'a, S> {
-    // Whether the lent lengths don't fit. Nothing is read of such a table.
+    /// Whether the lent lengths don't fit (`Malformed`, 1). Nothing is read of such a table.
     #[inline(always)]
     pub fn is_uneven(&self) -> bool
         ensures { result ≡ self.now.uneven }
@@ -80,7 +97,7 @@ impl<'a, S: Segments> SegmentTable<'a, S> {
         self.sources.is_uneven() | self.segments.is_uneven()
     }
 
-    // How many sources it has, and source k.
+    /// How many sources it has.
     #[inline(always)]
     pub fn source_count(&self) -> usize
         ensures { result ≡ length self.now.sources }
@@ -88,6 +105,7 @@ impl<'a, S: Segments> SegmentTable<'a, S> {
         self.sources.count()
     }
 
+    /// Source k.
     #[inline(always)]
     pub fn source(&self, k: usize) -> Source
         requires { k < length self.now.sources }
@@ -96,7 +114,7 @@ impl<'a, S: Segments> SegmentTable<'a, S> {
         self.sources.source(k)
     }
 
-    // How many segments it has, and segment k.
+    /// How many segments it has.
     #[inline(always)]
     pub fn segment_count(&self) -> usize
         ensures { result ≡ length self.now.segments }
@@ -104,6 +122,7 @@ impl<'a, S: Segments> SegmentTable<'a, S> {
         self.segments.count()
     }
 
+    /// Segment k, of lengths that fit.
     #[inline(always)]
     pub fn segment(&self, k: usize) -> Segment
         requires even { self.now.uneven ≡ false }
@@ -113,8 +132,9 @@ impl<'a, S: Segments> SegmentTable<'a, S> {
         self.segments.segment(k)
     }
 
-    // Checks the table: its frame total, or why it is refused, RULES 3. Most tables are accepted:
-    // that is asked first. The Rust's `check`.
+    /// Its frame total, or why it is refused: by one of `Malformed` (1) to `BadShift` (17), in the
+    /// order of RULES 3.1. The Rust's `check`.
+    // Most tables are accepted: that is asked first.
     #[inline(always)]
     #[tactic(auto, unfolding(crate::specs::FirstWalk::FirstWalk))]
     pub fn check(&self) -> Result<u64, Refusal>
@@ -126,9 +146,46 @@ impl<'a, S: Segments> SegmentTable<'a, S> {
             Walked::InOrder => self.check_in_order(),
         }
     }
+
+    /// The table as one that is accepted, or why it is refused: the check, of which the answer is
+    /// kept.
+    #[inline(always)]
+    pub fn accepted(&self) -> Result<Accepted<'_, 'a, S>, Refusal>
+        ensures { MatchResult result
+            (λ accepted. (accepted.table.now ≡ self.now) × (check_of self.now ≡ Ok accepted.frames))
+            (λ why. check_of self.now ≡ Err why) }
+    {
+        let frames = self.check()?;
+        Ok(Accepted {
+            table: self,
+            frames,
+        })
+    }
 }
 
-// The check of a table that is lent as words.
+#[tactic(auto, using(crate::proofs::Known::even, crate::proofs::Known::some))]
+impl<'t, 'a, S: Segments> Accepted<'t, 'a, S> {
+    /// How many segments it has: at least one.
+    #[inline(always)]
+    pub fn segment_count(&self) -> usize
+        ensures is { result ≡ length self.now.table.now.segments }
+        ensures some { 0 < result }
+    {
+        self.table.segment_count()
+    }
+
+    /// Segment k.
+    #[inline(always)]
+    pub fn segment(&self, k: usize) -> Segment
+        requires { k < length self.now.table.now.segments }
+        ensures { result ≡ segment self.now.table.now k }
+    {
+        self.table.segment(k)
+    }
+}
+
+/// The check of a table that is lent as words: ten a source, five unsigned and seven signed ones a
+/// segment, the bytes of the creation times. Refuses as `SegmentTable::check`.
 #[inline(always)]
 pub fn check(
     sources: &[u64],
@@ -142,7 +199,7 @@ pub fn check(
     SegmentTable::of_words(sources, words, stamps, log, text).check()
 }
 
-// The definitions give the numbers of specs/Examples.antt.
+/// The definitions give the numbers of specs/Examples.antt.
 pub fn worked_examples_hold()
     ensures { WorkedExamples }
 {}

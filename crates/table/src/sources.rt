@@ -1,4 +1,4 @@
-// How a table's sources are lent: ten words each, RULES 1.2, one after another.
+//! How a table's sources are lent: ten words each, RULES 1.2, one after another.
 
 ghost use Rattle.std.specs.Prelude.{◌≡◌, ◌+◌, ◌*◌, ◌≤◌, ◌<◌, length, get_or};
 ghost use Rattle.rules.specs.Records.{no_source};
@@ -9,8 +9,10 @@ use rules::Source;
 // How many words a source has.
 const SOURCE_WORDS: usize = 10;
 
+/// Sources as words, ten each (RULES 1.2).
 #[derive(Clone, Copy)]
 pub struct Sources<'a> {
+    /// The words of all.
     pub words: &'a [u64],
 }
 
@@ -36,21 +38,21 @@ fn source_at(sources: &[u64], k: usize) -> Source
 
 #[tactic(auto, using(crate::proofs::Lent::sources_length, crate::proofs::Lent::sources_get))]
 impl Sources<'_> {
-    // Whether the words are no whole number of sources.
+    /// Whether the words are no whole number of sources.
     pub fn is_uneven(&self) -> bool
         ensures { result ≡ uneven_sources (length self.now.words.now) }
     {
         self.count() * SOURCE_WORDS != self.words.len()
     }
 
-    // How many there are.
+    /// How many there are.
     pub fn count(&self) -> usize
         ensures { result ≡ length (sources_of self.now.words.now) }
     {
         self.words.len() / SOURCE_WORDS
     }
 
-    // Source k.
+    /// Source k.
     pub fn source(&self, k: usize) -> Source
         requires { k < length (sources_of self.now.words.now) }
         ensures { result ≡ get_or (sources_of self.now.words.now) k no_source }

@@ -1,4 +1,4 @@
-// 9 to 17: a table's segments, one after another.
+// A table's segments, one after another: what refuses one of them (9 to 17 of RULES 3.4).
 ghost use Rattle.std.specs.Prelude.{◌≡◌, false, ℕ, ◌<◌, length};
 ghost use Rattle.rules.specs.Records.{segment};
 ghost use Rattle.rules.specs.Walks.{turn_of, PassingOf, EndFits, end_before};
@@ -11,7 +11,7 @@ use refusal::{Reason, Refusal};
 use rules::{Ends, Segment};
 
 // What a walk finds that asks only whether nothing refuses: the table's frames; the first segment
-// that is refused; or that something before the segments may be, so that 1 to 8 are tested in their
+// that is refused; or that something before the segments may refuse it, which is then tested in
 // order.
 pub(crate) enum Walked {
     Frames(u64),
@@ -20,7 +20,7 @@ pub(crate) enum Walked {
 }
 
 impl<'a, S: Segments> SegmentTable<'a, S> {
-    // 9 to 17 of a segment, after one that ends at `previous`, and where it ends.
+    // Where a segment ends, after one that ends at `previous`, or what refuses it (9 to 17).
     #[tactic(auto, using(crate::proofs::Checks::turns))]
     fn turn_of(&self, previous: Ends, segment: Segment) -> Result<Ends, Reason>
         ensures { result ≡ turn_of self.now.sources previous segment }
@@ -37,8 +37,8 @@ impl<'a, S: Segments> SegmentTable<'a, S> {
         )
     }
 
-    // Passes a segment, after one that ends at `previous`: where it ends, or no end where 1 or one
-    // of 9 to 17 refuses it.
+    // Passes a segment, after one that ends at `previous`: where it ends, or no end where its flag
+    // (1) or anything else (9 to 17) refuses it.
     fn pass(&self, previous: Ends, segment: Segment) -> Ends
         ensures { PassingOf self.now.sources previous segment result }
     {
@@ -49,8 +49,8 @@ impl<'a, S: Segments> SegmentTable<'a, S> {
         rules::pass(self.source(from), previous, segment)
     }
 
-    // The frames of segments that all pass, or the first that 1 or one of 9 to 17 refuses. Which
-    // one does isn't asked, so that few tests are needed: most tables are accepted.
+    // The frames of segments that all pass, or the first that is refused. For which reason isn't
+    // asked, so that few tests are needed: most tables are accepted.
     #[inline(always)]
     fn walk(&self) -> Result<u64, usize>
         requires { self.now.uneven ≡ false }
@@ -87,7 +87,7 @@ impl<'a, S: Segments> SegmentTable<'a, S> {
         }
     }
 
-    // Checks the segments of a table that none of 1 to 8 refuses, but for 1 of segments.
+    // Checks the segments of a table that nothing else refuses (2 to 8, and 1 of its sources).
     #[tactic(auto, using(crate::proofs::Checks::checks), unfolding(crate::specs::FirstWalk::Passed))]
     pub(crate) fn check_segments(&self) -> Result<u64, Refusal>
         requires even { self.now.uneven ≡ false }
@@ -114,8 +114,8 @@ impl<'a, S: Segments> SegmentTable<'a, S> {
         rules::end_of(self.segment(k - 1))
     }
 
-    // Refuses a table whose walk stopped at segment k: by 1, of any segment, or by what refuses
-    // that one, since nothing refuses those before it.
+    // Refuses a table whose walk stopped at segment k: by the flag of any segment (1), or by what
+    // refuses that one, since nothing refuses those before it.
     #[cold]
     #[inline(never)]
     #[tactic(auto, using(crate::proofs::Checks::stops))]

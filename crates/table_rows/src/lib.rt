@@ -1,5 +1,5 @@
-// The rows of an accepted table, which are its map (RULES 4.6): as a method of a table in any
-// layout, and as a call on words.
+//! The rows of an accepted table, which are its map (RULES 4.6): as a method of a table in any
+//! layout, and as a call on words.
 #![tactic(auto)]
 
 ghost use Rattle.std.specs.Prelude.{◌≡◌, false, map, ◌*◌, ◌≤◌, length, pos, ◌==◌, if◌then◌else◌};
@@ -15,7 +15,7 @@ use refusal::{Reason, Refusal};
 use rows::{ROW_WORDS, Row};
 use rules::Segment;
 use table::layout::{Rows, Segments};
-use table::{SegmentTable, Tabled};
+use table::{Accepted, SegmentTable, Tabled};
 
 // The shift of a row: an absent one is 0.
 #[tactic(auto)]
@@ -44,8 +44,9 @@ fn row_of(segment: Segment) -> Row
     }
 }
 
-// How a layout writes the words of its segments' rows: row by row, unless it has them as they are.
+/// How a layout writes the words of its segments' rows: row by row, unless it has them as they are.
 pub trait RowWords: Segments {
+    /// Writes five words a segment, where there is room for so many.
     #[tactic(auto, using(crate::proofs::Written::writes))]
     fn write_words(&self, out: &mut [u64])
         requires even { Self.uneven self.now ≡ false }
@@ -69,45 +70,55 @@ impl RowWords for Rows<'_> {
 
 // The shifts of the rows.
 #[tactic(auto, using(crate::proofs::Written::writes))]
-fn write_shifts<S: Segments>(table: &SegmentTable<'_, S>, out: &mut [i64])
-    requires even { table.now.uneven ≡ false }
-    requires room { length table.now.segments ≤ length out.old }
-    ensures { out.new ≡ laid (shifts_of (map row_of table.now.segments)) out.old }
+fn write_shifts<S: Segments>(accepted: &Accepted<'_, '_, S>, out: &mut [i64])
+    requires { length accepted.now.table.now.segments ≤ length out.old }
+    ensures { out.new ≡ laid (shifts_of (map row_of accepted.now.table.now.segments)) out.old }
 {
-    let n = table.segment_count();
+    let n = accepted.segment_count();
     for k in 0..n {
-        out[k] = row_of(table.segment(k)).shift;
+        out[k] = row_of(accepted.segment(k)).shift;
     }
 }
 
-// What is written of a table.
+/// What is written of a table: of one that is checked first, or of an accepted one, of which
+/// nothing is checked again.
 pub trait TableRows: Tabled {
-    // The rows of an accepted table, one a segment, into lent room: five words and a shift a row.
-    // Answers how many there are.
+    /// The rows of an accepted table, one a segment, into lent room: five words and a shift a row
+    /// (too little: `NoRoom`, 32). Answers how many there are (RULES 4.6).
     fn rows_of_table(&self, out_words: &mut [u64], out_shifts: &mut [i64]) -> Result<usize, Refusal>
         ensures { Rowed (Self.table self.now)
             out_words.old out_shifts.old result out_words.new out_shifts.new };
 }
 
 #[tactic(auto, using(rules::proofs::Accepted::accepted))]
+impl<S: RowWords> TableRows for Accepted<'_, '_, S> {
+    fn rows_of_table(
+        &self,
+        out_words: &mut [u64],
+        out_shifts: &mut [i64],
+    ) -> Result<usize, Refusal> {
+        let table = self.table;
+        let n = table.segment_count();
+        if (out_words.len() < ROW_WORDS * n) | (out_shifts.len() < n) {
+            return Err(Reason::NoRoom.at(0));
+        }
+        write_shifts(self, out_shifts);
+        table.segments.write_words(out_words);
+        Ok(n)
+    }
+}
+
 impl<S: RowWords> TableRows for SegmentTable<'_, S> {
     fn rows_of_table(
         &self,
         out_words: &mut [u64],
         out_shifts: &mut [i64],
     ) -> Result<usize, Refusal> {
-        self.check()?;
-        let n = self.segment_count();
-        if (out_words.len() < ROW_WORDS * n) | (out_shifts.len() < n) {
-            return Err(Reason::NoRoom.at(0));
-        }
-        write_shifts(self, out_shifts);
-        self.segments.write_words(out_words);
-        Ok(n)
+        self.accepted()?.rows_of_table(out_words, out_shifts)
     }
 }
 
-// The same of a table that is lent as words.
+/// The same of a table that is lent as words.
 pub fn rows_of_table(
     sources: &[u64],
     words: &[u64],
@@ -123,12 +134,12 @@ pub fn rows_of_table(
     SegmentTable::of_words(sources, words, stamps, log, text).rows_of_table(out_words, out_shifts)
 }
 
-// The rows of an accepted table are a map of its frames.
+/// The rows of an accepted table are a map of its frames.
 pub fn accepted_rows_are_a_map()
     ensures { (table : Table) → RowsAreMap table }
 {}
 
-// The definitions give the numbers of specs/Examples.antt.
+/// The definitions give the numbers of specs/Examples.antt.
 #[tactic(auto, unfolding(crate::specs::Rows::rows_of, crate::specs::Rows::row_of, table::specs::Layout::table_of, table::specs::Layout::segments_of))]
 pub fn worked_examples_hold()
     ensures { WorkedExamples }

@@ -1,5 +1,5 @@
-// Time of a frame: ticks in microseconds, what is near the end of a video, an edit's time in media
-// ticks.
+//! Time of a frame: ticks in microseconds (RULES 5.2), what is near the end of a video (RULES 5.3),
+//! an edit's time in media ticks (RULES 8.5).
 #![tactic(auto)]
 
 ghost use Rattle.std.specs.Prelude.{◌≡◌, ◌+◌, ◌-◌, ◌^◌, ◌≤◌, ◌<◌, pos, ◌+ℤ◌, ◌*ℤ◌, nat_le, unsigned_abs};
@@ -12,19 +12,22 @@ ghost use Rattle.ticks.specs.Examples.{WorkedExamples};
 use refusal::{Reason, Refusal};
 use wide::{Big, Wide};
 
-// The largest scale.
+/// The largest scale, in ticks a second; a larger one is refused with 20, `TooLarge` (RULES 11).
 pub const LARGEST_SCALE: u64 = 4_294_967_295;
 
 // The most ticks whose product with 1,000,000 fits 63 bits with its sign.
 const SMALL_TICKS: u64 = 4_611_686_018_427;
 
-// The frame times of a video or a recording, beside the starts: how many frames, the ticks a
-// second, how long a frame is as a rule, and where the last one ends.
+/// The frame times of a video or a recording, beside its starts: RULES 8 and 9.
 #[derive(Clone, Copy)]
 pub struct FrameTimes {
+    /// How many frames there are, each with its start.
     pub frames: usize,
+    /// The ticks a second in which the starts, the nominal duration and the end are.
     pub scale: u64,
+    /// How long a frame is as a rule, in ticks.
     pub nominal: i64,
+    /// Where the last frame ends, in ticks.
     pub end: i64,
 }
 
@@ -35,7 +38,7 @@ struct Allowance {
     minus: Wide,
 }
 
-// An i64 as a sign and a magnitude.
+/// An i64 as a sign and a magnitude.
 pub fn big_of(integer: i64) -> Big
     ensures { result ≡ big_of integer }
 {
@@ -49,8 +52,9 @@ pub fn big_of(integer: i64) -> Big
     }
 }
 
-// Ticks of a scale in microseconds, from `ticks_to_us` of the Rust, which takes 128 bits: half the
-// scale is added before the division.
+/// Ticks of a scale (ticks a second) in microseconds, to the nearest whole number, halves away from
+/// zero; none at scale 0, or where no i64 holds them. From `ticks_to_us` of the Rust, which takes
+/// 128 bits: half the scale is added before the division.
 pub fn micros(ticks: Big, scale: u64) -> Option<i64>
     requires { (value ticks.magnitude < 2 ^ 96) × (scale < 2 ^ 32) }
     ensures { result ≡ micros_of (number ticks) scale }
@@ -79,8 +83,10 @@ fn small_micros(ticks: i64, scale: u64) -> i64
     signed::rounded_div(ticks * 1_000_000, scale as i64)
 }
 
-// Ticks of a scale in microseconds, from `ticks_to_us` of the Rust: few ticks by signed division,
-// the rest by two words.
+/// Ticks of a scale (ticks a second) in microseconds, to the nearest whole number, halves away from
+/// zero. Refuses, at 0: 20, `TooLarge`, for a scale over `LARGEST_SCALE`; 23, `NoFrameTime`, for
+/// scale 0 and for a time that no i64 holds. RULES 5.2; the Rust's `ticks_to_us`: few ticks by
+/// signed division, the rest by two words.
 #[tactic(auto, unfolding(crate::specs::Ticks::ticks_to_us, crate::specs::Ticks::us_of, crate::specs::Ticks::micros_of))]
 pub fn ticks_to_us(ticks: i64, scale: u64) -> Result<i64, Refusal>
     ensures { result ≡ ticks_to_us ticks scale }
@@ -141,8 +147,9 @@ fn near_across(a: Wide, b: Wide, plus: Wide, minus: Wide) -> bool
     wide::at_most(wide::add(wide::add(a, b), minus), plus)
 }
 
-// Whether so many microseconds are near the end of a video, from `ends_near` of the Rust. Nothing
-// passes 118 bits.
+/// Whether an end in microseconds is near one in ticks of a scale: a nominal frame duration on
+/// either side, and half a microsecond for the rounding. `end` and `nominal` are in ticks. RULES
+/// 5.3; from `ends_near` of the Rust. Nothing passes 118 bits.
 pub fn ends_near(end_us: i64, end: Big, nominal: i64, scale: u64) -> bool
     requires { (value end.magnitude < 2 ^ 96) × (scale < 2 ^ 32) }
     ensures { result ≡ ends_near end_us (number end) nominal scale }
@@ -159,8 +166,9 @@ pub fn ends_near(end_us: i64, end: Big, nominal: i64, scale: u64) -> bool
     near_across(a, b, plus, minus)
 }
 
-// A duration of the movie in the media's ticks, where an i64 holds it, from
-// `video_frame_times_of_moov` of the Rust.
+/// A duration of the movie, in ticks of `movie` a second, in the track's ticks, of `scale` a
+/// second, to the nearest, a half up; none where no i64 holds it. RULES 8.5; from
+/// `video_frame_times_of_moov` of the Rust.
 #[tactic(auto, using(crate::proofs::Edits::quotients))]
 pub fn edit_ticks(duration: u64, scale: u64, movie: u64) -> Option<u64>
     requires { (scale < 2 ^ 32) × (0 < movie) × (movie < 2 ^ 32) }
@@ -181,7 +189,7 @@ pub fn edit_ticks(duration: u64, scale: u64, movie: u64) -> Option<u64>
     None
 }
 
-// The definitions give the numbers of specs/Examples.antt.
+/// A theorem: the definitions give the numbers of specs/Examples.antt.
 #[tactic(auto, unfolding(crate::specs::Ticks::ticks_to_us, crate::specs::Ticks::us_of, crate::specs::Ticks::micros_of, crate::specs::Ticks::ends_near, crate::specs::Ticks::media_ticks))]
 pub fn worked_examples_hold()
     ensures { WorkedExamples }

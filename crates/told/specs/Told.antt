@@ -10,7 +10,7 @@ use Rattle.boxes.specs.declared.Place.{Place}
 use Rattle.rows.specs.declared.Origin.{Origin}
 
 -- of a value of any type, told as words of any type; on a refusal these hold what they held
-unfoldable pub told : {T W : Type 0} → (T → W) → Result T Refusal → W → ℕ × W × ℕ
+abbrev pub told : {T W : Type 0} → (T → W) → Result T Refusal → W → ℕ × W × ℕ
 told words (Ok value) old = (0, words value, 0)
 told words (Err refusal) old = (number refusal.reason, old, refusal.index)
 

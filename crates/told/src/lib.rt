@@ -1,5 +1,6 @@
-// What a C caller is told of an answer: the number, the words that are lent for the value, and the
-// index. Lent words may be unset, so that none is read: on a refusal they are left alone.
+//! What a C caller is told of an answer (RULES 2.6): the number, the words that are lent for the
+//! value, and the index. Lent words may be unset, so that none is read: on a refusal they are left
+//! alone.
 #![tactic(auto)]
 
 pub mod several;
@@ -10,12 +11,14 @@ ghost use Rattle.told.specs.Told.{told, unsaid};
 
 use refusal::Refusal;
 
-// A value that is told as one word.
+/// A value that is told as one word.
 pub trait Word {
+    /// The type of the word that is lent for it.
     type Word: Copy;
 
     ghost word: { Self → Self.Word };
 
+    /// The word that is told of it.
     fn word(self) -> Self::Word
         ensures { result ≡ word self };
 }
@@ -77,8 +80,8 @@ pub(crate) fn refused(refusal: Refusal, index: &mut u64) -> u64
     refusal.reason.number()
 }
 
-// Tells an answer of one word.
-#[tactic(auto, unfolding(crate::specs::Told::told))]
+/// Tells an answer of one word: writes it to `word` and 0 to `index`, and answers 0; or leaves
+/// `word`, writes the refusal's index, and answers its number.
 pub fn tell<T: Word + Copy>(answer: Result<T, Refusal>, word: &mut T::Word, index: &mut u64) -> u64
     ensures { (result, word.new, index.new) ≡ told T.word answer word.old }
 {
@@ -91,8 +94,7 @@ pub fn tell<T: Word + Copy>(answer: Result<T, Refusal>, word: &mut T::Word, inde
     }
 }
 
-// Tells a refusal, or that there is none, and nothing of the value.
-#[tactic(auto, unfolding(crate::specs::Told::told))]
+/// Tells a refusal, or that there is none, in the same way, and nothing of the value.
 pub fn tell_refusal<T: Copy>(answer: Result<T, Refusal>, index: &mut u64) -> u64
     ensures { (result, tt, index.new) ≡ told unsaid answer tt }
 {

@@ -1,4 +1,4 @@
-// Answers of several words.
+//! Answers of several words, told as `tell` tells one: on a refusal the words are left alone.
 ghost use Rattle.std.specs.Prelude.{◌≡◌};
 ghost use Rattle.told.specs.Told.{told, size_words, box_words, place_words, origin_words, times_words};
 
@@ -8,8 +8,7 @@ use refusal::Refusal;
 use rows::Origin;
 use ticks::FrameTimes;
 
-// Tells a box's size and its header's.
-#[tactic(auto, unfolding(crate::specs::Told::told))]
+/// Tells a box's size and its header's, in bytes.
 pub fn tell_size(
     answer: Result<BoxSize, Refusal>,
     size: &mut u64,
@@ -29,8 +28,8 @@ pub fn tell_size(
     }
 }
 
-// Tells a box's type, where its payload lies, and where the next box is.
-#[tactic(auto, unfolding(crate::specs::Told::told))]
+/// Tells a box's type, where its payload starts and how long that is, and where the next box is, in
+/// bytes.
 pub fn tell_box(
     answer: Result<BoxAt, Refusal>,
     kind: &mut u32,
@@ -54,8 +53,7 @@ pub fn tell_box(
     }
 }
 
-// Tells where a part of the caller's bytes lies.
-#[tactic(auto, unfolding(crate::specs::Told::told))]
+/// Tells where a part of the caller's bytes starts, and how long it is.
 pub fn tell_place(
     answer: Result<Place, Refusal>,
     start: &mut u64,
@@ -75,8 +73,8 @@ pub fn tell_place(
     }
 }
 
-// Tells where a frame comes from.
-#[tactic(auto, unfolding(crate::specs::Told::told))]
+/// Tells where a frame comes from: its source, its frame there, the shift's flag (1 present, 0
+/// absent) and the shift.
 pub fn tell_origin(
     answer: Result<Origin, Refusal>,
     source: &mut u64,
@@ -100,8 +98,8 @@ pub fn tell_origin(
     }
 }
 
-// Tells frame count, scale, nominal and end.
-#[tactic(auto, unfolding(crate::specs::Told::told))]
+/// Tells how many frames there are and, in ticks of `scale` a second, the nominal duration and the
+/// end.
 pub fn tell_times(
     answer: Result<FrameTimes, Refusal>,
     frames: &mut u64,

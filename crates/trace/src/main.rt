@@ -1,24 +1,26 @@
-// The first lesson: steps on a frame map, one a line on standard input, and what each gives.
-//
-//     row SOURCE FIRST COUNT [shift SHIFT]   the map with a row more; its out first is chained
-//     cut A B                                the frames A to B of the map
-//     join                                   the rows that follow, up to another step, are a
-//                                            second map, joined to the first
-//     merge                                  one row of neighbours that continue
-//     origin FRAME                           where a frame comes from
-//
-// Every map goes through the proved calls, and every refusal is theirs, that of a 1,025th row too;
-// this program only holds the rows and prints.
+//! The first lesson: steps on a frame map, one a line on standard input, and what each gives.
+//!
+//!     row SOURCE FIRST COUNT [shift SHIFT]   the map with a row more; its out first is chained
+//!     cut A B                                the frames A to B of the map
+//!     join                                   the rows that follow, up to another step, are a
+//!                                            second map, joined to the first
+//!     merge                                  one row of neighbours that continue
+//!     origin FRAME                           where a frame comes from
+//!
+//! Every map goes through the proved calls, and every refusal is theirs, that of a 1,025th row too;
+//! this program only holds the rows and prints.
 #![tactic(auto)]
 
 ghost use Rattle.std.specs.Prelude.{ℕ, ◌≤◌, Ok};
 ghost use Rattle.maps.specs.Answers.{most_rows};
 
 use maps::MOST_ROWS;
-use reading::{Ending, HeldInput};
+use reading::{Buffered, Ending, HeldInput};
 use refusal::Refusal;
 use rows::{Origin, ROW_WORDS, Row};
-use steps::Step;
+use std::io::{self, Read, Write};
+use std::process::ExitCode;
+use steps::{Fault, Step};
 
 // How many bytes of the input are read.
 const FILE_BYTES: usize = 65_536;
@@ -129,14 +131,14 @@ impl Map {
         }
     }
 
-    // A call's answer: its map takes this one's place and is printed, or its refusal is printed.
-    fn keep(&mut self, rt: &impl Print, answer: Result<Map, Refusal>) {
+    // A call's answer: its map takes this one's place and is written, or its refusal is written.
+    fn keep<W: Write>(&mut self, out: &mut W, answer: Result<Map, Refusal>) -> io::Result<()> {
         match answer {
             Ok(map) => {
-                maptext::say_map(rt, map.words(), map.shifts());
                 *self = map;
+                maptext::write_map(out, self.words(), self.shifts())
             }
-            Err(refusal) => maptext::say_refusal(rt, refusal),
+            Err(refusal) => maptext::write_refusal(out, refusal),
         }
     }
 }
@@ -158,60 +160,70 @@ impl Lesson {
     }
 
     // A row goes to the second map of a join that waits for its rows, else to the map.
-    fn add(&mut self, rt: &impl Print, row: Row) {
-        say_row_step(rt, row);
+    fn add<W: Write>(&mut self, out: &mut W, row: Row) -> io::Result<()> {
+        write_row_step(out, row)?;
         let map = match &mut self.second {
             Some(second) => second,
             None => &mut self.map,
         };
         let answer = map.with_row(row);
-        map.keep(rt, answer);
+        map.keep(out, answer)
     }
 
     // The map is cut.
-    fn cut(&mut self, rt: &impl Print, start: u64, end: u64) {
-        self.finish_join(rt);
-        let _ = println!(rt; "cut {start} {end}:");
-        self.map.keep(rt, self.map.cut(start, end));
+    fn cut<W: Write>(&mut self, out: &mut W, start: u64, end: u64) -> io::Result<()> {
+        self.finish_join(out)?;
+        writeln!(out, "cut {start} {end}:")?;
+        self.map.keep(out, self.map.cut(start, end))
     }
 
     // The map is merged.
-    fn merge(&mut self, rt: &impl Print) {
-        self.finish_join(rt);
-        let _ = println!(rt; "merge:");
-        self.map.keep(rt, self.map.merge());
+    fn merge<W: Write>(&mut self, out: &mut W) -> io::Result<()> {
+        self.finish_join(out)?;
+        writeln!(out, "merge:")?;
+        self.map.keep(out, self.map.merge())
     }
 
     // A frame's origin in the map is said.
-    fn origin(&mut self, rt: &impl Print, frame: u64) {
-        self.finish_join(rt);
-        maptext::say_origin(rt, frame, self.map.origin(frame));
+    fn origin<W: Write>(&mut self, out: &mut W, frame: u64) -> io::Result<()> {
+        self.finish_join(out)?;
+        maptext::write_origin(out, frame, self.map.origin(frame))
     }
 
     // A join begins, and waits for its rows.
-    fn begin_join(&mut self, rt: &impl Print) {
-        self.finish_join(rt);
-        let _ = println!(rt; "join:");
+    fn begin_join<W: Write>(&mut self, out: &mut W) -> io::Result<()> {
+        self.finish_join(out)?;
+        writeln!(out, "join:")?;
         self.second = Some(Map::empty());
+        Ok(())
     }
 
     // A join that waits for its rows is made.
-    fn finish_join(&mut self, rt: &impl Print) {
+    fn finish_join<W: Write>(&mut self, out: &mut W) -> io::Result<()> {
         if let Some(second) = self.second.take() {
-            let _ = println!(rt; "joined:");
-            self.map.keep(rt, self.map.join(&second));
+            writeln!(out, "joined:")?;
+            self.map.keep(out, self.map.join(&second))?;
         }
+        Ok(())
     }
 
     // One line, by its number.
-    fn line(&mut self, rt: &impl Print, number: usize, text: &[u8]) {
+    fn line<W: Write>(&mut self, out: &mut W, number: usize, text: &[u8]) -> io::Result<()> {
         match steps::parse(text) {
-            Step::Nothing => {}
+            Ok(Some(step)) => self.step(out, step),
+            Ok(None) => Ok(()),
+            Err(Fault::Unknown) => maptext::write_fault(out, number, "not a step"),
+            Err(Fault::Large) => maptext::write_fault(out, number, "a number over 64 bits"),
+        }
+    }
+
+    // One step.
+    fn step<W: Write>(&mut self, out: &mut W, step: Step) -> io::Result<()> {
+        match step {
             Step::Row {
                 source,
                 first,
                 count,
-                flag,
                 shift,
             } => {
                 let row = Row {
@@ -219,26 +231,24 @@ impl Lesson {
                     first,
                     count,
                     out: 0,
-                    flag,
-                    shift,
+                    flag: shift.is_some() as u64,
+                    shift: shift.unwrap_or(0),
                 };
-                self.add(rt, row);
+                self.add(out, row)
             }
-            Step::Cut(start, end) => self.cut(rt, start, end),
-            Step::Origin(frame) => self.origin(rt, frame),
-            Step::Join => self.begin_join(rt),
-            Step::Merge => self.merge(rt),
-            Step::Unknown => maptext::say_fault(rt, number, "not a step"),
-            Step::Large => maptext::say_fault(rt, number, "a number over 64 bits"),
+            Step::Cut { start, end } => self.cut(out, start, end),
+            Step::Origin(frame) => self.origin(out, frame),
+            Step::Join => self.begin_join(out),
+            Step::Merge => self.merge(out),
         }
     }
 
     // Every line of a text. A join may still wait for its rows at the end.
-    fn run(mut self, rt: &impl Print, text: &[u8]) {
+    fn run<W: Write>(mut self, out: &mut W, text: &[u8]) -> io::Result<()> {
         for (index, line) in text.split_inclusive(is_line_feed).enumerate() {
-            self.line(rt, index + 1, line.strip_suffix(b"\n").unwrap_or(line));
+            self.line(out, index + 1, line.strip_suffix(b"\n").unwrap_or(line))?;
         }
-        self.finish_join(rt);
+        self.finish_join(out)
     }
 }
 
@@ -248,7 +258,7 @@ fn is_line_feed(byte: &u8) -> bool {
 }
 
 // A row step above the map that it gives.
-fn say_row_step(rt: &impl Print, row: Row) {
+fn write_row_step<W: Write>(out: &mut W, row: Row) -> io::Result<()> {
     let Row {
         source,
         first,
@@ -257,34 +267,70 @@ fn say_row_step(rt: &impl Print, row: Row) {
         shift,
         ..
     } = row;
-    let _ = if flag == 1 {
-        println!(rt; "row {source} {first} {count} shift {shift}:")
+    if flag == 1 {
+        writeln!(out, "row {source} {first} {count} shift {shift}:")
     } else {
-        println!(rt; "row {source} {first} {count}:")
-    };
+        writeln!(out, "row {source} {first} {count}:")
+    }
 }
 
 // The whole lines of an input that is too long, and that it is. What comes after them is left
 // unread: an input may never end.
-fn too_long(rt: &impl Print, text: &[u8]) {
+fn too_long<W: Write>(out: &mut W, text: &[u8]) -> io::Result<()> {
     let end = text
         .iter()
         .rposition(is_line_feed)
         .map_or(0, |last| last + 1);
     let whole = &text[..end];
-    Lesson::new().run(rt, whole);
+    Lesson::new().run(out, whole)?;
     let lines = whole.split_inclusive(is_line_feed).count();
-    maptext::say_fault(rt, lines + 1, "the input is too long");
+    maptext::write_fault(out, lines + 1, "the input is too long")
 }
 
-// The lines of standard input; of one that can't be read to its end, none.
-fn main(rt: HostRuntime) {
+// The lines of an input; of one that can't be read to its end, none.
+fn answer<R: Read, W: Write>(input: &mut R, out: &mut W) -> io::Result<()> {
     let mut file = [0u8; FILE_BYTES];
-    let HeldInput { held, end } = reading::read_input(&mut rt.reader(), &mut file);
+    let HeldInput { held, end } = reading::read_input(input, &mut file);
     let text = &file[..held];
     match end {
-        Ending::Within => Lesson::new().run(&rt, text),
-        Ending::Past => too_long(&rt, text),
-        Ending::Failed(_) => reading::say_failed(&rt),
+        Ending::Within => Lesson::new().run(out, text)?,
+        Ending::Past => too_long(out, text)?,
+        Ending::Failed(_) => reading::write_unread(out)?,
+    }
+    out.flush()
+}
+
+// The lines of standard input.
+fn main(rt: HostRuntime) -> ExitCode {
+    let mut out = Buffered::new(io::writer(&rt));
+    match answer(&mut rt.reader(), &mut out) {
+        Ok(()) => ExitCode::SUCCESS,
+        Err(_) => reading::say_unwritten(&rt),
+    }
+}
+
+#[cfg(test)]
+mod tests {
+    use super::*;
+    use std::io::Cursor;
+    use std::test::Fail;
+
+    // Steps of each kind, and refusals, faults and a join that waits at the end.
+    const STEPS: &[u8] = b"row 0 10 30\nrow 1 5 20 shift -5\ncut 25 40\norigin 2\norigin 99\n\
+        cut 9 9\nrows\nrow 0 0 18446744073709551616\nmerge\njoin\nrow 0 1 1";
+
+    // Writing that fails after any number of bytes is an error.
+    #[test]
+    fn a_failed_write_is_told(rt: HostRuntime) -> Result<(), Fail> {
+        let mut room = Cursor::new([0; 1024]);
+        Lesson::new().run(&mut room, STEPS)?;
+        let whole = room.position();
+        assert!(rt; whole < 1024);
+        for length in 0..1024 {
+            let mut bytes = [0; 1024];
+            let answer = Lesson::new().run(&mut &mut bytes[..length], STEPS);
+            assert_eq!(rt; answer.is_ok(), whole <= length as u64);
+        }
+        Ok(())
     }
 }

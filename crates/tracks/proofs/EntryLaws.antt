@@ -27,11 +27,9 @@ module _ (p : List ℕ) (at end : ℕ) where
 pub ruleset runs = (runs-none, runs-step)
 
 pub length-per-frame : (es : List Run) → length (per_frame es) ≡ entry_total es
-unfolding per_frame entry_total
 length-per-frame es = simp (length-flat_map, length-replicate)
 
 pub total-more : {left rest : List Run} {r : Run} → left ≡ r ∷ rest → entry_total left ≡ r.count + entry_total rest
-unfolding entry_total
 total-more {rest = rest} {r} e = ap entry_total e ∙ sum_by-cons (λ (run : Run). run.count) r rest
 
 pub map-replicate : {A B : Type 0} (f : A → B) (n : ℕ) (x : A) → map f (replicate n x) ≡ replicate n (f x)
@@ -53,7 +51,6 @@ pub lay-fill : (out : List ℤ) {part whole : List ℤ} {n : ℕ} {z : ℤ} {r :
     → (n ≤ length out → take n out ++ laid (map pos (per_frame left)) (drop n out) ≡ whole) → left ≡ r ∷ rest
     → n + r.count ≤ length out → part ≡ replicate (length (take (n + r.count - n) (drop n out))) z → z ≡ pos r.value
     → take (n + r.count) (take n out ++ (part ++ drop (n + r.count - n) (drop n out))) ++ laid (map pos (per_frame rest)) (drop (n + r.count) (take n out ++ (part ++ drop (n + r.count - n) (drop n out)))) ≡ whole
-unfolding per_frame
 lay-fill out {part} {n = n} {r = r} {rest = rest} h e room q ez =
     let c = r.count in
     let k : length (take (n + c - n) (drop n out)) ≡ c = simp (length-take, length-drop) (omega arith) in

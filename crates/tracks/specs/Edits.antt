@@ -18,7 +18,7 @@ abbrev pub rate_one : ℕ
 rate_one = 0x10000
 
 -- the entry at `at`, in version 1 (`true`) or another
-unfoldable pub entry_at : Bool → List ℕ → ℕ → EditEntry
+abbrev pub entry_at : Bool → List ℕ → ℕ → EditEntry
 entry_at true payload at = record {
   duration = be64_at payload at;
   time = cast_signed w64 (be64_at payload (at + 8));
@@ -55,7 +55,7 @@ from_time (pos time) duration scale movie empty =
     else ending_after (media_ticks duration scale movie) time empty
 
 -- the entry that is kept, after so many empty ticks: its rate is 1
-unfoldable pub kept_entry : EditEntry → ℕ → ℕ → ℤ → Option Edit
+abbrev pub kept_entry : EditEntry → ℕ → ℕ → ℤ → Option Edit
 kept_entry entry scale movie empty =
     if entry.rate == rate_one then from_time entry.time entry.duration scale movie empty
     else None
@@ -66,7 +66,7 @@ after_empty None entry scale movie = None
 after_empty (Some empty) entry scale movie = kept_entry entry scale movie (pos empty)
 
 -- two entries: the first has the time -1 and a duration that an i64 holds, and its rate isn't looked at
-unfoldable pub two_entries : EditEntry → EditEntry → ℕ → ℕ → Option Edit
+abbrev pub two_entries : EditEntry → EditEntry → ℕ → ℕ → Option Edit
 two_entries first second scale movie =
     if int_eq first.time (negsuc 0) then
     (if nat_lt first.duration (2 ^ 63) then after_empty (media_ticks first.duration scale movie) second scale movie
@@ -74,7 +74,7 @@ two_entries first second scale movie =
     else None
 
 -- so many entries; more than two are refused, and so is one that isn't whole
-unfoldable pub edit_of_entries : ℕ → Bool → List ℕ → ℕ → ℕ → Option Edit
+abbrev pub edit_of_entries : ℕ → Bool → List ℕ → ℕ → ℕ → Option Edit
 edit_of_entries entries long payload scale movie =
     if entries == 0 then Some no_edit
     else if nat_lt 2 entries then None
@@ -83,7 +83,7 @@ edit_of_entries entries long payload scale movie =
     else two_entries (entry_at long payload 8) (entry_at long payload (8 + entry_bytes long)) scale movie
 
 -- an elst's payload: version and flags, then how many entries there are
-unfoldable pub elst_of : List ℕ → ℕ → ℕ → Option Edit
+abbrev pub elst_of : List ℕ → ℕ → ℕ → Option Edit
 elst_of payload scale movie =
     if nat_lt (length payload) 8 then None
     else edit_of_entries (be32_at payload 4) (get_or payload 0 0 == 1) payload scale movie
@@ -94,5 +94,5 @@ found_edit (Some place) edts scale movie = elst_of (bytes_at edts place) scale m
 found_edit None edts scale movie = Some no_edit
 
 -- the edit of an edts' payload, with the media's timescale and the movie's
-unfoldable pub edit_of : List ℕ → ℕ → ℕ → Option Edit
+abbrev pub edit_of : List ℕ → ℕ → ℕ → Option Edit
 edit_of edts scale movie = found_edit (child_in elst edts) edts scale movie

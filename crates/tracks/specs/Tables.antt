@@ -6,7 +6,7 @@ use Rattle.boxes.specs.Bytes.{be32_at}
 use Rattle.tracks.specs.declared.entries.Run.{Run}
 
 -- the timescale of a mvhd or mdhd: after version and flags, at 16 for version 1, else at 8; none where it isn't whole
-unfoldable pub timescale : List ℕ → Option ℕ
+abbrev pub timescale : List ℕ → Option ℕ
 timescale payload =
     if nat_lt (length payload) 16 then None
     else if get_or payload 0 0 == 1 then
@@ -15,14 +15,14 @@ timescale payload =
 
 -- how many entries a stts or ctts has: after version and flags four bytes say, and so many entries of 8 bytes follow;
 -- none where they don't
-unfoldable pub table_entries : List ℕ → Option ℕ
+abbrev pub table_entries : List ℕ → Option ℕ
 table_entries payload =
     if nat_lt (length payload) 8 then None
     else if nat_lt (length payload) (be32_at payload 4 * 8 + 8) then None
     else Some (be32_at payload 4)
 
 -- the same of a table that may be absent, as one under 4 bytes is
-unfoldable pub optional_entries : List ℕ → Option ℕ
+abbrev pub optional_entries : List ℕ → Option ℕ
 optional_entries payload =
     if nat_lt (length payload) 4 then Some 0
     else table_entries payload
@@ -34,11 +34,11 @@ entries_from (suc n) payload at =
     record { count = be32_at payload at; value = be32_at payload (at + 4) } ∷ entries_from n payload (at + 8)
 
 -- how many frames they are for
-unfoldable pub entry_total : List Run → ℕ
+abbrev pub entry_total : List Run → ℕ
 entry_total runs = sum_by (λ (run : Run). run.count) runs
 
 -- a value for each of these frames
-unfoldable pub per_frame : List Run → List ℕ
+abbrev pub per_frame : List Run → List ℕ
 per_frame runs = flat_map (λ (run : Run). replicate run.count run.value) runs
 
 -- so many entries of a table

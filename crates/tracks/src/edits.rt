@@ -1,4 +1,4 @@
-// The edit list: RULES 8.5.
+//! The edit list: RULES 8.5.
 ghost use Rattle.std.specs.Prelude.{Some, IfSome, ◌≡◌, ◌+◌, ◌≤◌, ◌<◌, ◌^◌, length};
 ghost use Rattle.tracks.specs.Edits.{entry_at, entry_bytes, no_edit, ending_after, from_time, kept_entry, two_entries, edit_of_entries, elst_of, edit_of};
 ghost use Rattle.tracks.specs.SoundEdits.{EditTicks, Sound};
@@ -25,7 +25,6 @@ fn entry_bytes(long: bool) -> usize
 }
 
 // The entry at an offset: the closure entry of video_frame_times_of_moov.
-#[tactic(auto, using(conditions::proofs::Tests::tests), unfolding(crate::specs::Edits::entry_at))]
 fn entry_at(long: bool, payload: &[u8], at: usize) -> EditEntry
     requires { at + entry_bytes long ≤ length payload.now }
     ensures { result ≡ entry_at long payload.now at }
@@ -96,7 +95,6 @@ fn from_time(time: i64, duration: u64, scale: u64, movie: u64, empty: i64) -> Op
 }
 
 // The edit of the entry that is kept.
-#[tactic(auto, using(conditions::proofs::Tests::tests), unfolding(crate::specs::Edits::kept_entry))]
 fn kept_entry(entry: EditEntry, scale: u64, movie: u64, empty: i64) -> Option<Edit>
     requires { (scale < 2 ^ 32) × (0 < movie) × (movie < 2 ^ 32) × EditTicks empty }
     ensures is { result ≡ kept_entry entry scale movie empty }
@@ -109,7 +107,7 @@ fn kept_entry(entry: EditEntry, scale: u64, movie: u64, empty: i64) -> Option<Ed
 }
 
 // The edit of two entries, of which the first has to be an empty edit.
-#[tactic(auto, using(crate::proofs::EditLaws::twos), unfolding(crate::specs::Edits::two_entries))]
+#[tactic(auto, using(crate::proofs::EditLaws::twos))]
 fn two_entries(first: EditEntry, second: EditEntry, scale: u64, movie: u64) -> Option<Edit>
     requires { (scale < 2 ^ 32) × (0 < movie) × (movie < 2 ^ 32) }
     ensures is { result ≡ two_entries first second scale movie }
@@ -126,7 +124,6 @@ fn two_entries(first: EditEntry, second: EditEntry, scale: u64, movie: u64) -> O
 }
 
 // The edit of an edit list's entries.
-#[tactic(auto, using(conditions::proofs::Tests::tests), unfolding(crate::specs::Edits::edit_of_entries))]
 fn edit_of_entries(
     entries: usize,
     long: bool,
@@ -156,7 +153,6 @@ fn edit_of_entries(
 }
 
 // The edit of an elst's payload.
-#[tactic(auto, using(conditions::proofs::Tests::tests), unfolding(crate::specs::Edits::elst_of))]
 fn elst(payload: &[u8], scale: u64, movie: u64) -> Option<Edit>
     requires { (scale < 2 ^ 32) × (0 < movie) × (movie < 2 ^ 32) }
     ensures is { result ≡ elst_of payload.now scale movie }
@@ -174,9 +170,10 @@ fn elst(payload: &[u8], scale: u64, movie: u64) -> Option<Edit>
     )
 }
 
-// The edit of an edts' payload, which is empty where a track has none: the edit list of
-// video_frame_times_of_moov.
-#[tactic(auto, using(conditions::proofs::Tests::tests), unfolding(crate::specs::Edits::edit_of))]
+/// The edit of an edts' payload, which is empty where a track has none: the edit list of the Rust's
+/// `video_frame_times_of_moov` (RULES 8.5; ISO/IEC 14496-12, 8.6.6). `scale` is the track's
+/// timescale, and `movie` the movie's, in ticks a second. None where the list isn't whole or can't
+/// be followed: a caller refuses with `Missing` (31).
 pub fn edit_of(edts: &[u8], scale: u64, movie: u64) -> Option<Edit>
     requires { (scale < 2 ^ 32) × (0 < movie) × (movie < 2 ^ 32) }
     ensures is { result ≡ edit_of edts.now scale movie }

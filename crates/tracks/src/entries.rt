@@ -1,16 +1,19 @@
-// The entries of a table, and the frames that they are for.
+//! The entries of a table, and the frames that they are for.
 ghost use Rattle.std.specs.Prelude.{◌≡◌, ◌-◌, ◌*◌, ◌%◌, ◌≤◌, length};
 
 use boxes::read::be32;
 
-// An entry: for how many frames it is, and their value.
-#[derive(Clone, Copy)]
+/// An entry of a stts or ctts (RULES 8.3, 8.4; ISO/IEC 14496-12, 8.6.1).
+#[derive(Clone, Copy, Debug, PartialEq, Eq)]
 pub struct Run {
+    /// For how many frames it is.
     pub count: usize,
+    /// Their value: a duration, or an offset as it is stored.
     pub value: u32,
 }
 
-// A table's payload, and how many entries it has, all of which are there.
+/// The payload of a stts or ctts, and how many entries it has, all of which are there: 8 bytes
+/// each, from offset 8 on.
 #[derive(Clone, Copy)]
 pub struct Table<'a> {
     pub payload: &'a [u8],
@@ -18,21 +21,26 @@ pub struct Table<'a> {
     ghost there: { entries * 8 ≤ length payload.now - 8 },
 }
 
-// The entries that a walk hasn't passed: those from at to end.
+/// The entries that a walk hasn't passed: those from the offset `at` to `end`.
 #[derive(Clone, Copy)]
 pub struct Runs<'a> {
+    /// The table's payload.
     pub payload: &'a [u8],
+    /// The offset of the next entry.
     pub at: usize,
+    /// Where the entries end.
     pub end: usize,
     ghost ordered: { at ≤ end },
     ghost there: { end - at ≤ length payload.now - at },
     ghost whole: { (end - at) % 8 ≡ 0 },
 }
 
-// The frames that a walk hasn't passed: what is left of an entry, and the entries after it.
+/// The frames that a walk hasn't passed: what is left of an entry, and the entries after it.
 #[derive(Clone, Copy)]
 pub struct Frames<'a> {
+    /// What is left of an entry.
     pub run: Run,
+    /// The entries after it.
     pub after: Runs<'a>,
 }
 
@@ -41,8 +49,8 @@ impl<'a> Table<'a> {
     ghost use Rattle.tracks.specs.Opening.{Opened};
     ghost use Rattle.tracks.specs.Walking.{runs_left, frames_left};
 
-    // The table of a payload whose entries are all there: one length tells.
-    #[tactic(auto, using(conditions::proofs::Tests::tests), unfolding(crate::specs::Tables::table_entries))]
+    /// The table of a payload whose entries are all there: one length tells. None where they aren't
+    /// (RULES 8.3).
     pub fn of(payload: &'a [u8]) -> Option<Table<'a>>
         ensures { Opened payload.now (table_entries payload.now) result }
     {
@@ -56,8 +64,7 @@ impl<'a> Table<'a> {
         Some(Table { payload, entries })
     }
 
-    // The same of a table that may be absent.
-    #[tactic(auto, using(conditions::proofs::Tests::tests), unfolding(crate::specs::Tables::optional_entries))]
+    /// The same of a table that may be absent, as one under 4 bytes is (RULES 8.4).
     pub fn of_optional(payload: &'a [u8]) -> Option<Table<'a>>
         ensures { Opened payload.now (optional_entries payload.now) result }
     {
@@ -70,7 +77,7 @@ impl<'a> Table<'a> {
         Table::of(payload)
     }
 
-    // Its entries, in order.
+    /// Its entries, in order.
     pub fn runs(self) -> Runs<'a>
         ensures { runs_left result ≡ entries_of self.entry.entries self.entry.payload.now }
     {
@@ -81,7 +88,7 @@ impl<'a> Table<'a> {
         }
     }
 
-    // The values of its frames, in order.
+    /// The values of its frames, in order: each entry's as often as it says.
     pub fn frames(self) -> Frames<'a>
         ensures { frames_left result ≡ durations self.entry.entries self.entry.payload.now }
     {
@@ -116,7 +123,6 @@ impl Iterator for Runs<'_> {
     }
 }
 
-#[tactic(auto, unfolding(crate::specs::Tables::per_frame))]
 impl Iterator for Frames<'_> {
     ghost use Rattle.std.specs.Iterator.{YieldsFirst, item_count};
     ghost use Rattle.tracks.specs.Walking.{frames_left};

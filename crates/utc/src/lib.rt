@@ -1,4 +1,4 @@
-// The UTC rule of creation times, RULES 5.1.
+//! The UTC rule of creation times, RULES 5.1.
 #![tactic(auto)]
 
 ghost use Rattle.std.specs.Prelude.{◌≡◌, ◌+◌, ◌*◌, ◌-◌, ◌<◌, length};
@@ -96,8 +96,8 @@ fn utc_bytes(bytes: &[u8]) -> bool
     shape & (date & time)
 }
 
-// Whether some bytes are a time of day of a date, to the second, in UTC. The Rust's
-// `is_utc_second`.
+/// Whether bytes are a time of day of a date, to the second, in UTC, as `2026-11-15T04:20:00Z`; any
+/// other bytes are not, and nothing is refused. RULES 5.1; the Rust's `is_utc_second`.
 #[tactic(auto, unfolding(crate::specs::Utc::utc_second))]
 pub fn is_utc_second(bytes: &[u8]) -> bool
     ensures { result ≡ utc_second bytes.now }
@@ -108,7 +108,7 @@ pub fn is_utc_second(bytes: &[u8]) -> bool
     utc_bytes(bytes)
 }
 
-// The definitions give the numbers of specs/Examples.antt.
+/// A theorem: the definitions give the numbers of specs/Examples.antt.
 #[tactic(auto, unfolding(crate::specs::Utc::utc_second, crate::specs::Utc::utc_bytes, crate::specs::Utc::two, crate::specs::Utc::days))]
 pub fn worked_examples_hold()
     ensures { WorkedExamples }

@@ -1,32 +1,33 @@
-// Two-word unsigned numbers: sum, product, order, and the quotient by a number of 32 bits.
+//! Two-word unsigned numbers: sum, product, order, and the quotient by a number of 32 bits.
 #![tactic(auto)]
 
 ghost use Rattle.std.specs.Prelude.{◌≡◌, ◌+◌, ◌*◌, ◌/◌, ◌^◌, ◌<◌, nat_le};
 ghost use Rattle.wide.specs.Value.{value, OneForm};
 ghost use Rattle.wide.specs.Divided.{Divided, OneWord};
 
-// high * 2^64 + low
+/// An unsigned number of two words: `high` × 2^64 + `low`.
 #[derive(Clone, Copy)]
 pub struct Wide {
     pub high: u64,
     pub low: u64,
 }
 
-// An integer of a sign and a magnitude.
+/// An integer of a sign and a magnitude: below 0 where `negative` is true and `magnitude` isn't 0.
 #[derive(Clone, Copy)]
 pub struct Big {
     pub negative: bool,
     pub magnitude: Wide,
 }
 
-// A digit of a quotient, in base 2^32 or in base 2^64, and the remainder after it.
+/// A digit of a quotient, `quotient`, in base 2^32 or in base 2^64, and the remainder after it,
+/// `rest`.
 #[derive(Clone, Copy)]
 pub struct Digit {
     pub quotient: u64,
     pub rest: u64,
 }
 
-// a + b. The low words are added modulo 2^64, and the carry is found from the result.
+/// a + b. The low words are added modulo 2^64, and the carry is found from the result.
 pub fn add(a: Wide, b: Wide) -> Wide
     requires { value a + value b < 2 ^ 128 }
     ensures { value result ≡ value a + value b }
@@ -39,7 +40,7 @@ pub fn add(a: Wide, b: Wide) -> Wide
     }
 }
 
-// The whole product of two words.
+/// The whole product of two words.
 pub fn product(a: u64, b: u64) -> Wide
     ensures { value result ≡ a * b }
 {
@@ -47,7 +48,7 @@ pub fn product(a: u64, b: u64) -> Wide
     Wide { high, low }
 }
 
-// a * b.
+/// a × b.
 pub fn times(a: Wide, b: u64) -> Wide
     requires { value a * b < 2 ^ 128 }
     ensures { value result ≡ value a * b }
@@ -59,7 +60,7 @@ pub fn times(a: Wide, b: u64) -> Wide
     }
 }
 
-// Whether a is at most b.
+/// Whether a is at most b.
 pub fn at_most(a: Wide, b: Wide) -> bool
     ensures { result ≡ nat_le (value a) (value b) }
 {
@@ -103,8 +104,8 @@ fn next_word(rest: u64, word: u64, divisor: u64) -> Digit
     }
 }
 
-// dividend / divisor, by long division with digits of 32 bits and one running remainder. An upper
-// word below the divisor is that remainder already.
+/// `dividend` / `divisor`, rounded down, by long division with digits of 32 bits and one running
+/// remainder (RULES 13.5). An upper word below the divisor is that remainder already.
 pub fn quotient(dividend: Wide, divisor: u64) -> Wide
     requires { (0 < divisor) × (divisor < 2 ^ 32) }
     ensures { value result ≡ value dividend / divisor }
@@ -124,12 +125,12 @@ pub fn quotient(dividend: Wide, divisor: u64) -> Wide
     }
 }
 
-// In a step of the long division one word holds the remainder with the next digit.
+/// A theorem: in a step of the long division one word holds the remainder with the next digit.
 pub fn a_step_fits_one_word()
     ensures { OneWord }
 {}
 
-// Two-word numbers are equal only where their words are the same.
+/// A theorem: two-word numbers are equal only where their words are the same.
 pub fn each_value_has_one_form()
     ensures { OneForm }
 {}

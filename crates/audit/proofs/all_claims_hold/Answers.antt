@@ -8,6 +8,7 @@ returns c = audited (record {
   demands = c.maps_meet_the_demands.ensures;
   laws = c.calls_keep_origins.ensures;
   cuts = c.each_cut_is_one_cut.ensures;
+  origins = c.each_origin_is_one_origin.ensures;
   refusals = c.refusals_are_right.ensures;
   by-video = c.refusals_by_video_are_right.ensures;
   by-recording = c.refusals_by_recording_are_right.ensures;

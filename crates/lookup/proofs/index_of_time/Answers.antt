@@ -1,9 +1,0 @@
-use Rattle.std.proofs.Common.{rules, arith}
-use Rattle.lookup.proofs.Last.{times-in-turn, last-ended, starts_rise}
-use Rattle.lookup.proofs.index_of_time.Goals as goal
-
-pub last_that-requires-clause-first : goal.last_that-requires-clause-first
-last_that-requires-clause-first g c = λ i j h b x y. let r = starts_rise _ c.requires i j h (omega (arith, c.segment_count.ensures)) in search rules
-
-pub returns : goal.returns
-returns g c = last-ended (times-in-turn c.requires _) (rw c.segment_count.ensures at c.last_that.ensures) (λ k b h e. search rules)

@@ -16,9 +16,9 @@
  *
  * Overlap. What a call may write overlaps nothing else that it is lent. No proof reaches a call
  * that breaks this: memory may be corrupted. With one array as both working slices
- * st_video_frame_times_of_moov answers wrong starts, or ends in a segmentation fault where 17
- * frames or more are in no order; with its timestamps as the starts st_mcraw_times answers wrong
- * starts.
+ * st_video_frame_times_of_moov can answer wrong starts, or end in a segmentation fault, where the
+ * times of 17 frames or more are in no order; of fewer, or of times in order, nothing shows it. With
+ * its timestamps as the starts st_mcraw_times answers wrong starts.
  *
  * Stack, as bindings/c/stack measures it on x86-64, and on Arm in an emulator: each call takes less
  * than 4 KiB. Copies and cleared slices are made by the C library's memmove and memset. A program
@@ -26,13 +26,18 @@
  * 3 KiB more for that, at its first st_join, say; how much, the loader and the processor decide.
  * Where a task has less, link with `-z now`, which binds names at the start, or statically.
  *
- * A table: `sources`, ten words each: frames; fps numerator, denominator; creation time present (0,
- * 1), its offset and length in `text`; clock (0 none, 1 no modulus, 2 modulus), its rate's
- * numerator, denominator, its modulus. `segments`, five words each: source, source first frame,
- * frame count, out first frame, shift present (0, 1). `times`, seven words a segment: source start,
- * out start, duration, source capture start, out capture start, capture duration (microseconds),
- * shift. `log`: the table names a telemetry log. `text`: the creation times' bytes. Words of an
- * absent thing are ignored.
+ * A table: `sources`, thirteen words each: frames; fps numerator, denominator; creation time present
+ * (0, 1), its offset and length in `text`; clock (0 none, 1 no modulus, 2 modulus), its rate's
+ * numerator, denominator, its modulus; the file's size in bytes; its IMU's origin known (0, 1), and
+ * that origin in microseconds. `segments`, five words each: source, source first frame, frame
+ * count, out first frame, shift present (0, 1). `stamps`, seven words a segment: source start, out
+ * start, duration, source capture start, out capture start, capture duration (microseconds), shift.
+ * `log`: the table names a telemetry log. `text`: the creation times' bytes. Words of an absent
+ * thing, a source's size and its origin are ignored.
+ *
+ * Sources had ten words once. A table of such sources is refused with ST_MALFORMED, but where there
+ * are 13, 26, 39 or 52 of them: then the number of words is a multiple of thirteen, and nothing
+ * tells the 130 words of thirteen such sources from those of ten sources as they are now.
  *
  * A list of records: the same of a segment as one struct, where its flag is a bool and its times
  * follow the words. Records are aligned as C aligns them; what lies between their fields is not
@@ -70,7 +75,7 @@ enum st_reason {
     /* a slice length is no multiple of its record, the two segment slices disagree, a flag or kind
      * is outside its set, or a present creation time's range leaves the text */
     ST_MALFORMED = 1,
-    /* there are over 64 sources or over 512 segments */
+    /* there are over 256 sources or over 512 segments */
     ST_OVER_LIMIT = 2,
     /* there are no sources */
     ST_NO_SOURCES = 3,
@@ -239,14 +244,14 @@ uint64_t st_origins(const uint64_t *words, size_t words_len, const int64_t *shif
  * Lent: a table. Writes index. Refuses: 1 to 17, 21.
  * A null pointer only with length 0. */
 uint64_t st_validate_no_video(const uint64_t *sources, size_t sources_len, const uint64_t *segments,
-                              size_t segments_len, const int64_t *times, size_t times_len, bool log,
+                              size_t segments_len, const int64_t *stamps, size_t stamps_len, bool log,
                               const uint8_t *text, size_t text_len, uint64_t *index);
 
 /* Judges a table by a video of video_frames frames at numerator / denominator a second: its frame
  * total. Lent: a table. Writes frames, index. Refuses: 1 to 17, 20, 22, 23 with 24, 25.
  * A null pointer only with length 0. */
 uint64_t st_validate_constant(const uint64_t *sources, size_t sources_len, const uint64_t *segments,
-                              size_t segments_len, const int64_t *times, size_t times_len, bool log,
+                              size_t segments_len, const int64_t *stamps, size_t stamps_len, bool log,
                               const uint8_t *text, size_t text_len, uint64_t video_frames, uint64_t numerator,
                               uint64_t denominator, uint64_t *frames, uint64_t *index);
 
@@ -255,7 +260,7 @@ uint64_t st_validate_constant(const uint64_t *sources, size_t sources_len, const
  * with 24, 25.
  * A null pointer only with length 0. */
 uint64_t st_validate_times(const uint64_t *sources, size_t sources_len, const uint64_t *segments,
-                           size_t segments_len, const int64_t *times, size_t times_len, bool log,
+                           size_t segments_len, const int64_t *stamps, size_t stamps_len, bool log,
                            const uint8_t *text, size_t text_len, uint64_t scale, const int64_t *starts,
                            size_t starts_len, int64_t end, int64_t nominal, uint64_t *frames,
                            uint64_t *index);
@@ -267,14 +272,14 @@ uint64_t st_validate_times(const uint64_t *sources, size_t sources_len, const ui
  * 30, 35, 34, 33, 32, 35, 33, 20, 22, 23 with 24, 25.
  * A null pointer only with length 0; what is written overlaps nothing else, or memory may be corrupted. */
 uint64_t st_check_mcraw(const uint64_t *sources, size_t sources_len, const uint64_t *segments,
-                        size_t segments_len, const int64_t *times, size_t times_len, bool log,
+                        size_t segments_len, const int64_t *stamps, size_t stamps_len, bool log,
                         const uint8_t *text, size_t text_len, const int64_t *timestamps,
                         size_t timestamps_len, int64_t *first_work, size_t first_work_len,
                         int64_t *second_work, size_t second_work_len, uint64_t *frames, uint64_t *index);
 
 /* ---- Lists of records: the lookup over a table whose segments are lent as a list of structs. */
 
-/* A segment as one record (RULES 1.6), with its times in microseconds: the Rust's TrimSegment. */
+/* A segment as one record, with its times in microseconds: the Rust's TrimSegment. */
 typedef struct st_trim_segment {
     /* The source's number. */
     uint64_t source;
@@ -351,14 +356,14 @@ uint64_t st_video_frame_times_of_moov(const uint8_t *moov, size_t moov_len, bool
  * Lent: a table. Writes frames, index. Refuses: 1 to 17.
  * A null pointer only with length 0. */
 uint64_t st_check(const uint64_t *sources, size_t sources_len, const uint64_t *segments, size_t segments_len,
-                  const int64_t *times, size_t times_len, bool log, const uint8_t *text, size_t text_len,
+                  const int64_t *stamps, size_t stamps_len, bool log, const uint8_t *text, size_t text_len,
                   uint64_t *frames, uint64_t *index);
 
 /* The segment of a frame: the number of segments that end at or before it, at most the last index.
  * Lent: a table. Writes segment, index. Refuses: 1 to 17.
  * A null pointer only with length 0. */
 uint64_t st_segment_of_frame(const uint64_t *sources, size_t sources_len, const uint64_t *segments,
-                             size_t segments_len, const int64_t *times, size_t times_len, bool log,
+                             size_t segments_len, const int64_t *stamps, size_t stamps_len, bool log,
                              const uint8_t *text, size_t text_len, uint64_t frame, uint64_t *segment,
                              uint64_t *index);
 
@@ -368,7 +373,7 @@ uint64_t st_segment_of_frame(const uint64_t *sources, size_t sources_len, const 
  * many), index. Refuses: 1 to 17, 32.
  * A null pointer only with length 0; what is written overlaps nothing else, or memory may be corrupted. */
 uint64_t st_segments_of_frames(const uint64_t *sources, size_t sources_len, const uint64_t *segments,
-                               size_t segments_len, const int64_t *times, size_t times_len, bool log,
+                               size_t segments_len, const int64_t *stamps, size_t stamps_len, bool log,
                                const uint8_t *text, size_t text_len, const uint64_t *frames,
                                size_t frames_len, uint64_t *out_segments, size_t out_segments_len,
                                uint64_t *written, uint64_t *index);
@@ -377,7 +382,7 @@ uint64_t st_segments_of_frames(const uint64_t *sources, size_t sources_len, cons
  * the last index. Lent: a table. Writes segment, index. Refuses: 1 to 17.
  * A null pointer only with length 0. */
 uint64_t st_segment_of_time_us(const uint64_t *sources, size_t sources_len, const uint64_t *segments,
-                               size_t segments_len, const int64_t *times, size_t times_len, bool log,
+                               size_t segments_len, const int64_t *stamps, size_t stamps_len, bool log,
                                const uint8_t *text, size_t text_len, int64_t time, uint64_t *segment,
                                uint64_t *index);
 
@@ -386,7 +391,7 @@ uint64_t st_segment_of_time_us(const uint64_t *sources, size_t sources_len, cons
  * Writes answer, index. Refuses: 1 to 17.
  * A null pointer only with length 0. */
 uint64_t st_continues(const uint64_t *sources, size_t sources_len, const uint64_t *segments,
-                      size_t segments_len, const int64_t *times, size_t times_len, bool log,
+                      size_t segments_len, const int64_t *stamps, size_t stamps_len, bool log,
                       const uint8_t *text, size_t text_len, uint64_t segment, uint64_t *answer,
                       uint64_t *index);
 
@@ -394,7 +399,7 @@ uint64_t st_continues(const uint64_t *sources, size_t sources_len, const uint64_
  * for the rows. Writes the rows, rows (how many), index. Refuses: 1 to 17, 32.
  * A null pointer only with length 0; what is written overlaps nothing else, or memory may be corrupted. */
 uint64_t st_rows_of_table(const uint64_t *sources, size_t sources_len, const uint64_t *segments,
-                          size_t segments_len, const int64_t *times, size_t times_len, bool log,
+                          size_t segments_len, const int64_t *stamps, size_t stamps_len, bool log,
                           const uint8_t *text, size_t text_len, uint64_t *out_words, size_t out_words_len,
                           int64_t *out_shifts, size_t out_shifts_len, uint64_t *rows, uint64_t *index);
 

@@ -4,7 +4,7 @@ import glob
 import re
 from xml.sax.saxutils import escape
 
-from reading import ANSWERED, CLAIM
+from reading import ACCEPTED, ANSWERED, CLAIM
 from specs import CLAIMS, cited_by, declared, fail, fields
 
 EXAMPLES = ("audit", "Examples")
@@ -75,7 +75,7 @@ def clip():
     for level, (name, shift) in enumerate(maps.values()):
         drawing.text(at + 5, 66 + 90 * level, f"frame {last + frame - shift:,}", 12, colour="#b2182b")
     drawing.text(at, 34, f"frame {there:,} of original {source}", 13, "middle", "#b2182b", bold=True)
-    drawing.text(10, 328, "In a bar: frames of the original. Under it: frames of the map. Dashed: what the next cut keeps.", 11, colour=PALE)
+    drawing.text(10, 328, "In a bar: frames of the original. Under it: frames of the map. Dashed, grey: what the next cut keeps.", 11, colour=PALE)
     return drawing.done()
 
 
@@ -104,7 +104,7 @@ def questions():
     blocks = []
     for question, claims in ANSWERED.items():
         parts = []
-        for claim in claims:
+        for claim in [*claims, *ACCEPTED.get(question, {}).values()]:
             whole = f"{claim[3]}" if claim[1:3] == CLAIMS else f"{claim[3]} ({claim[1]})"
             inner = [(*claim[:3], f"{claim[3]}.{field}") for field in fields(declared(*claim[1:]))] if claim == CLAIM("Refusals") else [claim]
             for one in inner:
@@ -116,7 +116,7 @@ def questions():
         blocks.append((question, parts))
     height = 60 + sum(sum(16 * len(lines) + 16 for _, lines in parts) + 14 for _, parts in blocks)
     drawing, y = Drawing(720, height, "From question to claim to definition"), 44
-    for x, words in ((10, "Question"), (240, "Claim"), (470, "said in the words of")):
+    for x, words in ((10, "Question"), (240, "Claim"), (470, "Said in the words of")):
         drawing.text(x, 26, words, bold=True)
     for question, parts in blocks:
         tall = sum(16 * len(lines) + 16 for _, lines in parts) - 6
@@ -151,9 +151,9 @@ def trust():
     wrong = len(glob.glob("crates/*/must-fail/*.edit"))
     middle = [
         (None, [there("crates/*/src"), "the code, each function with its contract"]),
-        ("trusted", ["rattle's front end", "gives code and contracts their meaning"]),
+        ("trusted", ["Rattle's front end", "gives code and contracts their meaning"]),
         ("proved", [f"each function meets its contract; {calls} calls", f"and {exports} exports have what is claimed of them"]),
-        ("trusted", ["rattle's back end", "makes a module of the proved program"]),
+        ("trusted", ["Rattle's back end", "makes a module of the proved program"]),
         ("trusted", [f"clang, once more ({there('tools/native-staticlib')})", "makes machine code of the proved module"]),
         ("tested", ["libsegment_table.a", "as C and Rust call it"]),
         ("trusted", ["a program that links it: its linker, the C", "library's memmove and memset, the machine"]),
@@ -161,9 +161,9 @@ def trust():
     beside = {
         (0, 0): ("trusted", [there("docs/RULES.md"), "says in words what is right"]),
         (2, 0): ("trusted", [there("crates/*/specs"), "definitions and claims, which are read"]),
-        (1, 2): ("trusted", ["rattle's checker of proofs, and the kit's", "logic: docs/AUDIT.md, 'The toolchain'"]),
+        (1, 2): ("trusted", ["Rattle's checker of proofs, and the kit's", "logic: docs/AUDIT.md, 'The toolchain'"]),
         (2, 2): ("tested", [f"{wrong} wrong programs are refused", there("crates/*/must-fail")]),
-        (4, 0): ("tested", ["stored cases, as two compilers make it", there("crates/replay", "crates/*/stdin")]),
+        (3, 0): ("tested", ["stored cases, as two compilers make it", there("crates/replay", "crates/*/stdin")]),
         (4, 2): ("tested", ["the Rust beside it, on millions of inputs", there("compare/README.md")]),
         (5, 0): ("tested", [there("bindings/c/run", "bindings/c/stack"), there("bindings/rust") + ": cargo test"]),
         (5, 2): ("trusted", [there("include/segment_table.h", "bindings/rust"), "made by " + there("tools/header") + ", and compared"]),

@@ -12,7 +12,7 @@ LAW = lambda name: ("definition", "maps", "Laws", name)
 ANSWERED = {
     "1": [CLAIM("Origins.twice")],
     "2": [CLAIM("Origins.tiles"), CLAIM("Origins.one"), CLAIM("Answers"), LAW("Laws.origin_found")],
-    "3": [CLAIM("Refusals"), CLAIM("Ordering.ascends"), CLAIM("Ordering.keeps"), ("definition", "refusal", "Reasons", "number")],
+    "3": [CLAIM("Refusals"), CLAIM("Ordering.ascends"), CLAIM("Ordering.keeps"), CLAIM("Numbers")],
     "4": [CLAIM("Claims.differing")],
 }
 # What a definition answers some claim says in the rules' words: no reader needs to follow what it computes on the way.

@@ -145,7 +145,7 @@ def bound(code):
         names.update(group.split())
     for group in re.findall(r"λ ([^.]+)\. ", code):
         names.update(re.findall(r"[^\s():]+", group.split(" : ")[0]))
-    for left in re.findall(r"^(.*?) =(?: |$)", code, re.M):
+    for left in re.findall(r"^(.*?) =(?: |$)", re.sub(r"\n +(?== )", " ", code), re.M):  # a long left side has its `=` on the next line
         if not set(":→{").intersection(left):
             words = re.split(r"[\s()]+", left.strip())
             is_sign = any(not re.search(r"\w", word) for word in words if word)  # the name stands between the arguments

@@ -69,7 +69,7 @@ static void clock_calls(void) {
 }
 
 /* Table T of RULES 3.6: two sources of 100 and 50 frames at 25 fps, rows (A,10,30,0) and (B,5,20,30). */
-static uint64_t sources[20] = {100, 25, 1, 0, 0, 0, 0, 0, 0, 0, 50, 25, 1, 0, 0, 0, 0, 0, 0, 0};
+static uint64_t sources[26] = {100, 25, 1, 0, 0, 0, 0, 0, 0, 0, 0, 0, 0, 50, 25, 1, 0, 0, 0, 0, 0, 0, 0, 0, 0, 0};
 static uint64_t segments[10] = {0, 10, 30, 0, 0, 1, 5, 20, 30, 0};
 static int64_t times[14] = {0, 0, 1200000, 0, 0, 0, 0, 0, 1200000, 800000, 0, 0, 0, 0};
 
@@ -100,19 +100,20 @@ static void table_calls(void) {
     IS(x == 50 && at == 0);
 
     /* wrong lengths, no lengths */
-    REFUSED_AT(ST_MALFORMED, 0, st_check(sources, 19, segments, 10, times, 14, false, NULL, 0, &x, &at));
-    REFUSED_AT(ST_MALFORMED, 0, st_check(sources, 20, segments, 9, times, 14, false, NULL, 0, &x, &at));
-    REFUSED_AT(ST_MALFORMED, 0, st_check(sources, 20, segments, 10, times, 13, false, NULL, 0, &x, &at));
-    REFUSED_AT(ST_MALFORMED, 0, st_check(sources, 20, segments, 10, times, 7, false, NULL, 0, &x, &at));
-    REFUSED_AT(ST_MALFORMED, 0, st_check(sources, 20, segments, 10, NULL, 0, false, NULL, 0, &x, &at));
+    REFUSED_AT(ST_MALFORMED, 0, st_check(sources, 25, segments, 10, times, 14, false, NULL, 0, &x, &at));
+    REFUSED_AT(ST_MALFORMED, 0, st_check(sources, 26, segments, 9, times, 14, false, NULL, 0, &x, &at));
+    REFUSED_AT(ST_MALFORMED, 0, st_check(sources, 26, segments, 10, times, 13, false, NULL, 0, &x, &at));
+    REFUSED_AT(ST_MALFORMED, 0, st_check(sources, 26, segments, 10, times, 7, false, NULL, 0, &x, &at));
+    REFUSED_AT(ST_MALFORMED, 0, st_check(sources, 26, segments, 10, NULL, 0, false, NULL, 0, &x, &at));
     REFUSED_AT(ST_NO_SOURCES, 0, st_check(NULL, 0, NULL, 0, NULL, 0, false, NULL, 0, &x, &at));
     REFUSED_AT(ST_NO_SOURCES, 0, st_check(NULL, 0, segments, 10, times, 14, false, NULL, 0, &x, &at));
-    REFUSED_AT(ST_NO_SEGMENTS, 0, st_check(sources, 20, NULL, 0, NULL, 0, false, NULL, 0, &x, &at));
-    REFUSED_AT(ST_NO_CLOCK, 0, st_check(sources, 20, segments, 10, times, 14, true, NULL, 0, &x, &at));
+    REFUSED_AT(ST_NO_SEGMENTS, 0, st_check(sources, 26, NULL, 0, NULL, 0, false, NULL, 0, &x, &at));
+    REFUSED_AT(ST_NO_CLOCK, 0, st_check(sources, 26, segments, 10, times, 14, true, NULL, 0, &x, &at));
 
     /* the largest numbers */
-    REFUSED_AT(ST_MALFORMED, 0, with(&sources[13], MOST));
+    REFUSED_AT(ST_MALFORMED, 0, with(&sources[16], MOST));
     REFUSED_AT(ST_MALFORMED, 0, with(&sources[6], MOST));
+    REFUSED_AT(ST_MALFORMED, 0, with(&sources[11], MOST));
     REFUSED_AT(ST_MALFORMED, 0, with(&segments[4], MOST));
     sources[3] = 1, sources[4] = MOST, sources[5] = MOST;
     REFUSED_AT(ST_MALFORMED, 0, check());
@@ -171,7 +172,7 @@ static void list_calls(void) {
 
     /* the table is tested first */
     REFUSED_AT(ST_NO_SOURCES, 0, st_segments_of_frames(NULL, 0, NULL, 0, NULL, 0, false, NULL, 0, NULL, 0, NULL, 0, &x, &at));
-    REFUSED_AT(ST_MALFORMED, 0, st_segments_of_frames(sources, 19, segments, 10, times, 14, false, NULL, 0, across, 4, found, 3, &x, &at));
+    REFUSED_AT(ST_MALFORMED, 0, st_segments_of_frames(sources, 25, segments, 10, times, 14, false, NULL, 0, across, 4, found, 3, &x, &at));
     segments[8] = 31;
     REFUSED_AT(ST_FRAME_GAP, 1, st_segments_of_frames(T, NULL, 0, NULL, 0, &x, &at));
     REFUSED_AT(ST_FRAME_GAP, 1, OF_FRAMES(across, 4, 3));
@@ -208,7 +209,7 @@ static void record_calls(void) {
             r[k].src_start_us = t[0], r[k].out_start_us = t[1], r[k].duration_us = t[2], r[k].src_capture_start_us = t[3];
             r[k].out_capture_start_us = t[4], r[k].capture_duration_us = t[5], r[k].shift_present = false, r[k].clock_shift = t[6];
         }
-#define RECORDS(list, count, frame) st_segment_of_frame_records(sources, 20, NULL, 0, list, count, false, frame, &x, &at)
+#define RECORDS(list, count, frame) st_segment_of_frame_records(sources, 26, NULL, 0, list, count, false, frame, &x, &at)
         for (uint64_t frame = 0; frame < 60; frame++) {
             uint64_t words;
             ACCEPTED(st_segment_of_frame(T, frame, &x, &at));
@@ -220,8 +221,8 @@ static void record_calls(void) {
         IS(x == 1);
         REFUSED_AT(ST_NO_SEGMENTS, 0, RECORDS(NULL, 0, 0));
         REFUSED_AT(ST_NO_SOURCES, 0, st_segment_of_frame_records(NULL, 0, NULL, 0, r, 2, false, MOST, &x, &at));
-        REFUSED_AT(ST_MALFORMED, 0, st_segment_of_frame_records(sources, 19, NULL, 0, r, 2, false, 0, &x, &at));
-        REFUSED_AT(ST_NO_CLOCK, 0, st_segment_of_frame_records(sources, 20, NULL, 0, r, 2, true, 0, &x, &at));
+        REFUSED_AT(ST_MALFORMED, 0, st_segment_of_frame_records(sources, 25, NULL, 0, r, 2, false, 0, &x, &at));
+        REFUSED_AT(ST_NO_CLOCK, 0, st_segment_of_frame_records(sources, 26, NULL, 0, r, 2, true, 0, &x, &at));
         r[1].shift_present = true;
         REFUSED_AT(ST_BAD_SHIFT, 1, RECORDS(r, 2, 0));
         r[1].shift_present = false, r[1].capture_duration_us = INT64_MIN;
@@ -816,7 +817,7 @@ static void judge_calls(void) {
     REFUSED_AT(ST_TOO_LARGE, 0, st_validate_constant(T, 50, 25, 4294967296, &x, &at));
     REFUSED_AT(ST_NO_FRAME_TIME, 0, st_validate_constant(T, 50, 0, 1, &x, &at));
     REFUSED_AT(ST_OTHER_FRAME_TIME, 1, st_validate_constant(T, 50, 4294967295, 4294967295, &x, &at));
-    REFUSED_AT(ST_MALFORMED, 0, st_validate_constant(sources, 19, segments, 10, times, 14, false, NULL, 0, 50, 25, 1, &x, &at));
+    REFUSED_AT(ST_MALFORMED, 0, st_validate_constant(sources, 25, segments, 10, times, 14, false, NULL, 0, 50, 25, 1, &x, &at));
     ACCEPTED(st_validate_times(T, 25, starts, 50, 50, 1, &x, &at));
     IS(x == 50 && at == 0);
     REFUSED_AT(ST_OTHER_FRAME_COUNT, 0, st_validate_times(T, 25, NULL, 0, 50, 1, &x, &at));

@@ -255,11 +255,14 @@ fn small() -> Inputs {
 }
 
 /// A table of `n` segments of `each` frames at 25/1, from three sources without clocks
-fn table(n: u64, each: u64) -> Table {
+fn table(n: u64, each: u64) -> Table { table_of_sources(3, n, each) }
+
+/// The same from so many sources, each of which has a size and an origin
+fn table_of_sources(sources: u64, n: u64, each: u64) -> Table {
     let us = |frame: u64| (frame * 40_000) as i64;
     Table {
-        sources: [[n * each, 25, 1, 0, 0, 0, 0, 0, 0, 0]; 3].concat(),
-        segments: (0..n).flat_map(|k| [k % 3, k, each, k * each, 0]).collect(),
+        sources: (0..sources).flat_map(|k| [n * each, 25, 1, 0, 0, 0, 0, 0, 0, 0, 1 << 32, 1, k]).collect(),
+        segments: (0..n).flat_map(|k| [k % sources, k, each, k * each, 0]).collect(),
         times: (0..n).flat_map(|k| [us(k), us(k * each), us(each), us(k), us(k * each), us(each), 0]).collect(),
         ..Table::default()
     }
@@ -270,6 +273,12 @@ fn segments(n: u64) -> String { if n == 1 { "1 segment".into() } else { format!(
 
 fn tables() -> Inputs {
     let mut inputs = Inputs::new();
+    for sources in [1, 64, 256] {
+        let table = Lent::new(table_of_sources(sources, 512, 10));
+        let input = format!("{sources} source{}, 512 segments", if sources == 1 { "" } else { "s" });
+        inputs.push((input.clone(), Case::ValidateConstant { table: table.clone(), frames: 5120, num: 25, den: 1 }));
+        inputs.push((input, Case::Check { table }));
+    }
     for n in [1, 32, 512] {
         let table = Lent::new(table(n, 10));
         let (frames, room) = (n * 10, [n as usize * 5, n as usize]);
@@ -370,7 +379,7 @@ fn table_of(timestamps: &[i64], segments: usize) -> Table {
     let video = reference::mcraw::times(timestamps, &[n, n]).unwrap();
     let us = |ticks: i64| reference::numbers::microseconds(ticks as i128, video.scale).unwrap();
     let firsts: Vec<usize> = (0..segments).map(|k| k * n / segments).collect();
-    let mut table = Table { sources: vec![n as u64, 25, 1, 0, 0, 0, 0, 0, 0, 0], ..Table::default() };
+    let mut table = Table { sources: vec![n as u64, 25, 1, 0, 0, 0, 0, 0, 0, 0, 0, 0, 0], ..Table::default() };
     for (k, first) in firsts.iter().enumerate() {
         let next = firsts.get(k + 1).copied();
         let start = us(video.starts[*first]);

@@ -74,7 +74,10 @@ impl Call {
     }
 }
 
-/// A table as it is lent: sources of ten words, segments of five words and seven signed ones
+/// How many words a source has
+pub const SOURCE_WORDS: usize = 13;
+
+/// A table as it is lent: sources of thirteen words, segments of five words and seven signed ones
 #[derive(Clone, Debug, Default, Hash, PartialEq)]
 pub struct Table {
     pub sources: Vec<u64>,

@@ -2,7 +2,7 @@
 //! standard, broken headers and lists of cuts, each with its answer in the form of `text`.
 
 use std::rc::Rc;
-use crate::{ case::{ Case, Lent, Map, Table }, comparison, generate::{ moovs::{ self, Moov }, offsets::Offsets, tables, videos }, reference::boxes::code, text };
+use crate::{ case::{ Case, Lent, Map, SOURCE_WORDS, Table }, comparison, generate::{ moovs::{ self, Moov }, offsets::Offsets, tables, videos }, reference::boxes::code, text };
 
 pub type Worked = (Case, &'static str);
 
@@ -63,7 +63,7 @@ fn table() -> Vec<Worked> {
         (Case::Check { table: t.clone() }, "0 0 50"),
         (changed(|table| table.segments[8] = 31), "15 1"),
         (changed(|table| table.segments[1] = 71), "12 0"),
-        (changed(|table| table.sources[10] = 0), "4 1"),
+        (changed(|table| table.sources[SOURCE_WORDS] = 0), "4 1"),
         (time(-5), "0 0 0"),
         (time(1_200_000), "0 0 1"),
         (Case::RowsOfTable { table: t.clone(), room: [10, 2] }, "0 0 2 0 10 30 0 0 1 5 20 30 0 0 0"),
@@ -330,7 +330,7 @@ const HEAD: [Shown; 2] = [(0, 1500, 40000, 0, None), (1, 12000, 10000, 40000, So
 const TAIL: [Shown; 2] = [(1, 22000, 28500, 0, Some(-1800)), (2, 0, 30000, 28500, None)];
 
 fn clip_table() -> Table {
-    let source = |frames, clock: [u64; 4]| [&[frames, 25, 1, 0, 0, 0][..], &clock].concat();
+    let source = |frames, clock: [u64; 4]| [&[frames, 25, 1, 0, 0, 0][..], &clock, &[0; 3]].concat();
     Table {
         sources: [source(90000, [0; 4]), source(60000, [1, 1_000_000, 1, 0]), source(45000, [0; 4])].concat(),
         segments: map(&CLIP).words,

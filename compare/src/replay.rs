@@ -1,7 +1,7 @@
 //! A fixed list of cases with their answers: the stored run of the program `replay`, which reads files of cases and prints.
 
 use std::{ collections::BTreeMap, fs, io, path::Path, process::exit };
-use crate::{ case::{ Answer, Call, Case, Part }, comparison, document, generate::{ self, tables }, random::Random, rust::{ self, Said, Way }, text };
+use crate::{ case::{ Answer, Call, Case, Part, SOURCE_WORDS }, comparison, document, generate::{ self, tables }, random::Random, rust::{ self, Said, Way }, text };
 
 /// The files, in the order in which they are answered, and the calls of each
 const FILES: [(&str, &[Call]); 7] = [
@@ -20,7 +20,7 @@ const LINE: usize = 600;
 /// The most words, bytes and sources' words of a stored case
 const WORDS: usize = 64;
 const BYTES: usize = 512;
-const SOURCES: usize = 650;
+const SOURCES: usize = 257 * SOURCE_WORDS;
 /// How many random turns are looked through
 const TURNS: usize = 40_000;
 
@@ -91,7 +91,7 @@ fn chosen(call: Call) -> Vec<(String, String, bool)> {
         let way = rust::way(&case);
         let taken = taken.entry((answer.number, answer.values[0] == 0, answer.index == 0, way)).or_default();
         let wanted = if answer.number == 0 { wanted(call, way).0 } else { wanted(call, way).1 };
-        let longer = match case { Case::VideoFrameTimesOfMoov { .. } => 300, _ if answer.number == 2 && *taken == 0 => 1400, _ => 0 };
+        let longer = match case { Case::VideoFrameTimesOfMoov { .. } => 300, _ if answer.number == 2 && *taken == 0 => 7400, _ => 0 };
         if worked || *taken < wanted && line.len() <= LINE + longer {
             *taken += 1;
             lines.push((line, text::answer_line(call, &answer), way != Some(Way::Moved) && by_rust(&case, &answer)));

@@ -4,7 +4,7 @@ mod standard;
 
 use std::{ fmt::Write, panic::{ AssertUnwindSafe, catch_unwind }, sync::atomic::{ AtomicBool, Ordering } };
 use oracle::segment_table::{ Found, SegmentTable, VideoFrameTimes, VideoFrames, reach };
-use crate::case::{ Answer, Case, Lent, Table };
+use crate::case::{ Answer, Case, Lent, SOURCE_WORDS, Table };
 use crate::reference::{ GREATEST_SCALE, MOST_BYTES, Refusal, table };
 pub use standard::Way;
 
@@ -174,7 +174,16 @@ fn of_table(lent: &Lent, answer: impl Fn(&SegmentTable) -> Said) -> Said {
 
 fn parse(table: &Table) -> Result<Result<SegmentTable, Refusal>, Unasked> {
     let text = json(table)?;
-    Ok(SegmentTable::parse(text.as_bytes()).map_err(|message| refusal(&message)))
+    let parsed = SegmentTable::parse(text.as_bytes()).map_err(|message| refusal(&message));
+    if let Ok(parsed) = &parsed {
+        let read = parsed.sources.iter().map(|s| [s.size, s.zcam_imu_origin_us().is_some() as u64, s.zcam_imu_origin_us().unwrap_or(0)]);
+        let lent = table.sources.chunks(SOURCE_WORDS).map(|s| [s[10], s[11], s[11] * s[12]]);
+        if !read.eq(lent) {
+            eprintln!("compare: the Rust reads other sizes or origins than were lent, of {text}");
+            std::process::exit(1);
+        }
+    }
+    Ok(parsed)
 }
 
 /// The table as the document that `parse` reads
@@ -192,9 +201,23 @@ pub fn json(lent: &Table) -> Result<String, Unasked> {
     Ok(text)
 }
 
+/// How a document says that no origin is known: without the member, or with one that isn't a whole number
+const UNKNOWN: [&str; 10] = [
+    "",
+    ",\"zcam_imu_origin_us\":null",
+    ",\"zcam_imu_origin_us\":-1",
+    ",\"zcam_imu_origin_us\":1.5",
+    ",\"zcam_imu_origin_us\":1.0",
+    ",\"zcam_imu_origin_us\":1e3",
+    ",\"zcam_imu_origin_us\":18446744073709551616",
+    ",\"zcam_imu_origin_us\":\"1\"",
+    ",\"zcam_imu_origin_us\":true",
+    ",\"zcam_imu_origin_us\":[1]",
+];
+
 fn source_json(text: &mut String, k: usize, s: &table::Source) -> Option<()> {
     if k > 0 { text.push(','); }
-    write!(text, "{{\"name\":\"\",\"size\":0,\"frames\":{},\"fps\":[{},{}],\"creation_time\":", s.frames, s.fps.0, s.fps.1).unwrap();
+    write!(text, "{{\"name\":\"\",\"size\":{},\"frames\":{},\"fps\":[{},{}],\"creation_time\":", s.size, s.frames, s.fps.0, s.fps.1).unwrap();
     match &s.creation_time {
         None => *text += "null",
         Some(bytes) => quoted(text, std::str::from_utf8(bytes).ok()?),
@@ -207,6 +230,10 @@ fn source_json(text: &mut String, k: usize, s: &table::Source) -> Option<()> {
             match clock.modulus { None => *text += "null", Some(m) => write!(text, "{m}").unwrap() }
             text.push('}');
         }
+    }
+    match s.origin {
+        Ok(origin) => write!(text, ",\"zcam_imu_origin_us\":{origin}").unwrap(),
+        Err(word) => *text += UNKNOWN[word as usize % UNKNOWN.len()],
     }
     text.push('}');
     Some(())

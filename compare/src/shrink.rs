@@ -1,7 +1,7 @@
 //! Makes a case that differs smaller, as long as it still differs.
 
 use std::{ ops::Range, time::{ Duration, Instant } };
-use crate::{ case::{ Case, Lent, Map, Part, Table }, reference::boxes::{ number, walk } };
+use crate::{ case::{ Case, Lent, Map, Part, SOURCE_WORDS, Table }, reference::boxes::{ number, walk } };
 
 /// How long a smaller case is looked for
 const TIME: Duration = Duration::from_secs(20);
@@ -147,7 +147,7 @@ fn moved(map: &Map, k: usize, frames: u64) -> Map {
 /// Tables: a segment taken out and those after it moved, a source taken out, the text; then any word alone
 fn tables(table: Table) -> Smaller<'static, Table> {
     let segments = if table.has_records() { table.segments.len() / 5 } else { 0 };
-    let sources = table.sources.len() / 10;
+    let sources = table.sources.len() / SOURCE_WORDS;
     let (a, b, c, d, e) = (table.clone(), table.clone(), table.clone(), table.clone(), table.clone());
     let by_segment = (0..segments).rev().map(move |k| without_segment(&a, k));
     let by_source = (0..sources).rev().map(move |k| without_source(&b, k));
@@ -174,7 +174,7 @@ fn without_segment(table: &Table, k: usize) -> Table {
 
 fn without_source(table: &Table, k: usize) -> Table {
     let mut t = table.clone();
-    t.sources.drain(k * 10..k * 10 + 10);
+    t.sources.drain(k * SOURCE_WORDS..(k + 1) * SOURCE_WORDS);
     for words in t.segments.chunks_exact_mut(5).filter(|w| w[0] > k as u64) { words[0] -= 1; }
     t
 }

@@ -16,7 +16,7 @@ pub struct Origin {
     pub shift: i64,
 }
 
-/// A segment as one record (RULES 1.6), with its times in microseconds: the Rust's TrimSegment.
+/// A segment as one record, with its times in microseconds: the Rust's TrimSegment.
 #[repr(C)]
 #[derive(Clone, Copy, Debug, Default, PartialEq, Eq)]
 pub struct TrimSegment {
@@ -94,18 +94,18 @@ extern "C" {
     /// Judges a table where its file has no video: it is always refused.
     /// Lent: a table. Writes index. Refuses: 1 to 17, 21.
     /// A null pointer only with length 0.
-    pub fn st_validate_no_video(sources: *const u64, sources_len: usize, segments: *const u64, segments_len: usize, times: *const i64, times_len: usize, log: bool, text: *const u8, text_len: usize, index: *mut u64) -> u64;
+    pub fn st_validate_no_video(sources: *const u64, sources_len: usize, segments: *const u64, segments_len: usize, stamps: *const i64, stamps_len: usize, log: bool, text: *const u8, text_len: usize, index: *mut u64) -> u64;
 
     /// Judges a table by a video of video_frames frames at numerator / denominator a second: its frame
     /// total. Lent: a table. Writes frames, index. Refuses: 1 to 17, 20, 22, 23 with 24, 25.
     /// A null pointer only with length 0.
-    pub fn st_validate_constant(sources: *const u64, sources_len: usize, segments: *const u64, segments_len: usize, times: *const i64, times_len: usize, log: bool, text: *const u8, text_len: usize, video_frames: u64, numerator: u64, denominator: u64, frames: *mut u64, index: *mut u64) -> u64;
+    pub fn st_validate_constant(sources: *const u64, sources_len: usize, segments: *const u64, segments_len: usize, stamps: *const i64, stamps_len: usize, log: bool, text: *const u8, text_len: usize, video_frames: u64, numerator: u64, denominator: u64, frames: *mut u64, index: *mut u64) -> u64;
 
     /// Judges a table by a video's frame times, in ticks of scale a second: its frame total. The last
     /// frame ends at end. Lent: a table, the starts. Writes frames, index. Refuses: 1 to 17, 20, 22, 23
     /// with 24, 25.
     /// A null pointer only with length 0.
-    pub fn st_validate_times(sources: *const u64, sources_len: usize, segments: *const u64, segments_len: usize, times: *const i64, times_len: usize, log: bool, text: *const u8, text_len: usize, scale: u64, starts: *const i64, starts_len: usize, end: i64, nominal: i64, frames: *mut u64, index: *mut u64) -> u64;
+    pub fn st_validate_times(sources: *const u64, sources_len: usize, segments: *const u64, segments_len: usize, stamps: *const i64, stamps_len: usize, log: bool, text: *const u8, text_len: usize, scale: u64, starts: *const i64, starts_len: usize, end: i64, nominal: i64, frames: *mut u64, index: *mut u64) -> u64;
 
     /// Judges a table by the timestamps of a MotionCam recording's frames, in nanoseconds: its frame
     /// total. One timestamp is judged as one frame at the rate of segment 0's source.
@@ -113,7 +113,7 @@ extern "C" {
     /// timestamp, of any length). Writes both working slices (all 0), frames, index. Refuses: 1 to 17,
     /// 30, 35, 34, 33, 32, 35, 33, 20, 22, 23 with 24, 25.
     /// A null pointer only with length 0; what is written overlaps nothing else, or memory may be corrupted.
-    pub fn st_check_mcraw(sources: *const u64, sources_len: usize, segments: *const u64, segments_len: usize, times: *const i64, times_len: usize, log: bool, text: *const u8, text_len: usize, timestamps: *const i64, timestamps_len: usize, first_work: *mut i64, first_work_len: usize, second_work: *mut i64, second_work_len: usize, frames: *mut u64, index: *mut u64) -> u64;
+    pub fn st_check_mcraw(sources: *const u64, sources_len: usize, segments: *const u64, segments_len: usize, stamps: *const i64, stamps_len: usize, log: bool, text: *const u8, text_len: usize, timestamps: *const i64, timestamps_len: usize, first_work: *mut i64, first_work_len: usize, second_work: *mut i64, second_work_len: usize, frames: *mut u64, index: *mut u64) -> u64;
 
     /// The segment of a frame, over a list of records instead of words; the answer is
     /// st_segment_of_frame's. Lent: the sources' words, the text, the records. Writes segment, index.
@@ -151,35 +151,35 @@ extern "C" {
     /// Checks a table: its frame total.
     /// Lent: a table. Writes frames, index. Refuses: 1 to 17.
     /// A null pointer only with length 0.
-    pub fn st_check(sources: *const u64, sources_len: usize, segments: *const u64, segments_len: usize, times: *const i64, times_len: usize, log: bool, text: *const u8, text_len: usize, frames: *mut u64, index: *mut u64) -> u64;
+    pub fn st_check(sources: *const u64, sources_len: usize, segments: *const u64, segments_len: usize, stamps: *const i64, stamps_len: usize, log: bool, text: *const u8, text_len: usize, frames: *mut u64, index: *mut u64) -> u64;
 
     /// The segment of a frame: the number of segments that end at or before it, at most the last index.
     /// Lent: a table. Writes segment, index. Refuses: 1 to 17.
     /// A null pointer only with length 0.
-    pub fn st_segment_of_frame(sources: *const u64, sources_len: usize, segments: *const u64, segments_len: usize, times: *const i64, times_len: usize, log: bool, text: *const u8, text_len: usize, frame: u64, segment: *mut u64, index: *mut u64) -> u64;
+    pub fn st_segment_of_frame(sources: *const u64, sources_len: usize, segments: *const u64, segments_len: usize, stamps: *const i64, stamps_len: usize, log: bool, text: *const u8, text_len: usize, frame: u64, segment: *mut u64, index: *mut u64) -> u64;
 
     /// The segment of each frame of a list, in any order: what st_segment_of_frame answers of it. The
     /// table is checked once, also for an empty list. The frames and out_segments may not be one array.
     /// Lent: a table, the frames, and room for one index a frame. Writes out_segments, written (how
     /// many), index. Refuses: 1 to 17, 32.
     /// A null pointer only with length 0; what is written overlaps nothing else, or memory may be corrupted.
-    pub fn st_segments_of_frames(sources: *const u64, sources_len: usize, segments: *const u64, segments_len: usize, times: *const i64, times_len: usize, log: bool, text: *const u8, text_len: usize, frames: *const u64, frames_len: usize, out_segments: *mut u64, out_segments_len: usize, written: *mut u64, index: *mut u64) -> u64;
+    pub fn st_segments_of_frames(sources: *const u64, sources_len: usize, segments: *const u64, segments_len: usize, stamps: *const i64, stamps_len: usize, log: bool, text: *const u8, text_len: usize, frames: *const u64, frames_len: usize, out_segments: *mut u64, out_segments_len: usize, written: *mut u64, index: *mut u64) -> u64;
 
     /// The segment of a time in microseconds: the number of segments that end at or before it, at most
     /// the last index. Lent: a table. Writes segment, index. Refuses: 1 to 17.
     /// A null pointer only with length 0.
-    pub fn st_segment_of_time_us(sources: *const u64, sources_len: usize, segments: *const u64, segments_len: usize, times: *const i64, times_len: usize, log: bool, text: *const u8, text_len: usize, time: i64, segment: *mut u64, index: *mut u64) -> u64;
+    pub fn st_segment_of_time_us(sources: *const u64, sources_len: usize, segments: *const u64, segments_len: usize, stamps: *const i64, stamps_len: usize, log: bool, text: *const u8, text_len: usize, time: i64, segment: *mut u64, index: *mut u64) -> u64;
 
     /// Whether a segment continues the one before it: the same source, source frames that run on, equal
     /// shift. Answers 1 or 0, and 0 for the first segment and for one that isn't there. Lent: a table.
     /// Writes answer, index. Refuses: 1 to 17.
     /// A null pointer only with length 0.
-    pub fn st_continues(sources: *const u64, sources_len: usize, segments: *const u64, segments_len: usize, times: *const i64, times_len: usize, log: bool, text: *const u8, text_len: usize, segment: u64, answer: *mut u64, index: *mut u64) -> u64;
+    pub fn st_continues(sources: *const u64, sources_len: usize, segments: *const u64, segments_len: usize, stamps: *const i64, stamps_len: usize, log: bool, text: *const u8, text_len: usize, segment: u64, answer: *mut u64, index: *mut u64) -> u64;
 
     /// The map of an accepted table: one row a segment, an absent shift as 0. Lent: a table, and room
     /// for the rows. Writes the rows, rows (how many), index. Refuses: 1 to 17, 32.
     /// A null pointer only with length 0; what is written overlaps nothing else, or memory may be corrupted.
-    pub fn st_rows_of_table(sources: *const u64, sources_len: usize, segments: *const u64, segments_len: usize, times: *const i64, times_len: usize, log: bool, text: *const u8, text_len: usize, out_words: *mut u64, out_words_len: usize, out_shifts: *mut i64, out_shifts_len: usize, rows: *mut u64, index: *mut u64) -> u64;
+    pub fn st_rows_of_table(sources: *const u64, sources_len: usize, segments: *const u64, segments_len: usize, stamps: *const i64, stamps_len: usize, log: bool, text: *const u8, text_len: usize, out_words: *mut u64, out_words_len: usize, out_shifts: *mut i64, out_shifts_len: usize, rows: *mut u64, index: *mut u64) -> u64;
 
     /// The size of the box at the start of data, and of its header, where `remaining` bytes are left of
     /// what it is in. Lent: the bytes at hand. Writes size, header, index. Refuses: 30, 31.
@@ -223,7 +223,7 @@ pub enum Reason {
     /// A slice length is no multiple of its record, the two segment slices disagree, a flag or kind
     /// is outside its set, or a present creation time's range leaves the text.
     Malformed = 1,
-    /// There are over 64 sources or over 512 segments.
+    /// There are over 256 sources or over 512 segments.
     OverLimit = 2,
     /// There are no sources.
     NoSources = 3,
@@ -318,7 +318,7 @@ impl Reason {
     pub const fn words(self) -> &'static str {
         match self {
             Reason::Malformed => "a slice length is no multiple of its record, the two segment slices disagree, a flag or kind is outside its set, or a present creation time's range leaves the text",
-            Reason::OverLimit => "there are over 64 sources or over 512 segments",
+            Reason::OverLimit => "there are over 256 sources or over 512 segments",
             Reason::NoSources => "there are no sources",
             Reason::ZeroInSource => "the source has 0 frames, or a 0 in its frames a second",
             Reason::BadDate => "the source's creation time fails the UTC rule",

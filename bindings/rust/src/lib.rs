@@ -44,14 +44,14 @@ use std::fmt;
 /// let refusal = segment_table::ticks_to_us(1, 0).unwrap_err();
 /// assert_eq!((refusal.number, refusal.index), (23, 0));
 /// assert_eq!(refusal.reason(), Some(segment_table::Reason::NoFrameTime));
-/// assert_eq!(refusal.words(), "a time can't be had: scale 0, or outside 64 bits; of a table, a segment's frame time");
+/// assert_eq!(refusal.words(), "a time can't be had: its scale is 0, or it is outside 64 bits");
 /// assert_eq!(refusal.to_string(), format!("refused 23 at 0: {}", refusal.words()));
 /// ```
 #[derive(Clone, Copy, Debug, PartialEq, Eq, Hash)]
 pub struct Refusal {
     /// Which refusal it is: the number of a [`Reason`].
     pub number: u64,
-    /// The source, segment, row, range or timestamp that is refused, or a broken header's offset, by the number; 0 where there
+    /// The source, segment, row, range, timestamp or frame of a list that is refused, or a broken header's offset, by the number; 0 where there
     /// is none.
     pub index: u64,
 }
@@ -81,7 +81,7 @@ impl std::error::Error for Refusal {}
 /// Its words.
 ///
 /// ```
-/// assert_eq!(segment_table::Reason::NoSegments.to_string(), "no segments");
+/// assert_eq!(segment_table::Reason::NoSegments.to_string(), "there are no segments");
 /// ```
 impl fmt::Display for Reason {
     fn fmt(&self, f: &mut fmt::Formatter<'_>) -> fmt::Result {

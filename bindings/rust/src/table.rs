@@ -11,7 +11,7 @@ pub struct Clock {
 }
 
 /// A recording that frames come from.
-#[derive(Clone, Debug, PartialEq, Eq, Hash)]
+#[derive(Clone, Debug, Default, PartialEq, Eq, Hash)]
 pub struct Source {
     /// How many frames it has.
     pub frames: u64,
@@ -21,6 +21,10 @@ pub struct Source {
     pub creation_time: Option<String>,
     /// The clock that its segments' shifts count in.
     pub clock: Option<Clock>,
+    /// How many bytes its file has. No answer rests on it.
+    pub size: u64,
+    /// The origin of its IMU's clock in microseconds, where a Z CAM gives it. No answer rests on it.
+    pub zcam_imu_origin_us: Option<u64>,
 }
 
 /// A run of frames of one source, with its times in microseconds.
@@ -56,7 +60,7 @@ pub struct Segment {
 /// ```
 /// use segment_table::{Segment, Source, Table};
 ///
-/// let source = |frames| Source { frames, fps: (25, 1), creation_time: None, clock: None };
+/// let source = |frames| Source { frames, fps: (25, 1), ..Source::default() };
 /// let segments = [
 ///     Segment { source: 0, src_first_frame: 10, frame_count: 30, duration_us: 1_200_000, ..Segment::default() },
 ///     Segment {
@@ -95,8 +99,11 @@ macro_rules! lent {
     };
 }
 
+/// How many words a source has.
+const SOURCE_WORDS: usize = 13;
+
 /// The sources and the segments that a table may have, and the bytes of a creation time.
-const MOST_SOURCES: usize = 64;
+const MOST_SOURCES: usize = 256;
 const MOST_SEGMENTS: usize = 512;
 const TIME_BYTES: usize = 20;
 
@@ -105,17 +112,18 @@ fn first_of<T>(all: &[T], most: usize) -> &[T] {
     &all[..all.len().min(most + 1)]
 }
 
-/// The words of sources, ten each, and the bytes of their creation times; of too many or too long ones only what is refused alike.
+/// The words of sources, thirteen each, and the bytes of their creation times; of too many or too long ones only what is refused alike.
 fn words_of(sources: &[Source]) -> (Vec<u64>, Vec<u8>) {
     let sources = first_of(sources, MOST_SOURCES);
     let mut text = Vec::new();
-    let mut words = Vec::with_capacity(10 * sources.len());
+    let mut words = Vec::with_capacity(SOURCE_WORDS * sources.len());
     for s in sources {
         let time = first_of(s.creation_time.as_deref().unwrap_or("").as_bytes(), TIME_BYTES);
         let clock = s.clock.unwrap_or(Clock { rate: (0, 0), modulus: None });
         let kind = s.clock.map_or(0, |c| if c.modulus.is_some() { 2 } else { 1 });
         words.extend([s.frames, s.fps.0, s.fps.1, s.creation_time.is_some() as u64, text.len() as u64, time.len() as u64]);
         words.extend([kind, clock.rate.0, clock.rate.1, clock.modulus.unwrap_or(0)]);
+        words.extend([s.size, s.zcam_imu_origin_us.is_some() as u64, s.zcam_imu_origin_us.unwrap_or(0)]);
         text.extend(time);
     }
     (words, text)
@@ -127,7 +135,7 @@ fn words_of(sources: &[Source]) -> (Vec<u64>, Vec<u8>) {
 /// ```
 /// use segment_table::{segment_of_frame_records, Source, TrimSegment};
 ///
-/// let source = Source { frames: 100, fps: (25, 1), creation_time: None, clock: None };
+/// let source = Source { frames: 100, fps: (25, 1), ..Source::default() };
 /// let first = TrimSegment { frame_count: 30, duration_us: 1_200_000, ..TrimSegment::default() };
 /// let second = TrimSegment { frame_count: 20, out_first_frame: 30, out_start_us: 1_200_000, ..TrimSegment::default() };
 /// assert_eq!(segment_of_frame_records(&[source.clone()], &[first, second], false, 30), Ok(1));
@@ -157,11 +165,11 @@ impl Table {
         Table::from_words(words, rows.collect(), times.collect(), log, text)
     }
 
-    /// Checks a table as it is lent: ten words a source, five words and seven times a segment, and the bytes of creation
+    /// Checks a table as it is lent: thirteen words a source, five words and seven times a segment, and the bytes of creation
     /// times. Refuses 1 to 17.
     ///
     /// ```
-    /// assert_eq!(segment_table::Table::from_words(vec![1; 9], vec![], vec![], false, vec![]).unwrap_err().number, 1);
+    /// assert_eq!(segment_table::Table::from_words(vec![1; 12], vec![], vec![], false, vec![]).unwrap_err().number, 1);
     /// ```
     pub fn from_words(sources: Vec<u64>, segments: Vec<u64>, times: Vec<i64>, log: bool, text: Vec<u8>) -> Result<Table, Refusal> {
         let mut table = Table { sources, segments, times, log, text, frames: 0 };
@@ -177,7 +185,7 @@ impl Table {
     /// looks at the rest, and equality and hash must not.
     fn clean(&mut self) {
         let mut text = Vec::new();
-        for source in self.sources.chunks_exact_mut(10) {
+        for source in self.sources.chunks_exact_mut(SOURCE_WORDS) {
             if source[3] == 0 { source[4..6].fill(0) } // the creation time's offset and length
             else {
                 let (at, length) = (source[4] as usize, source[5] as usize);
@@ -189,6 +197,7 @@ impl Table {
                 1 => source[9] = 0,
                 _ => {}
             }
+            if source[11] == 0 { source[12] = 0 } // the origin
         }
         for (words, times) in self.segments.chunks_exact(5).zip(self.times.chunks_exact_mut(7)) {
             if words[4] == 0 { times[6] = 0 } // the shift
@@ -216,7 +225,7 @@ impl Table {
     ///
     /// ```
     /// # use segment_table::{Segment, Source, Table};
-    /// # let source = Source { frames: 100, fps: (25, 1), creation_time: None, clock: None };
+    /// # let source = Source { frames: 100, fps: (25, 1), ..Source::default() };
     /// # let first = Segment { src_first_frame: 10, frame_count: 30, ..Segment::default() };
     /// # let second = Segment { src_first_frame: 5, frame_count: 20, out_first_frame: 30, ..Segment::default() };
     /// # let table = Table::new(&[source], &[first, second], false)?;

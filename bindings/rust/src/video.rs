@@ -23,7 +23,7 @@ impl Table {
     /// ```
     /// use segment_table::{FrameTimes, Segment, Source, Table, Video};
     ///
-    /// let source = Source { frames: 100, fps: (25, 1), creation_time: None, clock: None };
+    /// let source = Source { frames: 100, fps: (25, 1), ..Source::default() };
     /// let segment = Segment { frame_count: 3, duration_us: 120_000, ..Segment::default() };
     /// let table = Table::new(&[source], &[segment], false)?;
     /// assert_eq!(table.validate(Video::Constant { frames: 3, fps: (25, 1) }), Ok(3));
@@ -51,7 +51,7 @@ impl Table {
     ///
     /// ```
     /// # use segment_table::{Segment, Source, Table};
-    /// # let source = Source { frames: 100, fps: (25, 1), creation_time: None, clock: None };
+    /// # let source = Source { frames: 100, fps: (25, 1), ..Source::default() };
     /// # let segment = Segment { frame_count: 3, duration_us: 120_000, ..Segment::default() };
     /// # let table = Table::new(&[source], &[segment], false)?;
     /// assert_eq!(table.check_mcraw(&[7_000_000, 47_000_000, 87_000_000]), Ok(3));

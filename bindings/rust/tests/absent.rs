@@ -10,8 +10,11 @@ fn hash(table: &Table) -> u64 {
 }
 
 /// A table of one segment, whose source has this creation time, clock and shift.
-fn table(created: [u64; 3], clock: [u64; 4], flag: u64, shift: i64) -> Table {
-    let source = [&[100, 25, 1][..], &created, &clock].concat();
+fn table(created: [u64; 3], clock: [u64; 4], flag: u64, shift: i64) -> Table { of_origin(created, clock, flag, shift, [0, 0, 0]) }
+
+/// The same with this size and origin.
+fn of_origin(created: [u64; 3], clock: [u64; 4], flag: u64, shift: i64, origin: [u64; 3]) -> Table {
+    let source = [&[100, 25, 1][..], &created, &clock, &origin].concat();
     let times = vec![0, 0, 400_000, 0, 0, 400_000, shift];
     Table::from_words(source, vec![0, 0, 10, 0, flag], times, false, b"2024-11-17T13:12:46Z".to_vec()).unwrap()
 }
@@ -30,6 +33,7 @@ fn words_of_what_is_absent_make_no_difference() {
     same(table(no_time, [0, 1, 2, 3], 0, 0), plain());
     same(table(no_time, no_clock, 0, i64::MIN), plain());
     same(table(no_time, [1, 90_000, 1, 5], 1, 8), table(no_time, [1, 90_000, 1, 0], 1, 8));
+    same(of_origin(no_time, no_clock, 0, 0, [0, 0, 7]), plain());
 }
 
 #[test]
@@ -43,6 +47,9 @@ fn words_of_what_is_there_do() {
         table(no_time, [1, 90_000, 2, 0], 1, 8),
         table(no_time, [2, 90_000, 1, 9], 1, 8),
         table(no_time, [2, 90_000, 1, 10], 1, 8),
+        of_origin(no_time, no_clock, 0, 0, [1, 0, 0]),
+        of_origin(no_time, no_clock, 0, 0, [0, 1, 0]),
+        of_origin(no_time, no_clock, 0, 0, [0, 1, 5]),
     ];
     for (k, a) in differing.iter().enumerate() {
         for b in &differing[..k] { assert_ne!(a, b); }
@@ -53,7 +60,7 @@ fn words_of_what_is_there_do() {
 #[test]
 fn only_creation_times_count_of_the_text() {
     let table = |at: u64, text: &str| {
-        let source = vec![100, 25, 1, 1, at, 20, 0, 0, 0, 0];
+        let source = vec![100, 25, 1, 1, at, 20, 0, 0, 0, 0, 0, 0, 0];
         Table::from_words(source, vec![0, 0, 10, 0, 0], vec![0; 7], false, text.as_bytes().to_vec()).unwrap()
     };
     same(table(3, "?? 2024-11-17T13:12:46Z!"), table(0, "2024-11-17T13:12:46Z"));
@@ -64,10 +71,10 @@ fn only_creation_times_count_of_the_text() {
 /// A source without a creation time has no place in the text, wherever it stands in the list.
 #[test]
 fn a_table_of_records_is_that_of_its_words() {
-    let source = |creation_time| Source { frames: 100, fps: (25, 1), creation_time, clock: None };
+    let source = |creation_time| Source { frames: 100, fps: (25, 1), creation_time, ..Source::default() };
     let sources = [source(Some("2024-11-17T13:12:46Z".into())), source(None)];
     let segment = Segment { source: 1, frame_count: 10, ..Segment::default() };
-    let words = vec![100, 25, 1, 1, 0, 20, 0, 0, 0, 0, 100, 25, 1, 0, 0, 0, 0, 0, 0, 0];
+    let words = vec![100, 25, 1, 1, 0, 20, 0, 0, 0, 0, 0, 0, 0, 100, 25, 1, 0, 0, 0, 0, 0, 0, 0, 0, 0, 0];
     let lent = Table::from_words(words, vec![1, 0, 10, 0, 0], vec![0; 7], false, b"2024-11-17T13:12:46Z".to_vec());
     same(Table::new(&sources, &[segment], false).unwrap(), lent.unwrap());
 }

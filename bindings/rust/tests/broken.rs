@@ -119,7 +119,7 @@ fn a_large_file() {
 /// A moov of as many bytes as the call takes, of one more, and of 5 GB
 #[test]
 fn a_large_moov() {
-    let too_long = "refused 30, over 16,777,216 bytes or timestamps";
+    let too_long = "refused 30, over 16,777,216 bytes or timestamps are lent";
     for (length, expected) in [(16_777_216, NO_TIMES), (16_777_217, too_long), (5_000_000_000, too_long)] {
         let (temporary, mut file) = Temporary::new("moov");
         file.write_all(&wide_header(b"moov", 16 + length)).unwrap();

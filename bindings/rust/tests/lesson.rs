@@ -6,7 +6,7 @@ fn row(source: u64, source_first: u64, count: u64, out_first: u64) -> Row {
 }
 
 fn table() -> Table {
-    let source = |frames| Source { frames, fps: (25, 1), creation_time: None, clock: None };
+    let source = |frames| Source { frames, fps: (25, 1), ..Source::default() };
     let first = Segment { src_first_frame: 10, frame_count: 30, duration_us: 1_200_000, ..Segment::default() };
     let second = Segment {
         source: 1, src_first_frame: 5, frame_count: 20, out_first_frame: 30,

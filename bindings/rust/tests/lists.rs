@@ -3,7 +3,7 @@ use segment_table::{Segment, Source, Table};
 
 /// As many segments as a table may have, of one frame to five.
 fn table() -> Table {
-    let source = Source { frames: 5, fps: (25, 1), creation_time: None, clock: None };
+    let source = Source { frames: 5, fps: (25, 1), ..Source::default() };
     let mut segments = [Segment::default(); 512];
     let mut end = 0;
     for (k, s) in (0..).zip(&mut segments) {

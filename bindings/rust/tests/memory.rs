@@ -120,20 +120,20 @@ fn maps() {
 
 #[test]
 fn tables() {
-    let source = Source { frames: 100, fps: (25, 1), creation_time: None, clock: None };
+    let source = Source { frames: 100, fps: (25, 1), ..Source::default() };
     let segment = Segment { frame_count: 1, ..Segment::default() };
     let late = Source { creation_time: Some("2024-11-17T13:12:46Z".repeat(10_000)), ..source.clone() };
-    let (sources, segments, late) = (vec![late.clone(); 100], vec![segment; 100_000], [late]);
-    refused(2, 0, 10_000, || Table::new(&sources, &[segment], false));
-    refused(2, 0, 513 * 12 * 8 + 80, || Table::new(&[source], &segments, false));
+    let (sources, segments, late) = (vec![late.clone(); 300], vec![segment; 100_000], [late]);
+    refused(2, 0, 40_000, || Table::new(&sources, &[segment], false));
+    refused(2, 0, 513 * 12 * 8 + 13 * 8, || Table::new(&[source], &segments, false));
     refused(5, 0, 1000, || Table::new(&late, &[segment], false));
-    refused(2, 0, 10_000, || segment_of_frame_records(&sources, &[TrimSegment::default()], false, 0));
+    refused(2, 0, 40_000, || segment_of_frame_records(&sources, &[TrimSegment::default()], false, 0));
     refused(5, 0, 1000, || segment_of_frame_records(&late, &[TrimSegment::default()], false, 0));
 }
 
 #[test]
 fn recordings() {
-    let source = Source { frames: 100, fps: (25, 1), creation_time: None, clock: None };
+    let source = Source { frames: 100, fps: (25, 1), ..Source::default() };
     let table = Table::new(&[source], &[Segment { frame_count: 3, duration_us: 120_000, ..Segment::default() }], false).unwrap();
     let stamps = vec![0; 16_777_217];
     refused(30, 0, 0, || mcraw_times(&stamps));

@@ -5,7 +5,7 @@ use movie::{boxed, full, in_both_modes, moov, place, CRATE, STANDARD};
 use segment_table::*;
 
 fn source() -> Source {
-    Source { frames: 100, fps: (25, 1), creation_time: None, clock: None }
+    Source { frames: 100, fps: (25, 1), ..Source::default() }
 }
 
 fn segment() -> Segment {
@@ -40,9 +40,9 @@ fn segment_refused(number: u64, change: impl FnOnce(&mut Segment)) {
 
 #[test]
 fn words_of_a_table() {
-    refused(1, 0, Table::from_words(vec![1; 9], vec![], vec![], false, vec![]));
-    refused(1, 0, Table::from_words(vec![100, 25, 1, 1, 0, 20, 0, 0, 0, 0], vec![0; 5], vec![0; 7], false, vec![]));
-    refused(2, 0, Table::new(&vec![source(); 65], &[segment()], false));
+    refused(1, 0, Table::from_words(vec![1; 12], vec![], vec![], false, vec![]));
+    refused(1, 0, Table::from_words(vec![100, 25, 1, 1, 0, 20, 0, 0, 0, 0, 0, 0, 0], vec![0; 5], vec![0; 7], false, vec![]));
+    refused(2, 0, Table::new(&vec![source(); 257], &[segment()], false));
     refused(2, 0, Table::new(&[source()], &vec![segment(); 513], false));
     refused(3, 0, Table::new(&[], &[segment()], false));
     refused(8, 0, Table::new(&[source()], &[], false));
@@ -263,10 +263,10 @@ fn without_a_track() {
 #[test]
 fn room() {
     let (mut rows, mut index) = (7, 7);
-    let (sources, segments, times) = ([100, 25, 1, 0, 0, 0, 0, 0, 0, 0], [0, 0, 10, 0, 0], [0; 7]);
+    let (sources, segments, times) = ([100, 25, 1, 0, 0, 0, 0, 0, 0, 0, 0, 0, 0], [0, 0, 10, 0, 0], [0; 7]);
     let number = unsafe {
         ffi::st_rows_of_table(
-            sources.as_ptr(), 10, segments.as_ptr(), 5, times.as_ptr(), 7, false, std::ptr::null(), 0,
+            sources.as_ptr(), 13, segments.as_ptr(), 5, times.as_ptr(), 7, false, std::ptr::null(), 0,
             std::ptr::null_mut(), 0, std::ptr::null_mut(), 0, &mut rows, &mut index,
         )
     };
@@ -277,10 +277,10 @@ fn room() {
 /// words `written` and `index`, lent as 7.
 fn looked_up(second: u64, frames: &[u64], room: &mut [u64]) -> (u64, u64, u64) {
     let (mut written, mut index) = (7, 7);
-    let (sources, segments, times) = ([100, 25, 1, 0, 0, 0, 0, 0, 0, 0], [0, 0, 10, 0, 0, 0, 0, 10, second, 0], [0; 14]);
+    let (sources, segments, times) = ([100, 25, 1, 0, 0, 0, 0, 0, 0, 0, 0, 0, 0], [0, 0, 10, 0, 0, 0, 0, 10, second, 0], [0; 14]);
     let number = unsafe {
         ffi::st_segments_of_frames(
-            sources.as_ptr(), 10, segments.as_ptr(), 10, times.as_ptr(), 14, false, std::ptr::null(), 0,
+            sources.as_ptr(), 13, segments.as_ptr(), 10, times.as_ptr(), 14, false, std::ptr::null(), 0,
             frames.as_ptr(), frames.len(), room.as_mut_ptr(), room.len(), &mut written, &mut index,
         )
     };

@@ -2,7 +2,7 @@
 
 use std::rc::Rc;
 use super::{ Emit, room, tables::{ good, refused, t, with_segments } };
-use crate::{ case::{ Case, Lent, Table }, random::Random };
+use crate::{ case::{ Case, Lent, SOURCE_WORDS, Table }, random::Random };
 
 /// One list of frames of a table
 pub fn asked(r: &mut Random, lent: &Rc<Lent>, k: usize, emit: Emit) {
@@ -55,7 +55,7 @@ pub fn fixed(emit: Emit) {
 /// Table T with two segments that have as many frames as can be
 fn greatest() -> Table {
     let mut table = t();
-    (table.sources[0], table.sources[10]) = (u64::MAX, u64::MAX);
+    (table.sources[0], table.sources[SOURCE_WORDS]) = (u64::MAX, u64::MAX);
     table.segments = vec![0, 0, 1 << 63, 0, 0, 1, 0, (1 << 63) - 1, 1 << 63, 0];
     table
 }

@@ -1,7 +1,7 @@
 //! Recordings: their timestamps, and tables judged against them.
 
 use super::{ Emit, room, tables::{ self, Run }, videos };
-use crate::{ case::{ Case, Lent, Table }, random::Random, reference::{ mcraw, numbers::microseconds } };
+use crate::{ case::{ Case, Lent, SOURCE_WORDS, Table }, random::Random, reference::{ mcraw, numbers::microseconds } };
 
 /// Timestamps that ascend mostly, with equal neighbours; sometimes far apart, sometimes falling once
 fn timestamps(r: &mut Random) -> Vec<i64> {
@@ -57,7 +57,7 @@ fn one_frame(r: &mut Random, table: &mut Table) {
     table.segments.truncate(5);
     table.times.truncate(7);
     if !r.one_in(8) { table.segments[2] = 1; }
-    let source = table.segments[0] as usize * 10;
+    let source = table.segments[0] as usize * SOURCE_WORDS;
     let (num, den) = (table.sources[source + 1], table.sources[source + 2]);
     let end = microseconds(den as i128, num.max(1)).unwrap_or(0).saturating_mul(r.range(0, 3) as i64);
     table.times[..3].copy_from_slice(&[0, if r.one_in(8) { 1 } else { 0 }, (end + r.below(5) as i64 - 2).max(0)]);

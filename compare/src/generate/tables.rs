@@ -2,7 +2,7 @@
 
 use std::rc::Rc;
 use super::{ Emit, lists, numbers, room };
-use crate::{ case::{ Call, Case, Lent, Table }, random::Random };
+use crate::{ case::{ Call, Case, Lent, SOURCE_WORDS, Table }, random::Random };
 
 /// A run of frames in the output: what the other words of a segment are made around
 pub struct Run {
@@ -34,16 +34,16 @@ pub fn good(r: &mut Random) -> Table { let runs = runs(r); of_runs(r, &runs) }
 pub fn of_runs(r: &mut Random, runs: &[Run]) -> Table {
     let mut table = Table { log: r.one_in(4), ..Table::default() };
     let longest = runs.iter().map(|run| run.count).max().unwrap_or(1);
-    let sources = match r.below(400) { 0 => r.range(60, 64), 1..=5 => r.range(4, 20), _ => r.range(1, 3) };
+    let sources = match r.below(400) { 0 => r.range(250, 256), 1..=5 => r.range(4, 20), _ => r.range(1, 3) };
     for _ in 0..sources { push_source(r, &mut table, longest); }
     let mut capture = if r.one_in(2) { 0 } else { r.below(1 << 40) as i64 };
     let mut out_first = 0;
     let (mut source, mut next) = (0, 0);
     for run in runs {
-        let continued = r.one_in(2) && table.sources[source * 10].checked_sub(next).is_some_and(|left| left >= run.count);
+        let continued = r.one_in(2) && table.sources[source * SOURCE_WORDS].checked_sub(next).is_some_and(|left| left >= run.count);
         if !continued {
             source = r.size(sources as usize);
-            next = r.below((table.sources[source * 10] - run.count).saturating_add(1));
+            next = r.below((table.sources[source * SOURCE_WORDS] - run.count).saturating_add(1));
         }
         push_segment(r, &mut table, [source as u64, next, run.count, out_first]);
         let capture_duration = if r.one_in(5) { 0 } else { r.below(1 << 40) as i64 };
@@ -64,7 +64,7 @@ fn push_source(r: &mut Random, table: &mut Table, longest: u64) {
     let (num, den) = r.pick(&[(25, 1), (30000, 1001), (24, 1), (1, 1), (u64::MAX, 1), (60000, 1001), (50, 1), (1, u64::MAX), (4_294_967_295, 4_294_967_295), (4_294_967_296, 1)]);
     let kind = if table.log { r.range(1, 2) } else { r.below(3) };
     let modulus = match r.below(4) { 0 => 1, 1 => u64::MAX, 2 => 1 << 32, _ => r.range(1, 100) };
-    let mut words = [frames, num, den, r.below(2), r.word(), r.word(), kind, r.range(1, 1 << 32), r.range(1, 3), if kind == 2 { modulus } else { r.word() }];
+    let mut words = [frames, num, den, r.below(2), r.word(), r.word(), kind, r.range(1, 1 << 32), r.range(1, 3), if kind == 2 { modulus } else { r.word() }, r.word(), r.below(2), r.word()];
     if kind == 0 { words[7] = r.word(); words[8] = r.word(); }
     if words[3] == 1 {
         table.text.extend(vec![b'#'; r.size(3)]);
@@ -77,7 +77,7 @@ fn push_source(r: &mut Random, table: &mut Table, longest: u64) {
 
 /// The five words of a segment, with the shift that its source's clock asks for
 fn push_segment(r: &mut Random, table: &mut Table, words: [u64; 4]) {
-    let source = words[0] as usize * 10;
+    let source = words[0] as usize * SOURCE_WORDS;
     let (kind, modulus) = (table.sources[source + 6], table.sources[source + 9]);
     table.segments.extend(words);
     table.segments.push((kind != 0) as u64);
@@ -91,9 +91,9 @@ fn push_segment(r: &mut Random, table: &mut Table, words: [u64; 4]) {
 
 /// The table, damaged so that `number` refuses it, unless another damage comes first
 pub fn refused(r: &mut Random, t: &mut Table, number: u64) {
-    let (sources, segments) = (t.sources.len() / 10, t.segments.len() / 5);
+    let (sources, segments) = (t.sources.len() / SOURCE_WORDS, t.segments.len() / 5);
     if sources == 0 || segments == 0 || t.times.len() < segments * 7 { return; }
-    let (s, g) = (r.size(sources) * 10, r.size(segments));
+    let (s, g) = (r.size(sources) * SOURCE_WORDS, r.size(segments));
     let (w, m) = (g * 5, g * 7);
     match number {
         1 => malformed(r, t),
@@ -127,16 +127,17 @@ pub fn refused(r: &mut Random, t: &mut Table, number: u64) {
 
 /// A slice length, a flag, a kind, or a range of the text that can't be
 fn malformed(r: &mut Random, t: &mut Table) {
-    let (s, w) = (r.size(t.sources.len() / 10) * 10, r.size(t.segments.len() / 5) * 5);
-    match r.below(12) {
-        0 => t.sources.truncate(t.sources.len() - 1 - r.size(9)),
-        1 => t.sources.extend(vec![1; 1 + r.size(9)]),
+    let (s, w) = (r.size(t.sources.len() / SOURCE_WORDS) * SOURCE_WORDS, r.size(t.segments.len() / 5) * 5);
+    match r.below(13) {
+        0 => t.sources.truncate(t.sources.len() - 1 - r.size(SOURCE_WORDS - 1)),
+        1 => t.sources.extend(vec![1; 1 + r.size(SOURCE_WORDS - 1)]),
         2 => t.segments.truncate(t.segments.len() - 1 - r.size(4)),
         3 => t.times.truncate(t.times.len() - 1 - r.size(6)),
         4 => t.segments.extend([0, 0, 1, 0, 0]),
         5 => t.times.extend([0; 7]),
         6 => t.sources[s + 3] = r.pick(&[2, 3, u64::MAX, 256]),
         7 => t.sources[s + 6] = r.pick(&[3, 4, u64::MAX, 1 << 32]),
+        11 => t.sources[s + 11] = r.pick(&[2, 3, u64::MAX, 256]),
         8 => t.segments[w + 4] = r.pick(&[2, 3, u64::MAX, 1 << 32]),
         9 => t.sources[s + 3..s + 6].copy_from_slice(&[1, t.text.len() as u64, 1]),
         10 => { let from = u64::MAX - r.below(20); t.sources[s + 3..s + 6].copy_from_slice(&[1, from, 20]) }
@@ -144,11 +145,11 @@ fn malformed(r: &mut Random, t: &mut Table) {
     }
 }
 
-/// Over 64 sources or 512 segments
+/// Over 256 sources or 512 segments
 fn too_many(r: &mut Random, t: &mut Table) {
     if r.one_in(2) {
-        let source: Vec<u64> = t.sources[..10].to_vec();
-        while t.sources.len() <= 640 { t.sources.extend(&source); }
+        let source: Vec<u64> = t.sources[..SOURCE_WORDS].to_vec();
+        while t.sources.len() <= 256 * SOURCE_WORDS { t.sources.extend(&source); }
     } else {
         let (words, times) = (t.segments[..5].to_vec(), t.times[..7].to_vec());
         while t.segments.len() <= 2560 { t.segments.extend(&words); t.times.extend(&times); }
@@ -158,7 +159,7 @@ fn too_many(r: &mut Random, t: &mut Table) {
 /// One frame past the source's, by the source or by the segment
 fn past_the_source(r: &mut Random, t: &mut Table, w: usize) {
     let end = t.segments[w + 1].wrapping_add(t.segments[w + 2]);
-    let source = (t.segments[w] as usize).wrapping_mul(10);
+    let source = (t.segments[w] as usize).wrapping_mul(SOURCE_WORDS);
     match t.sources.get_mut(source) {
         Some(frames) if end > 1 && r.one_in(2) => *frames = end - 1,
         Some(frames) => t.segments[w + 1] = (*frames - t.segments[w + 2].min(*frames)).saturating_add(1),
@@ -181,8 +182,8 @@ fn overflow(r: &mut Random, t: &mut Table, m: usize, field: usize) {
 
 /// A shift without clock, a clock without shift, or a shift outside 0..modulus
 fn wrong_shift(r: &mut Random, t: &mut Table, w: usize, m: usize) {
-    let source = (t.segments[w] as usize).wrapping_mul(10);
-    let modulus = match t.sources.get(source..source.wrapping_add(10)) { Some(words) if words[6] == 2 => words[9], _ => 0 };
+    let source = (t.segments[w] as usize).wrapping_mul(SOURCE_WORDS);
+    let modulus = match t.sources.get(source..source.wrapping_add(SOURCE_WORDS)) { Some(words) if words[6] == 2 => words[9], _ => 0 };
     if modulus != 0 && t.segments[w + 4] == 1 && !r.one_in(4) {
         t.times[m + 6] = if modulus <= i64::MAX as u64 && r.one_in(2) { modulus as i64 } else { r.pick(&[-1, i64::MIN]) };
     } else {
@@ -195,7 +196,8 @@ fn near_valid(r: &mut Random) -> Table {
     let mut t = Table { log: r.one_in(8), ..Table::default() };
     for _ in 0..r.range(0, 2) {
         let word = |r: &mut Random| if r.one_in(12) { 0 } else { r.range(1, 6) };
-        let source = [word(r), word(r), word(r), 0, r.below(3), r.below(3), r.below(3), word(r), word(r), word(r)];
+        let kinds = if r.one_in(8) { 3 } else { 2 };
+        let source = [word(r), word(r), word(r), 0, r.below(3), r.below(3), r.below(3), word(r), word(r), word(r), word(r), r.below(kinds), word(r)];
         t.sources.extend(source);
     }
     let mut frame = 0;
@@ -276,7 +278,7 @@ fn asked(call: Call, r: &mut Random, lent: &Rc<Lent>, k: usize, emit: Emit) {
 /// A table of a source too many, once
 pub fn too_many_sources(call: Call, emit: Emit) {
     if matches!(call, Call::Check | Call::SegmentOfFrame | Call::SegmentOfFrameRecords | Call::Continues | Call::ValidateNoVideo | Call::SegmentsOfFrames) {
-        once(call, &mut Random::new(3), with_sources(65), emit);
+        once(call, &mut Random::new(3), with_sources(257), emit);
     }
 }
 
@@ -291,7 +293,7 @@ pub fn fixed(call: Call, emit: Emit) {
             once(call, &mut r, t, emit);
         }
     }
-    for n in [63, 64, 65, 66] { once(call, &mut r, with_sources(n), emit); }
+    for n in [64, 65, 255, 256, 257, 258] { once(call, &mut r, with_sources(n), emit); }
     for n in [511, 512, 513, 1024] { once(call, &mut r, with_segments(n), emit); }
     once(call, &mut r, Table::default(), emit);
     if call == Call::SegmentsOfFrames { lists::fixed(emit); } else { every_question(call, emit); }
@@ -308,7 +310,7 @@ fn once(call: Call, r: &mut Random, t: Table, emit: Emit) {
 
 /// Table T of RULES 3.6
 pub fn t() -> Table {
-    let source = |frames| [frames, 25, 1, 0, 0, 0, 0, 0, 0, 0];
+    let source = |frames| [frames, 25, 1, 0, 0, 0, 0, 0, 0, 0, 0, 0, 0];
     Table {
         sources: [source(100), source(50)].concat(),
         segments: vec![0, 10, 30, 0, 0, 1, 5, 20, 30, 0],
@@ -319,7 +321,7 @@ pub fn t() -> Table {
 
 fn with_sources(n: usize) -> Table {
     let mut table = t();
-    table.sources = table.sources[..10].repeat(n);
+    table.sources = table.sources[..SOURCE_WORDS].repeat(n);
     table
 }
 

@@ -3,7 +3,7 @@
 use super::{ Refusal, numbers::is_utc_second };
 use crate::case::{ self, Answer, Row };
 
-const MOST_SOURCES: usize = 64;
+const MOST_SOURCES: usize = 256;
 const MOST_SEGMENTS: usize = 512;
 
 pub struct Source {
@@ -12,6 +12,9 @@ pub struct Source {
     /// The bytes of the creation time, where it is present
     pub creation_time: Option<Vec<u8>>,
     pub clock: Option<Clock>,
+    pub size: u64,
+    /// The Z CAM origin, where it is known, else its word, which says nothing
+    pub origin: Result<u64, u64>,
 }
 
 pub struct Clock {
@@ -51,10 +54,10 @@ impl Table {
     /// The records of a lent table: refusals 1 and 2
     pub fn lent(table: &case::Table) -> Result<Table, Refusal> {
         let (sources, segments, times) = (&table.sources, &table.segments, &table.times);
-        if sources.len() % 10 != 0 || segments.len() % 5 != 0 || times.len() % 7 != 0 || segments.len() / 5 != times.len() / 7 {
+        if sources.len() % case::SOURCE_WORDS != 0 || segments.len() % 5 != 0 || times.len() % 7 != 0 || segments.len() / 5 != times.len() / 7 {
             return Err((1, 0));
         }
-        let sources: Option<Vec<_>> = sources.chunks(10).map(|words| source(words, &table.text)).collect();
+        let sources: Option<Vec<_>> = sources.chunks(case::SOURCE_WORDS).map(|words| source(words, &table.text)).collect();
         let segments: Option<Vec<_>> = segments.chunks(5).zip(times.chunks(7)).map(|(words, times)| segment(words, times)).collect();
         let (Some(sources), Some(segments)) = (sources, segments) else { return Err((1, 0)) };
         if sources.len() > MOST_SOURCES || segments.len() > MOST_SEGMENTS { return Err((2, 0)); }
@@ -117,7 +120,7 @@ impl Table {
     }
 }
 
-/// A source of ten words, none where a flag, a kind or a range is outside what it may be
+/// A source of thirteen words, none where a flag, a kind or a range is outside what it may be
 fn source(words: &[u64], text: &[u8]) -> Option<Source> {
     let creation_time = match words[3] {
         0 => None,
@@ -134,7 +137,8 @@ fn source(words: &[u64], text: &[u8]) -> Option<Source> {
         2 => Some(Clock { rate, modulus: Some(words[9]) }),
         _ => return None,
     };
-    Some(Source { frames: words[0], fps: (words[1], words[2]), creation_time, clock })
+    let origin = match words[11] { 0 => Err(words[12]), 1 => Ok(words[12]), _ => return None };
+    Some(Source { frames: words[0], fps: (words[1], words[2]), creation_time, clock, size: words[10], origin })
 }
 
 /// A segment of five words and seven signed ones, none where its flag is neither 0 nor 1

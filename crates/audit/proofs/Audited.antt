@@ -13,7 +13,7 @@ use Rattle.audit.proofs.EachFrame.{each_frame}
 use Rattle.audit.proofs.Walked.{walked}
 use Rattle.audit.proofs.Agreed.{agreeing}
 use Rattle.audit.proofs.Rounded.{rounding, ordering}
-use Rattle.audit.proofs.Absent.{absent}
+use Rattle.audit.proofs.Absent.{absent, read-by-none}
 use Rattle.audit.proofs.Worked.{all_hold}
 
 -- of tables as they are lent: of one the calls answer what the judge's definitions answer of the table that it is
@@ -47,5 +47,6 @@ audited by = record {
   rounding = rounding;
   ordering = ordering;
   ignored = absent;
+  unread = read-by-none;
   worked = all_hold;
 }

@@ -13,7 +13,7 @@ use Rattle.refusal.specs.Refusals.{first_refused}
 use Rattle.slices.specs.Slices.{laid}
 use Rattle.rows.specs.declared.Row.{Row}
 use Rattle.rows.specs.Lent.{rows}
-use Rattle.utc.specs.Utc.{two, days, utc_bytes, utc_second}
+use Rattle.utc.specs.Utc.{utc_second}
 use Rattle.ticks.specs.Ticks.{micros_of, us_of, ticks_to_us, ends_near, media_ticks}
 use Rattle.order.specs.Order.{insert, sorted, taken_first, mode}
 use Rattle.boxes.specs.Boxes.{size_of, header_at, boxes_from, boxes_at, first_such}
@@ -62,5 +62,5 @@ alone {t} {u} p q e = record {
     at k h = subst (λ (j : ℕ). (segment t j).words ≡ (segment u j).words) (omega (arith, p)) e
 
 pub all_hold : AllByRecursion Holds examples
-unfolding past first_refused two days utc_bytes utc_second micros_of us_of ticks_to_us ends_near starts_at start_refusal video_refusal validate_of single recording_refusal check_mcraw shown_by media_ticks insert sorted taken_first mode size_of header_at boxes_from boxes_at first_such entries_from frames_from kept last_of placed shown of_kept moov_times no_source no_segment frame_total bad_source bad_segment malformed source_refusal stamp_times judged segment_refusal start ends_of ends segments_from front_refusal refusal check_of ended segment_of_frame segment_of_time sources_of segments_of table_of row_of rows_of rows_refusal first_bad indices_of indices_refusal cuts_of concat gaps starts_of span nominal end fall_of refusal_of times_of mcraw_times starts_written
+unfolding past first_refused utc_second micros_of us_of ticks_to_us ends_near starts_at start_refusal video_refusal validate_of single recording_refusal check_mcraw shown_by media_ticks insert sorted taken_first mode size_of header_at boxes_from boxes_at first_such entries_from frames_from kept last_of placed shown of_kept moov_times no_source no_segment frame_total bad_source bad_segment malformed source_refusal stamp_times judged segment_refusal start ends_of ends segments_from front_refusal refusal check_of ended segment_of_frame segment_of_time sources_of segments_of table_of row_of rows_of rows_refusal first_bad indices_of indices_refusal cuts_of concat gaps starts_of span nominal end fall_of refusal_of times_of mcraw_times starts_written
 all_hold = (λ r p. p, (λ r p. p, (λ r p. p, (λ r p. p, (λ r p. p, (λ r p. p, (λ r p. p, (λ r p. p, (λ r p. p, (λ r p. p, (λ r p. p, (λ r p. p, (λ r p. p, (λ r p. p, (λ r p. p, (λ r p. p, (λ r p. p, (λ r p. p, (λ r p. p, (λ r p. p, (λ r ou os p. (p.answer, wrote 2 _ p.words p.shifts refl), (λ r ou os p. (p.answer, wrote 2 _ p.words p.shifts refl), (λ r ou os p. (p.answer, wrote 2 _ p.words p.shifts refl), (λ r ou os p. (p.answer, wrote 2 _ p.words p.shifts refl), (λ r starts' a' b' p. (p.answer, p.starts), (λ r starts' a' b' p. (p.answer, p.starts), (λ r starts' a' b' p. (p.answer, p.starts), (λ r starts' a' b' p. (p.answer, p.starts), (λ r starts' work' p. (p.answer, started p), (λ r p. p, (λ r p. p, (λ r ou os p. (p.answer, wrote 3 _ p.words p.shifts refl), (λ r ou os p. (p.answer, wrote 3 _ p.words p.shifts refl), (λ r ou os p. (p.answer, wrote 3 _ p.words p.shifts refl), (λ r ou os p. (p.answer, wrote 3 _ p.words p.shifts refl), (λ r p. p, (λ r p. p, (λ r p. p, (λ r ou os p. (p.answer, wrote 2 _ p.words p.shifts refl), (λ r ou os p. (p.answer, wrote 2 _ p.words p.shifts refl), (λ r ou os p. (p.answer, wrote 4 _ p.words p.shifts refl), (λ r ou os p. (p.answer, wrote 3 _ p.words p.shifts refl), (λ r ou os p. (p.answer, wrote 2 _ p.words p.shifts refl), (λ r ou os p. (p.answer, wrote 1 _ p.words p.shifts refl), (λ r ou os p. (p.answer, wrote 2 _ p.words p.shifts refl), (λ r ou os p. (p.answer, wrote 2 _ p.words p.shifts refl), (((λ r p. p), (λ r p. p), alone refl refl refl, refl, refl), (((λ r p. p), (λ r p. p), alone refl refl refl, refl, refl), (((λ r p. p), (λ r p. p), alone refl refl refl, refl, refl), (λ r a b p. p.answer, (λ r a b p. p.answer, (λ r out p. (p.answer, p.indices), (λ r out p. (p.answer, p.indices), (λ r out p. (p.answer, p.indices), (λ r starts' a' b' p. (p.answer, p.starts), (λ r starts' a' b' p. (p.answer, p.starts), (λ r starts' a' b' p. (p.answer, p.starts), (λ r starts' a' b' p. (p.answer, p.starts), (λ r starts' a' b' p. (p.answer, p.starts), (λ r starts' a' b' p. (p.answer, p.starts), (λ r starts' a' b' p. (p.answer, p.starts), (λ r starts' a' b' p. (p.answer, p.starts), (λ r starts' a' b' p. (p.answer, p.starts), (λ r starts' a' b' p. (p.answer, p.starts), (λ r ou os cs p. (p.placed.answer, wrote 4 _ p.placed.words p.placed.shifts refl, p.counted), (λ r ou os cs p. (p.placed.answer, wrote 3 _ p.placed.words p.placed.shifts refl, p.counted), (λ r ou os cs p. (p.placed.answer, wrote 0 _ p.placed.words p.placed.shifts refl, p.counted), (λ r ou os cs p. p.placed.answer, (λ r ou os cs p. p.placed.answer, (λ r ou os cs p. p.placed.answer, (λ r p. p, (λ r p. p, (λ r p. p, (λ r p. p, (λ r starts' work' p. (p.answer, started p), (λ r p. p, (λ r out p. (p.answer, p.origins), (λ r out p. (p.answer, p.origins), (λ r out p. (p.answer, p.origins), (λ r out p. (p.answer, p.origins), tt))))))))))))))))))))))))))))))))))))))))))))))))))))))))))))))))))))))))))))))))

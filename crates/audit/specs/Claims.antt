@@ -28,7 +28,7 @@ use Rattle.rules.specs.Records.{segment}
 use Rattle.rules.specs.Records as records
 use Rattle.rules.specs.Rules.{check_of}
 use Rattle.rules.specs.Grounds.{tests, Rightly}
-use Rattle.rules.specs.Absent.{stripped}
+use Rattle.rules.specs.Absent.{stripped, unread}
 use Rattle.rules.specs.Lookups.{segment_of_frame, segment_of_time, continues_at}
 use Rattle.table.specs.Layout.{Uneven}
 use Rattle.table_rows.specs.Rows.{row_of, rows_of, Rowed}
@@ -411,14 +411,24 @@ pub record SameAnswers (l m : Lent) : Type 0 where
   pub check-mcraw : (timestamps a b a' b' : List ℤ) (r : Result ℕ Refusal) → CheckMcraw l timestamps a b r a' b'
       → CheckMcraw m timestamps a b r a' b'
 
--- WORDS OF AN ABSENT THING (creation time, clock, modulus, shift) ARE IGNORED: tables that differ only in them, that
--- are the same when these words are set to 0, get the same answers from every call that takes a table. (RULES 1.5;
--- rules/specs/Absent.antt says which words.)
+-- WORDS OF AN ABSENT THING (creation time, clock, modulus, shift, origin) ARE IGNORED, and a source's size and origin:
+-- tables that differ only in them, that are the same when these words are set to 0, get the same answers from every
+-- call that takes a table. (RULES 1.5; rules/specs/Absent.antt says which words.)
 pub record Ignored : Type 0 where
   pub words : (l m : Lent) → stripped (table l) ≡ stripped (table m) → SameAnswers l m
   -- and so does the lookup over records, of whose absent things some are words and some are fields
   pub segment-of-frame-records : (sources sources' text text' : List ℕ) (rs rs' : List TrimSegment) (log log' : Bool)
       → stripped (table (in_words sources text rs log)) ≡ stripped (table (in_words sources' text' rs' log'))
+      → (f : ℕ) (r : Result ℕ Refusal) → calls.SegmentOfFrameRecords sources text rs log f r
+      → calls.SegmentOfFrameRecords sources' text' rs' log' f r
+
+-- NO CALL LOOKS AT A SOURCE'S SIZE OR ORIGIN, AND OF THE FLAG THAT SAYS WHETHER IT IS KNOWN ONLY WHETHER IT IS OVER 1:
+-- tables that differ only in these three words, that are the same when size, origin and a flag of 0 or 1 are set to 0,
+-- get the same answers from every call that takes a table. (RULES 1.5; rules/specs/Absent.antt has `unread`.)
+pub record Unread : Type 0 where
+  pub words : (l m : Lent) → unread (table l) ≡ unread (table m) → SameAnswers l m
+  pub segment-of-frame-records : (sources sources' text text' : List ℕ) (rs rs' : List TrimSegment) (log log' : Bool)
+      → unread (table (in_words sources text rs log)) ≡ unread (table (in_words sources' text' rs' log'))
       → (f : ℕ) (r : Result ℕ Refusal) → calls.SegmentOfFrameRecords sources text rs log f r
       → calls.SegmentOfFrameRecords sources' text' rs' log' f r
 
@@ -465,6 +475,7 @@ pub record Claims : Type 0 where
   pub rounding : Rounding
   pub ordering : Ordering
   pub ignored : Ignored
-  -- 7. THE EXAMPLES of the rules, the auditor's clip, and some more of each call. (RULES 3.6, 4.7, 5.2, 6.5, 8.10, 9.3,
-  -- 10.10.)
+  pub unread : Unread
+  -- 7. THE EXAMPLES of the rules, the auditor's clip, and some more of each call. (RULES 3.6, 4.7, 5.1, 5.2, 6.5, 8.8,
+  -- 8.10, 9.3, 10.10.)
   pub worked : AllByRecursion Holds examples

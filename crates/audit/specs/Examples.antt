@@ -146,13 +146,13 @@ shifted source first count out shift =
 -- a source at 25/1: its frames; without creation time or clock, with the 20 bytes of text at 0 as creation time, and
 -- with a clock of 1,000,000 ticks a second
 abbrev pub plain : ℕ → List ℕ
-plain frames = frames ∷ 25 ∷ 1 ∷ 0 ∷ 0 ∷ 0 ∷ 0 ∷ 0 ∷ 0 ∷ 0 ∷ []
+plain frames = frames ∷ 25 ∷ 1 ∷ 0 ∷ 0 ∷ 0 ∷ 0 ∷ 0 ∷ 0 ∷ 0 ∷ 0 ∷ 0 ∷ 0 ∷ []
 
 abbrev pub dated_source : ℕ → List ℕ
-dated_source frames = frames ∷ 25 ∷ 1 ∷ 1 ∷ 0 ∷ 20 ∷ 0 ∷ 0 ∷ 0 ∷ 0 ∷ []
+dated_source frames = frames ∷ 25 ∷ 1 ∷ 1 ∷ 0 ∷ 20 ∷ 0 ∷ 0 ∷ 0 ∷ 0 ∷ 0 ∷ 0 ∷ 0 ∷ []
 
 abbrev pub clocked : ℕ → List ℕ
-clocked frames = frames ∷ 25 ∷ 1 ∷ 0 ∷ 0 ∷ 0 ∷ 1 ∷ 1000000 ∷ 1 ∷ 0 ∷ []
+clocked frames = frames ∷ 25 ∷ 1 ∷ 0 ∷ 0 ∷ 0 ∷ 1 ∷ 1000000 ∷ 1 ∷ 0 ∷ 0 ∷ 0 ∷ 0 ∷ []
 
 -- a segment's signed words: out start, duration and shift; the other times are 0
 abbrev pub stamps : ℕ → ℕ → ℤ → List ℤ
@@ -211,7 +211,7 @@ not_leap_day = 49 ∷ 57 ∷ 48 ∷ 48 ∷ 45 ∷ 48 ∷ 50 ∷ 45 ∷ 50 ∷ 57
 -- a source of so many frames at numerator/denominator, all of which are one segment, with these signed words
 abbrev pub whole_source : (frames numerator denominator : ℕ) → List ℤ → Lent
 whole_source frames numerator denominator signed = record {
-  sources = frames ∷ numerator ∷ denominator ∷ 0 ∷ 0 ∷ 0 ∷ 0 ∷ 0 ∷ 0 ∷ 0 ∷ [];
+  sources = frames ∷ numerator ∷ denominator ∷ 0 ∷ 0 ∷ 0 ∷ 0 ∷ 0 ∷ 0 ∷ 0 ∷ 0 ∷ 0 ∷ 0 ∷ [];
   words = words_of (row 0 0 frames 0 ∷ []);
   stamps = signed;
   log = false;
@@ -426,8 +426,8 @@ examples =
     ∷ cuts_refused T (0 ∷ 50 ∷ 20 ∷ []) reason.BadRange 1
     ∷ cuts_refused T (0 ∷ 50 ∷ []) reason.RowsDontFit 0
     -- T with an out first of 31 in segment 1, with 71 as the source first of segment 0, and with no frames in source B
-    -- (RULES 3.6); its frame 49 (RULES 4.7); a recording that falls (RULES 9.3); and where frame 2 of T cut 28..33 comes
-    -- from (RULES 10.9)
+    -- (RULES 3.6); its frame 49 (RULES 4.7); a recording that falls (RULES 9.3); and where frame 2 of T cut 28..33
+    -- comes from (RULES 10.10)
     ∷ checked (changed 50 (row 0 10 30 0 ∷ row 1 5 20 31 ∷ [])) (refused reason.FrameGap 1)
     ∷ checked (changed 50 (row 0 71 30 0 ∷ row 1 5 20 30 ∷ [])) (refused reason.PastSource 0)
     ∷ checked (changed 0 T) (refused reason.ZeroInSource 1)

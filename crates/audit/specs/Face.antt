@@ -148,11 +148,11 @@ st-origins = record {
       e.1.1.1.0.now e.1.1.1.1.0.now e.1.1.1.1.1.0.now;
 }
 
--- segment_table::judging::st_validate_no_video: st_validate_no_video(sources, segments, times, log, text, index)
+-- segment_table::judging::st_validate_no_video: st_validate_no_video(sources, segments, stamps, log, text, index)
 -- answers ans, and leaves index'
 abbrev pub StValidateNoVideo : List ℕ → List ℕ → List ℤ → Bool → List ℕ → ℕ → ℕ → ℕ → Type 0
-StValidateNoVideo sources segments times log text index ans index' =
-    (ans, tt, index') ≡ told unsaid (validate_of (table_of sources segments times log text) nothing) tt
+StValidateNoVideo sources segments stamps log text index ans index' =
+    (ans, tt, index') ≡ told unsaid (validate_of (table_of sources segments stamps log text) nothing) tt
 
 abbrev pub st-validate-no-video : Promise
 st-validate-no-video = record {
@@ -161,13 +161,13 @@ st-validate-no-video = record {
       e.1.1.1.1.1.0.now;
 }
 
--- segment_table::judging::st_validate_constant: st_validate_constant(sources, segments, times, log, text,
+-- segment_table::judging::st_validate_constant: st_validate_constant(sources, segments, stamps, log, text,
 -- video_frames, numerator, denominator, frames, index) answers ans, and leaves frames', index'
 abbrev pub StValidateConstant : List ℕ → List ℕ → List ℤ → Bool → List ℕ → ℕ → ℕ → ℕ → ℕ → ℕ → ℕ → ℕ → ℕ → Type 0
-StValidateConstant sources segments times log text video_frames numerator denominator frames index ans frames' index' =
+StValidateConstant sources segments stamps log text video_frames numerator denominator frames index ans frames' index' =
     (ans, frames', index')
-    ≡ told itself (validate_of (table_of sources segments times log text) (constant video_frames numerator denominator))
-    frames
+    ≡ told itself
+    (validate_of (table_of sources segments stamps log text) (constant video_frames numerator denominator)) frames
 
 abbrev pub st-validate-constant : Promise
 st-validate-constant = record {
@@ -177,12 +177,12 @@ st-validate-constant = record {
       e.1.1.1.1.1.1.1.1.1.0.now;
 }
 
--- segment_table::judging::st_validate_times: st_validate_times(sources, segments, times, log, text, scale, starts,
+-- segment_table::judging::st_validate_times: st_validate_times(sources, segments, stamps, log, text, scale, starts,
 -- end, nominal, frames, index) answers ans, and leaves frames', index'
 abbrev pub StValidateTimes : List ℕ → List ℕ → List ℤ → Bool → List ℕ → ℕ → List ℤ → ℤ → ℤ → ℕ → ℕ → ℕ → ℕ → ℕ → Type 0
-StValidateTimes sources segments times log text scale starts end nominal frames index ans frames' index' =
+StValidateTimes sources segments stamps log text scale starts end nominal frames index ans frames' index' =
     (ans, frames', index')
-    ≡ told itself (validate_of (table_of sources segments times log text) (timed starts scale end nominal)) frames
+    ≡ told itself (validate_of (table_of sources segments stamps log text) (timed starts scale end nominal)) frames
 
 abbrev pub st-validate-times : Promise
 st-validate-times = record {
@@ -192,13 +192,13 @@ st-validate-times = record {
       e.1.1.1.1.1.1.1.1.1.0.now e.1.1.1.1.1.1.1.1.1.1.0.now;
 }
 
--- segment_table::judging::st_check_mcraw: st_check_mcraw(sources, segments, times, log, text, timestamps,
+-- segment_table::judging::st_check_mcraw: st_check_mcraw(sources, segments, stamps, log, text, timestamps,
 -- first_work, second_work, frames, index) answers ans, and leaves first_work', second_work', frames', index'
 abbrev pub StCheckMcraw : List ℕ → List ℕ → List ℤ → Bool → List ℕ → List ℤ → List ℤ → List ℤ → ℕ → ℕ → ℕ → List ℤ
     → List ℤ → ℕ → ℕ → Type 0
-StCheckMcraw sources segments times log text timestamps first_work second_work frames index ans first_work' second_work'
-    frames' index' = JudgedTold (table_of sources segments times log text) timestamps first_work second_work frames ans
-    first_work' second_work' frames' index'
+StCheckMcraw sources segments stamps log text timestamps first_work second_work frames index ans first_work'
+    second_work' frames' index' = JudgedTold (table_of sources segments stamps log text) timestamps first_work
+    second_work frames ans first_work' second_work' frames' index'
 
 abbrev pub st-check-mcraw : Promise
 st-check-mcraw = record {
@@ -254,11 +254,11 @@ st-video-frame-times-of-moov = record {
       e.1.1.1.1.1.1.1.1.1.0.now;
 }
 
--- segment_table::tables::st_check: st_check(sources, segments, times, log, text, frames, index) answers ans, and
+-- segment_table::tables::st_check: st_check(sources, segments, stamps, log, text, frames, index) answers ans, and
 -- leaves frames', index'
 abbrev pub StCheck : List ℕ → List ℕ → List ℤ → Bool → List ℕ → ℕ → ℕ → ℕ → ℕ → ℕ → Type 0
-StCheck sources segments times log text frames index ans frames' index' =
-    (ans, frames', index') ≡ told itself (check_of (table_of sources segments times log text)) frames
+StCheck sources segments stamps log text frames index ans frames' index' =
+    (ans, frames', index') ≡ told itself (check_of (table_of sources segments stamps log text)) frames
 
 abbrev pub st-check : Promise
 st-check = record {
@@ -267,11 +267,11 @@ st-check = record {
       a.1.1.1.1.1.1.0.now z e.1.1.1.1.1.0.now e.1.1.1.1.1.1.0.now;
 }
 
--- segment_table::tables::st_segment_of_frame: st_segment_of_frame(sources, segments, times, log, text, frame,
+-- segment_table::tables::st_segment_of_frame: st_segment_of_frame(sources, segments, stamps, log, text, frame,
 -- segment, index) answers ans, and leaves segment', index'
 abbrev pub StSegmentOfFrame : List ℕ → List ℕ → List ℤ → Bool → List ℕ → ℕ → ℕ → ℕ → ℕ → ℕ → ℕ → Type 0
-StSegmentOfFrame sources segments times log text frame segment index ans segment' index' =
-    (ans, segment', index') ≡ told itself (segment_of_frame (table_of sources segments times log text) frame) segment
+StSegmentOfFrame sources segments stamps log text frame segment index ans segment' index' =
+    (ans, segment', index') ≡ told itself (segment_of_frame (table_of sources segments stamps log text) frame) segment
 
 abbrev pub st-segment-of-frame : Promise
 st-segment-of-frame = record {
@@ -280,12 +280,12 @@ st-segment-of-frame = record {
       a.1.1.1.1.1.1.0.now a.1.1.1.1.1.1.1.0.now z e.1.1.1.1.1.1.0.now e.1.1.1.1.1.1.1.0.now;
 }
 
--- segment_table::tables::st_segments_of_frames: st_segments_of_frames(sources, segments, times, log, text, frames,
+-- segment_table::tables::st_segments_of_frames: st_segments_of_frames(sources, segments, stamps, log, text, frames,
 -- out_segments, written, index) answers ans, and leaves out_segments', written', index'
 abbrev pub StSegmentsOfFrames : List ℕ → List ℕ → List ℤ → Bool → List ℕ → List ℕ → List ℕ → ℕ → ℕ → ℕ → List ℕ → ℕ → ℕ
     → Type 0
-StSegmentsOfFrames sources segments times log text frames out_segments written index ans out_segments' written' index' =
-    IndexingTold (table_of sources segments times log text) frames out_segments written ans out_segments' written'
+StSegmentsOfFrames sources segments stamps log text frames out_segments written index ans out_segments' written' index'
+    = IndexingTold (table_of sources segments stamps log text) frames out_segments written ans out_segments' written'
     index'
 
 abbrev pub st-segments-of-frames : Promise
@@ -296,11 +296,11 @@ st-segments-of-frames = record {
       e.1.1.1.1.1.1.1.1.0.now;
 }
 
--- segment_table::tables::st_segment_of_time_us: st_segment_of_time_us(sources, segments, times, log, text, time,
+-- segment_table::tables::st_segment_of_time_us: st_segment_of_time_us(sources, segments, stamps, log, text, time,
 -- segment, index) answers ans, and leaves segment', index'
 abbrev pub StSegmentOfTimeUs : List ℕ → List ℕ → List ℤ → Bool → List ℕ → ℤ → ℕ → ℕ → ℕ → ℕ → ℕ → Type 0
-StSegmentOfTimeUs sources segments times log text time segment index ans segment' index' =
-    (ans, segment', index') ≡ told itself (segment_of_time (table_of sources segments times log text) time) segment
+StSegmentOfTimeUs sources segments stamps log text time segment index ans segment' index' =
+    (ans, segment', index') ≡ told itself (segment_of_time (table_of sources segments stamps log text) time) segment
 
 abbrev pub st-segment-of-time-us : Promise
 st-segment-of-time-us = record {
@@ -309,11 +309,11 @@ st-segment-of-time-us = record {
       a.1.1.1.1.1.1.0.now a.1.1.1.1.1.1.1.0.now z e.1.1.1.1.1.1.0.now e.1.1.1.1.1.1.1.0.now;
 }
 
--- segment_table::tables::st_continues: st_continues(sources, segments, times, log, text, segment, answer, index)
+-- segment_table::tables::st_continues: st_continues(sources, segments, stamps, log, text, segment, answer, index)
 -- answers ans, and leaves answer', index'
 abbrev pub StContinues : List ℕ → List ℕ → List ℤ → Bool → List ℕ → ℕ → ℕ → ℕ → ℕ → ℕ → ℕ → Type 0
-StContinues sources segments times log text segment answer index ans answer' index' =
-    (ans, answer', index') ≡ told yes_or_no (continues_at (table_of sources segments times log text) segment) answer
+StContinues sources segments stamps log text segment answer index ans answer' index' =
+    (ans, answer', index') ≡ told yes_or_no (continues_at (table_of sources segments stamps log text) segment) answer
 
 abbrev pub st-continues : Promise
 st-continues = record {
@@ -322,12 +322,12 @@ st-continues = record {
       a.1.1.1.1.1.1.0.now a.1.1.1.1.1.1.1.0.now z e.1.1.1.1.1.1.0.now e.1.1.1.1.1.1.1.0.now;
 }
 
--- segment_table::tables::st_rows_of_table: st_rows_of_table(sources, segments, times, log, text, out_words,
+-- segment_table::tables::st_rows_of_table: st_rows_of_table(sources, segments, stamps, log, text, out_words,
 -- out_shifts, rows, index) answers ans, and leaves out_words', out_shifts', rows', index'
 abbrev pub StRowsOfTable : List ℕ → List ℕ → List ℤ → Bool → List ℕ → List ℕ → List ℤ → ℕ → ℕ → ℕ → List ℕ → List ℤ → ℕ
     → ℕ → Type 0
-StRowsOfTable sources segments times log text out_words out_shifts rows index ans out_words' out_shifts' rows' index' =
-    RowedTold (table_of sources segments times log text) out_words out_shifts rows ans out_words' out_shifts' rows'
+StRowsOfTable sources segments stamps log text out_words out_shifts rows index ans out_words' out_shifts' rows' index' =
+    RowedTold (table_of sources segments stamps log text) out_words out_shifts rows ans out_words' out_shifts' rows'
     index'
 
 abbrev pub st-rows-of-table : Promise

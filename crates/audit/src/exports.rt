@@ -173,25 +173,25 @@ pub fn st_origins(
 pub fn st_validate_no_video(
     sources: &[u64],
     segments: &[u64],
-    times: &[i64],
+    stamps: &[i64],
     log: bool,
     text: &[u8],
     index: &mut u64,
 ) -> u64
-    ensures quoted { calls.StValidateNoVideo sources.now segments.now times.now log text.now
+    ensures quoted { calls.StValidateNoVideo sources.now segments.now stamps.now log text.now
         index.old result index.new }
     ensures placed { (κs : Regions calls.st-validate-no-video) → Says calls.st-validate-no-video κs
-        (sources.entry, (segments.entry, (times.entry, (log, (text.entry, (index.entry, tt))))))
+        (sources.entry, (segments.entry, (stamps.entry, (log, (text.entry, (index.entry, tt))))))
         (record { result = result; last = (tt, (tt, (tt, (tt, (tt, (index.new, tt)))))) }) }
 {
-    segment_table::judging::st_validate_no_video(sources, segments, times, log, text, index)
+    segment_table::judging::st_validate_no_video(sources, segments, stamps, log, text, index)
 }
 
 /// What is quoted of `segment_table::judging::st_validate_constant` is promised, and nothing is asked.
 pub fn st_validate_constant(
     sources: &[u64],
     segments: &[u64],
-    times: &[i64],
+    stamps: &[i64],
     log: bool,
     text: &[u8],
     video_frames: u64,
@@ -200,16 +200,16 @@ pub fn st_validate_constant(
     frames: &mut u64,
     index: &mut u64,
 ) -> u64
-    ensures quoted { calls.StValidateConstant sources.now segments.now times.now log text.now
+    ensures quoted { calls.StValidateConstant sources.now segments.now stamps.now log text.now
         video_frames numerator denominator frames.old index.old result frames.new index.new }
     ensures placed { (κs : Regions calls.st-validate-constant) → Says calls.st-validate-constant κs
-        (sources.entry, (segments.entry, (times.entry, (log, (text.entry, (video_frames, (numerator, (denominator, (frames.entry, (index.entry, tt))))))))))
+        (sources.entry, (segments.entry, (stamps.entry, (log, (text.entry, (video_frames, (numerator, (denominator, (frames.entry, (index.entry, tt))))))))))
         (record { result = result; last = (tt, (tt, (tt, (tt, (tt, (tt, (tt, (tt, (frames.new, (index.new, tt)))))))))) }) }
 {
     segment_table::judging::st_validate_constant(
         sources,
         segments,
-        times,
+        stamps,
         log,
         text,
         video_frames,
@@ -224,7 +224,7 @@ pub fn st_validate_constant(
 pub fn st_validate_times(
     sources: &[u64],
     segments: &[u64],
-    times: &[i64],
+    stamps: &[i64],
     log: bool,
     text: &[u8],
     scale: u64,
@@ -234,14 +234,14 @@ pub fn st_validate_times(
     frames: &mut u64,
     index: &mut u64,
 ) -> u64
-    ensures quoted { calls.StValidateTimes sources.now segments.now times.now log text.now scale
+    ensures quoted { calls.StValidateTimes sources.now segments.now stamps.now log text.now scale
         starts.now end nominal frames.old index.old result frames.new index.new }
     ensures placed { (κs : Regions calls.st-validate-times) → Says calls.st-validate-times κs
-        (sources.entry, (segments.entry, (times.entry, (log, (text.entry, (scale, (starts.entry, (end, (nominal, (frames.entry, (index.entry, tt)))))))))))
+        (sources.entry, (segments.entry, (stamps.entry, (log, (text.entry, (scale, (starts.entry, (end, (nominal, (frames.entry, (index.entry, tt)))))))))))
         (record { result = result; last = (tt, (tt, (tt, (tt, (tt, (tt, (tt, (tt, (tt, (frames.new, (index.new, tt))))))))))) }) }
 {
     segment_table::judging::st_validate_times(
-        sources, segments, times, log, text, scale, starts, end, nominal, frames, index,
+        sources, segments, stamps, log, text, scale, starts, end, nominal, frames, index,
     )
 }
 
@@ -249,7 +249,7 @@ pub fn st_validate_times(
 pub fn st_check_mcraw(
     sources: &[u64],
     segments: &[u64],
-    times: &[i64],
+    stamps: &[i64],
     log: bool,
     text: &[u8],
     timestamps: &[i64],
@@ -258,17 +258,17 @@ pub fn st_check_mcraw(
     frames: &mut u64,
     index: &mut u64,
 ) -> u64
-    ensures quoted { calls.StCheckMcraw sources.now segments.now times.now log text.now
+    ensures quoted { calls.StCheckMcraw sources.now segments.now stamps.now log text.now
         timestamps.now first_work.old second_work.old frames.old index.old result first_work.new
         second_work.new frames.new index.new }
     ensures placed { (κs : Regions calls.st-check-mcraw) → Says calls.st-check-mcraw κs
-        (sources.entry, (segments.entry, (times.entry, (log, (text.entry, (timestamps.entry, (first_work.entry, (second_work.entry, (frames.entry, (index.entry, tt))))))))))
+        (sources.entry, (segments.entry, (stamps.entry, (log, (text.entry, (timestamps.entry, (first_work.entry, (second_work.entry, (frames.entry, (index.entry, tt))))))))))
         (record { result = result; last = (tt, (tt, (tt, (tt, (tt, (tt, (first_work.new, (second_work.new, (frames.new, (index.new, tt)))))))))) }) }
 {
     segment_table::judging::st_check_mcraw(
         sources,
         segments,
-        times,
+        stamps,
         log,
         text,
         timestamps,
@@ -361,40 +361,40 @@ pub fn st_video_frame_times_of_moov(
 pub fn st_check(
     sources: &[u64],
     segments: &[u64],
-    times: &[i64],
+    stamps: &[i64],
     log: bool,
     text: &[u8],
     frames: &mut u64,
     index: &mut u64,
 ) -> u64
-    ensures quoted { calls.StCheck sources.now segments.now times.now log text.now frames.old
+    ensures quoted { calls.StCheck sources.now segments.now stamps.now log text.now frames.old
         index.old result frames.new index.new }
     ensures placed { (κs : Regions calls.st-check) → Says calls.st-check κs
-        (sources.entry, (segments.entry, (times.entry, (log, (text.entry, (frames.entry, (index.entry, tt)))))))
+        (sources.entry, (segments.entry, (stamps.entry, (log, (text.entry, (frames.entry, (index.entry, tt)))))))
         (record { result = result; last = (tt, (tt, (tt, (tt, (tt, (frames.new, (index.new, tt))))))) }) }
 {
-    segment_table::tables::st_check(sources, segments, times, log, text, frames, index)
+    segment_table::tables::st_check(sources, segments, stamps, log, text, frames, index)
 }
 
 /// What is quoted of `segment_table::tables::st_segment_of_frame` is promised, and nothing is asked.
 pub fn st_segment_of_frame(
     sources: &[u64],
     segments: &[u64],
-    times: &[i64],
+    stamps: &[i64],
     log: bool,
     text: &[u8],
     frame: u64,
     segment: &mut u64,
     index: &mut u64,
 ) -> u64
-    ensures quoted { calls.StSegmentOfFrame sources.now segments.now times.now log text.now frame
+    ensures quoted { calls.StSegmentOfFrame sources.now segments.now stamps.now log text.now frame
         segment.old index.old result segment.new index.new }
     ensures placed { (κs : Regions calls.st-segment-of-frame) → Says calls.st-segment-of-frame κs
-        (sources.entry, (segments.entry, (times.entry, (log, (text.entry, (frame, (segment.entry, (index.entry, tt))))))))
+        (sources.entry, (segments.entry, (stamps.entry, (log, (text.entry, (frame, (segment.entry, (index.entry, tt))))))))
         (record { result = result; last = (tt, (tt, (tt, (tt, (tt, (tt, (segment.new, (index.new, tt)))))))) }) }
 {
     segment_table::tables::st_segment_of_frame(
-        sources, segments, times, log, text, frame, segment, index,
+        sources, segments, stamps, log, text, frame, segment, index,
     )
 }
 
@@ -402,7 +402,7 @@ pub fn st_segment_of_frame(
 pub fn st_segments_of_frames(
     sources: &[u64],
     segments: &[u64],
-    times: &[i64],
+    stamps: &[i64],
     log: bool,
     text: &[u8],
     frames: &[u64],
@@ -410,17 +410,17 @@ pub fn st_segments_of_frames(
     written: &mut u64,
     index: &mut u64,
 ) -> u64
-    ensures quoted { calls.StSegmentsOfFrames sources.now segments.now times.now log text.now
+    ensures quoted { calls.StSegmentsOfFrames sources.now segments.now stamps.now log text.now
         frames.now out_segments.old written.old index.old result out_segments.new written.new
         index.new }
     ensures placed { (κs : Regions calls.st-segments-of-frames) → Says calls.st-segments-of-frames κs
-        (sources.entry, (segments.entry, (times.entry, (log, (text.entry, (frames.entry, (out_segments.entry, (written.entry, (index.entry, tt)))))))))
+        (sources.entry, (segments.entry, (stamps.entry, (log, (text.entry, (frames.entry, (out_segments.entry, (written.entry, (index.entry, tt)))))))))
         (record { result = result; last = (tt, (tt, (tt, (tt, (tt, (tt, (out_segments.new, (written.new, (index.new, tt))))))))) }) }
 {
     segment_table::tables::st_segments_of_frames(
         sources,
         segments,
-        times,
+        stamps,
         log,
         text,
         frames,
@@ -434,21 +434,21 @@ pub fn st_segments_of_frames(
 pub fn st_segment_of_time_us(
     sources: &[u64],
     segments: &[u64],
-    times: &[i64],
+    stamps: &[i64],
     log: bool,
     text: &[u8],
     time: i64,
     segment: &mut u64,
     index: &mut u64,
 ) -> u64
-    ensures quoted { calls.StSegmentOfTimeUs sources.now segments.now times.now log text.now time
+    ensures quoted { calls.StSegmentOfTimeUs sources.now segments.now stamps.now log text.now time
         segment.old index.old result segment.new index.new }
     ensures placed { (κs : Regions calls.st-segment-of-time-us) → Says calls.st-segment-of-time-us κs
-        (sources.entry, (segments.entry, (times.entry, (log, (text.entry, (time, (segment.entry, (index.entry, tt))))))))
+        (sources.entry, (segments.entry, (stamps.entry, (log, (text.entry, (time, (segment.entry, (index.entry, tt))))))))
         (record { result = result; last = (tt, (tt, (tt, (tt, (tt, (tt, (segment.new, (index.new, tt)))))))) }) }
 {
     segment_table::tables::st_segment_of_time_us(
-        sources, segments, times, log, text, time, segment, index,
+        sources, segments, stamps, log, text, time, segment, index,
     )
 }
 
@@ -456,27 +456,29 @@ pub fn st_segment_of_time_us(
 pub fn st_continues(
     sources: &[u64],
     segments: &[u64],
-    times: &[i64],
+    stamps: &[i64],
     log: bool,
     text: &[u8],
     segment: u64,
     answer: &mut u64,
     index: &mut u64,
 ) -> u64
-    ensures quoted { calls.StContinues sources.now segments.now times.now log text.now segment
+    ensures quoted { calls.StContinues sources.now segments.now stamps.now log text.now segment
         answer.old index.old result answer.new index.new }
     ensures placed { (κs : Regions calls.st-continues) → Says calls.st-continues κs
-        (sources.entry, (segments.entry, (times.entry, (log, (text.entry, (segment, (answer.entry, (index.entry, tt))))))))
+        (sources.entry, (segments.entry, (stamps.entry, (log, (text.entry, (segment, (answer.entry, (index.entry, tt))))))))
         (record { result = result; last = (tt, (tt, (tt, (tt, (tt, (tt, (answer.new, (index.new, tt)))))))) }) }
 {
-    segment_table::tables::st_continues(sources, segments, times, log, text, segment, answer, index)
+    segment_table::tables::st_continues(
+        sources, segments, stamps, log, text, segment, answer, index,
+    )
 }
 
 /// What is quoted of `segment_table::tables::st_rows_of_table` is promised, and nothing is asked.
 pub fn st_rows_of_table(
     sources: &[u64],
     segments: &[u64],
-    times: &[i64],
+    stamps: &[i64],
     log: bool,
     text: &[u8],
     out_words: &mut [u64],
@@ -484,15 +486,15 @@ pub fn st_rows_of_table(
     rows: &mut u64,
     index: &mut u64,
 ) -> u64
-    ensures quoted { calls.StRowsOfTable sources.now segments.now times.now log text.now
+    ensures quoted { calls.StRowsOfTable sources.now segments.now stamps.now log text.now
         out_words.old out_shifts.old rows.old index.old result out_words.new out_shifts.new rows.new
         index.new }
     ensures placed { (κs : Regions calls.st-rows-of-table) → Says calls.st-rows-of-table κs
-        (sources.entry, (segments.entry, (times.entry, (log, (text.entry, (out_words.entry, (out_shifts.entry, (rows.entry, (index.entry, tt)))))))))
+        (sources.entry, (segments.entry, (stamps.entry, (log, (text.entry, (out_words.entry, (out_shifts.entry, (rows.entry, (index.entry, tt)))))))))
         (record { result = result; last = (tt, (tt, (tt, (tt, (tt, (out_words.new, (out_shifts.new, (rows.new, (index.new, tt))))))))) }) }
 {
     segment_table::tables::st_rows_of_table(
-        sources, segments, times, log, text, out_words, out_shifts, rows, index,
+        sources, segments, stamps, log, text, out_words, out_shifts, rows, index,
     )
 }
 

@@ -2,11 +2,11 @@
 //! and the frame times stand on is in the modules.
 #![tactic(auto)]
 
+mod mtrm;
 pub mod places;
 pub mod read;
 pub mod search;
 mod size;
-mod table;
 pub mod track;
 
 ghost use Rattle.std.specs.Prelude.{◌≡◌};
@@ -15,12 +15,12 @@ ghost use Rattle.boxes.specs.Boxes.{box_size, children_at, place};
 ghost use Rattle.boxes.specs.Places.{PartAt, child_place, find_box_place, table_text_place};
 ghost use Rattle.boxes.specs.Examples.{WorkedExamples};
 
+use mtrm::table_of;
 use places::part;
 use read::code;
 use refusal::{Reason, Refusal};
 use search::{find, find_child};
 use size::{header_at, size_of};
-use table::table_of;
 
 /// The most bytes that a call takes: over them it refuses with `TooLong` (30).
 pub const MOST_BYTES: usize = 16_777_216;

@@ -25,7 +25,7 @@ fn range_at(ranges: &[u64], k: usize) -> Range
     }
 }
 
-// 50 of a range of a map of so many frames.
+// Why a range of a map of so many frames is refused: it has no frames or ends past it (50).
 #[tactic(auto, using(conditions::proofs::Tests::tests))]
 fn refuse_range(range: Range, frames: u64) -> Result<(), Reason>
     ensures { result ≡ range_refusal frames range }
@@ -39,7 +39,7 @@ fn refuse_range(range: Range, frames: u64) -> Result<(), Reason>
     Ok(())
 }
 
-// 50 of the ranges.
+// Why the ranges are refused: the first that is no cut, or half a range at the end (50).
 #[tactic(auto, using(crate::proofs::Refused::ranged))]
 fn refuse_ranges(ranges: &[u64], frames: u64) -> Result<(), Refusal>
     ensures { result ≡ ranges_refusal frames ranges.now }

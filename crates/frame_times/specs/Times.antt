@@ -114,8 +114,8 @@ whole_part moov = record { base = 0; bytes = moov }
 abbrev pub inner_part : Part → Place → Part
 inner_part part place = record { base = part.base + place.start; bytes = bytes_at part.bytes place }
 
--- the payload that a walk over a part found, which has to be there: 31 after a clean end, at a broken header 36 with its
--- offset in the moov (RULES 7.6)
+-- the payload that a walk over a part found, which has to be there: 31 after a clean end, at a broken header 36 with
+-- its offset in the moov (RULES 7.6)
 abbrev pub found : Part → Walk → Result Part Refusal
 found part (Found place) = Ok (inner_part part place)
 found part End = refused reason.Missing 0
@@ -125,8 +125,8 @@ found part (BadAt at) = refused reason.Broken (part.base + at)
 abbrev pub child : (Part → Walk → Result Part Refusal) → Part → ℕ → Result Part Refusal
 child found part kind = found part (first_of kind (boxes_of part.bytes))
 
--- a video track: the most frames that it may have, the movie's timescale and its own, and the payloads of its tables; an
--- edts or a ctts that is absent is empty
+-- a video track: the most frames that it may have, the movie's timescale and its own, and the payloads of its tables;
+-- an edts or a ctts that is absent is empty
 pub record Track : Type 0 where
   pub most_frames : ℕ
   pub movie : ℕ

@@ -8,7 +8,7 @@ use refusal::{Reason, Refusal};
 use ticks::FrameTimes;
 use tracks::Edit;
 use tracks::edits::edit_of;
-use tracks::entries::Table;
+use tracks::entries::EntryTable;
 use tracks::tables::lay;
 
 /// A video track: the most frames that it can have, which is the moov's bytes; the movie's
@@ -33,8 +33,8 @@ pub(crate) struct Track<'a> {
 /// the edit.
 #[derive(Clone, Copy)]
 pub(crate) struct Timing<'a> {
-    pub durations: Table<'a>,
-    pub offsets: Table<'a>,
+    pub durations: EntryTable<'a>,
+    pub offsets: EntryTable<'a>,
     pub standard: bool,
     pub edit: Edit,
 }
@@ -58,7 +58,7 @@ impl Track<'_> {
             (track_seen self.entry)))
             result starts.old starts.new }
     {
-        let durations = needed(Table::of(self.stts))?;
+        let durations = needed(EntryTable::of(self.stts))?;
         let frames = lay(durations, self.most_frames, second_work);
         if self.most_frames < frames {
             return Err(Reason::Missing.at(0));
@@ -66,7 +66,7 @@ impl Track<'_> {
         if starts.len().min(first_work.len()).min(second_work.len()) < frames {
             return Err(Reason::NoRoom.at(0));
         }
-        let offsets = needed(Table::of_optional(self.ctts))?;
+        let offsets = needed(EntryTable::of_optional(self.ctts))?;
         let edit = needed(edit_of(self.edts, self.scale, self.movie))?;
         let timing = Timing {
             durations,

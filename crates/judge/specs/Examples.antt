@@ -16,13 +16,13 @@ use Rattle.judge.specs.Judge.{validate_of, check_mcraw}
 -- out start and a duration
 abbrev pub one_segment : ℕ → ℕ → ℕ → ℤ → ℤ → Table
 one_segment numerator denominator count out duration =
-    table_of (100 ∷ numerator ∷ denominator ∷ 0 ∷ 0 ∷ 0 ∷ 0 ∷ 0 ∷ 0 ∷ 0 ∷ []) (0 ∷ 0 ∷ count ∷ 0 ∷ 0 ∷ [])
+    table_of (100 ∷ numerator ∷ denominator ∷ 0 ∷ 0 ∷ 0 ∷ 0 ∷ 0 ∷ 0 ∷ 0 ∷ 0 ∷ 0 ∷ 0 ∷ []) (0 ∷ 0 ∷ count ∷ 0 ∷ 0 ∷ [])
     (pos 0 ∷ out ∷ duration ∷ pos 0 ∷ pos 0 ∷ pos 0 ∷ pos 0 ∷ []) false []
 
 -- the same with a second segment of 20 frames, which starts where the first one ends
 abbrev pub two_segments : ℕ → ℤ → ℤ → ℤ → Table
 two_segments count first out second =
-    table_of (100 ∷ 25 ∷ 1 ∷ 0 ∷ 0 ∷ 0 ∷ 0 ∷ 0 ∷ 0 ∷ 0 ∷ []) (0 ∷ 10 ∷ count ∷ 0 ∷ 0 ∷ 0 ∷ 5 ∷ 20 ∷ count ∷ 0 ∷ [])
+    table_of (100 ∷ 25 ∷ 1 ∷ 0 ∷ 0 ∷ 0 ∷ 0 ∷ 0 ∷ 0 ∷ 0 ∷ 0 ∷ 0 ∷ 0 ∷ []) (0 ∷ 10 ∷ count ∷ 0 ∷ 0 ∷ 0 ∷ 5 ∷ 20 ∷ count ∷ 0 ∷ [])
     (pos 0 ∷ pos 0 ∷ first ∷ pos 0 ∷ pos 0 ∷ pos 0 ∷ pos 0
     ∷ pos 0 ∷ out ∷ second ∷ pos 0 ∷ pos 0 ∷ pos 0 ∷ pos 0 ∷ []) false []
 
@@ -43,7 +43,7 @@ videos =
     ∷ is (judged_by (one_segment 30000 1001 30 (pos 0) (pos 1034368)) (Constant 30 30000 1001) [])
     (refused reason.EndNotNear 0)
     -- no segments come before no video, no video before any other, and a rate over its limit before the frame count
-    ∷ is (judged_by (table_of (100 ∷ 25 ∷ 1 ∷ 0 ∷ 0 ∷ 0 ∷ 0 ∷ 0 ∷ 0 ∷ 0 ∷ []) [] [] false []) Nothing [])
+    ∷ is (judged_by (table_of (100 ∷ 25 ∷ 1 ∷ 0 ∷ 0 ∷ 0 ∷ 0 ∷ 0 ∷ 0 ∷ 0 ∷ 0 ∷ 0 ∷ 0 ∷ []) [] [] false []) Nothing [])
     (refused reason.NoSegments 0)
     ∷ is (judged_by (one_segment 25 1 30 (pos 0) (pos 1200000)) Nothing []) (refused reason.NoVideo 0)
     ∷ is (judged_by (one_segment 25 1 30 (pos 0) (pos 1200000)) (Constant 31 4294967296 1) [])

@@ -15,7 +15,7 @@ use table::layout::Segments;
 use table::{Accepted, SegmentTable, Tabled};
 
 /// Frames of one segment: those from `from` on that come before `end`.
-#[derive(Clone, Copy)]
+#[derive(Clone, Copy, Debug, PartialEq)]
 pub struct Piece {
     /// The segment.
     pub index: usize,

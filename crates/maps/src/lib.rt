@@ -35,7 +35,7 @@ pub struct FrameMap<'a> {
 }
 
 /// The frames of a map from `from` on that come before `to`.
-#[derive(Clone, Copy)]
+#[derive(Clone, Copy, Debug, PartialEq)]
 pub struct Range {
     /// The first frame.
     pub from: u64,
@@ -44,7 +44,7 @@ pub struct Range {
 }
 
 /// The rows that a cut takes.
-#[derive(Clone, Copy)]
+#[derive(Clone, Copy, Debug, PartialEq)]
 pub struct Taken {
     /// The number of the first of them.
     pub first: usize,
@@ -512,7 +512,7 @@ impl<'a> FrameMap<'a> {
         self.row_of(frame)
     }
 
-    // 54 of the first frame of a list that lies past the map.
+    // Why a list is refused: its first frame that lies past the map (54).
     #[tactic(auto, using(crate::proofs::Many::refusing))]
     fn refuse_frames(self, frames: &[u64]) -> Result<(), Refusal>
         ensures { result ≡ first_refused (frame_refusal self.entry.frames) 0 frames.now }

@@ -15,7 +15,7 @@ use table::layout::Segments;
 use table::sources::Sources;
 use table_rows::RowWords;
 
-/// A segment as one record (RULES 1.6), with its times in microseconds: the Rust's TrimSegment.
+/// A segment as one record, with its times in microseconds: the Rust's TrimSegment.
 #[repr(C)]
 #[derive(Clone, Copy, Debug, PartialEq)]
 pub struct TrimSegment {
@@ -104,7 +104,7 @@ impl Segments for Records<'_> {
 // Its rows' words are written row by row.
 impl RowWords for Records<'_> {}
 
-/// A table whose segments are lent as records: it is the table of their words. Sources are ten
+/// A table whose segments are lent as records: it is the table of their words. Sources are thirteen
 /// words each (RULES 1.2), `text` has the bytes of creation times, `log` says whether the table
 /// names a telemetry log.
 #[tactic(auto, using(crate::proofs::Laid::words_are))]

@@ -7,7 +7,7 @@ use Rattle.refusal.specs.Reasons.{number}
 
 abbrev pub words : Reason → List ℕ
 words reason.Malformed = codes "a slice length is no multiple of its record, the two segment slices disagree, a flag or kind is outside its set, or a present creation time's range leaves the text"
-words reason.OverLimit = codes "there are over 64 sources or over 512 segments"
+words reason.OverLimit = codes "there are over 256 sources or over 512 segments"
 words reason.NoSources = codes "there are no sources"
 words reason.ZeroInSource = codes "the source has 0 frames, or a 0 in its frames a second"
 words reason.BadDate = codes "the source's creation time fails the UTC rule"

@@ -94,7 +94,7 @@ impl Reason {
                  flag or kind is outside its set, or a present creation time's range leaves the \
                  text"
             }
-            Reason::OverLimit => "there are over 64 sources or over 512 segments",
+            Reason::OverLimit => "there are over 256 sources or over 512 segments",
             Reason::NoSources => "there are no sources",
             Reason::ZeroInSource => "the source has 0 frames, or a 0 in its frames a second",
             Reason::BadDate => "the source's creation time fails the UTC rule",

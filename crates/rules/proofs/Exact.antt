@@ -122,7 +122,7 @@ unfolding malformed bad_source bad_segment
 malformed-says t =
     three (either
     (either (is t.uneven) (some _ (BadWords t.text) no_source t.sources
-    (λ s. three (either (either (less 1 s.dated) (less 2 s.kind)) (both (equal s.dated 1) (passes s.from s.size (length t.text)))))))
+    (λ s. three (either (either (less 1 s.dated) (less 2 s.kind)) (either (less 1 s.imu_known) (both (equal s.dated 1) (passes s.from s.size (length t.text))))))))
     (some _ (λ (e : Segment). 1 < e.words.flag) no_segment t.segments (λ e. less 1 e.words.flag)))
 
 pub agrees : (t : Table) → Agrees (refusal t) (tests t)

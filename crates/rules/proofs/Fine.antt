@@ -62,16 +62,17 @@ pub stops : (s : Source) (previous : Ends) (w : Words) (e : Stamps) {to : Ends} 
 stops s previous w e n h = (not-passed n, λ _. record { refused = λ f z. h f (judged-tested s previous w (stamp_times e) z); end = n })
 
 -- a source without creation time and clock
-pub plain-source : (log : Bool) (text : List ℕ) (s : Source) → not (eqb s.dated 0) || not (eqb s.kind 0) ≡ false
+pub plain-source : (log : Bool) (text : List ℕ) (s : Source) → (not (eqb s.dated 0) || not (eqb s.kind 0)) || ltb 1 s.imu_known ≡ false
     → log ≡ false
     → (s.frames ≡ 0 → ⊥) → (s.numerator ≡ 0 → ⊥) → not (eqb s.denominator 0) ≡ true → FineSource log text s
 unfolding bad_source source_refusal
 plain-source log text s e l a b c =
-    let x = or_parts (not (eqb s.dated 0)) (not (eqb s.kind 0)) e in
+    let y = or_parts (not (eqb s.dated 0) || not (eqb s.kind 0)) (ltb 1 s.imu_known) e in
+    let x = or_parts (not (eqb s.dated 0)) (not (eqb s.kind 0)) y.0 in
     let d : s.dated ≡ 0 = eqb-true s.dated 0 (not-false (eqb s.dated 0) x.0) in
     let k : s.kind ≡ 0 = eqb-true s.kind 0 (not-false (eqb s.kind 0) x.1) in
     record {
-      words = rw (d, k);
+      words = rw (d, k, y.1);
       none = rw (ne_eqb s.frames 0 a, ne_eqb s.numerator 0 b, not-true (eqb s.denominator 0) c, d, k, l);
     }
 

@@ -2,6 +2,7 @@
 use Prim.Native.Nat.{ℕ, suc, ◌+◌, ◌-◌}
 use Rattle.std.specs.List.{list_any, count_by}
 use Rattle.std.proofs.lemmas.List.Folds.{fold-map}
+use Rattle.std.proofs.lemmas.Simd.{map-map}
 use native.Mathlib.Omega.{arith}
 use mathlib.Core.Path.{◌≡◌, refl, sym, ap, ◌∙◌}
 use mathlib.Core.Bool.{Bool, cond, true, false, ◌||◌, ◌&&◌}
@@ -22,7 +23,7 @@ use Rattle.rules.specs.declared.Segment.{Segment}
 use Rattle.rules.specs.Records.{Table, no_source, no_segment, segment, source_of, frame_total}
 use Rattle.rules.specs.Rules.{negative, bad_words, bad_source, bad_segment, malformed, bad_date, bad_clock, bad_shift, source_refusal, stamp_times, judged, segment_refusal, start, ends_of, ends, segments_from, front_refusal, refusal, check_of}
 use Rattle.rules.specs.Lookups.{ended, over_by, over_by_us, segment_of_frame, segment_of_time, same_shift, segment_runs_on, continues_at}
-use Rattle.rules.specs.Absent.{stripped_source, stripped_segment, stripped}
+use Rattle.rules.specs.Absent.{stripped_source, stripped_segment, stripped, unread_source, unread}
 
 -- ---- lists of records that are changed where no one looks
 any-map : {A : Type 0} (p : A → Bool) (f : A → A) (l : List A) → ((a : A) → p (f a) ≡ p a)
@@ -45,10 +46,20 @@ first-map g f i (a ∷ l) h = rw (h a, first-map g f (suc i) l h)
 not-one : (n : ℕ) → eqb n 0 ≡ true → eqb n 1 ≡ false
 not-one n e = ne_eqb n 1 (λ q. omega (arith, eqb-true n 0 e))
 
-words-stripped : (n dated from size kind : ℕ)
+-- a flag says the same of 1 whether it is 0 or 1
+abbrev flag_only : ℕ → ℕ
+flag_only known = if ltb 1 known then known else 0
+
+flag-kept : (known : ℕ) → ltb 1 (flag_only known) ≡ ltb 1 known
+flag-kept known = decide (ltb 1 known) (λ e. rw e e) (λ e. rw e)
+
+flag-once : (known : ℕ) → flag_only (flag_only known) ≡ flag_only known
+flag-once known = decide (ltb 1 known) (λ e. rw e (λ i. if e i then known else 0)) (λ e. rw e)
+
+words-stripped : (n dated from size kind known : ℕ)
     → bad_words n dated (if eqb dated 0 then 0 else from)
-    (if eqb dated 0 then 0 else size) kind ≡ bad_words n dated from size kind
-words-stripped n dated from size kind = decide (eqb dated 0) (λ e. rw (not-one dated e)) (λ e. rw e)
+    (if eqb dated 0 then 0 else size) kind (flag_only known) ≡ bad_words n dated from size kind known
+words-stripped n dated from size kind known = decide (eqb dated 0) (λ e. rw (not-one dated e, flag-kept known)) (λ e. rw (e, flag-kept known))
 
 date-stripped : (text : List ℕ) (dated from size : ℕ)
     → bad_date text dated (if eqb dated 0 then 0 else from)
@@ -130,7 +141,7 @@ malformed-stripped t =
     rw (any-map (bad_source (length t.text)) stripped_source t.sources (bad-source (length t.text)), any-map bad_segment stripped_segment t.segments bad-segment)
   where
     bad-source : (n : ℕ) (s : Source) → bad_source n (stripped_source s) ≡ bad_source n s
-    bad-source n s = words-stripped n s.dated s.from s.size s.kind
+    bad-source n s = words-stripped n s.dated s.from s.size s.kind s.imu_known
 
     bad-segment : (e : Segment) → bad_segment (stripped_segment e) ≡ bad_segment e
     bad-segment e = refl
@@ -191,6 +202,21 @@ continues-stripped r t = λ i. result_and (check-stripped t i) (Ok (asked i))
     asked : ((leb 1 r && ltb r (length t.segments)) && segment_runs_on (segment t (r - 1)) (segment t r))
         ≡ ((leb 1 r && ltb r (length (map stripped_segment t.segments))) && segment_runs_on (segment (stripped t) (r - 1)) (segment (stripped t) r))
     asked = rw (length-map t.segments stripped_segment, segment-at t.segments (r - 1), segment-at t.segments r, runs-stripped (segment t (r - 1)) (segment t r))
+
+-- a table of which the words are set to 0 that no call reads is stripped as it is
+unread-stripped-source : (s : Source) → stripped_source (unread_source s) ≡ stripped_source s
+unfolding stripped_source unread_source
+unread-stripped-source s = rw (flag-once s.imu_known)
+
+pub unread-stripped : (t : Table) → stripped t ≡ stripped (unread t)
+unfolding stripped unread
+unread-stripped t = λ i. record {
+  uneven = t.uneven;
+  log = t.log;
+  text = t.text;
+  sources = (sym (map-map stripped_source unread_source t.sources ∙ λ j. map (λ s. unread-stripped-source s j) t.sources)) i;
+  segments = map stripped_segment t.segments;
+}
 
 -- so it is the same of tables that are stripped alike
 pub alike : {A : Type 0} (f : Table → A) → ((t : Table) → f t ≡ f (stripped t)) → (a b : Table)

@@ -16,7 +16,8 @@ use Rattle.rules.specs.Records.{Table, source, segment, source_of, out_end, out_
 -- 1 of a source: a flag or kind is outside its set, or a present creation time's range leaves the text
 abbrev pub BadWords : List ℕ → Source → Type 0
 BadWords text source =
-    (1 < source.dated) ⊎ (2 < source.kind) ⊎ ((source.dated ≡ 1) × (length text < source.from + source.size))
+    (1 < source.dated) ⊎ (2 < source.kind) ⊎ (1 < source.imu_known)
+    ⊎ ((source.dated ≡ 1) × (length text < source.from + source.size))
 
 -- 1: a slice length is no multiple of its record, or the two segment slices disagree (`uneven`); or a source has such
 -- words, or a segment a flag outside its set
@@ -26,7 +27,7 @@ Malformed table =
     ⊎ SomeIndex table.sources (λ k. BadWords table.text (source table k))
     ⊎ SomeIndex table.segments (λ k. 1 < (segment table k).words.flag)
 
--- 2: over 64 sources or 512 segments
+-- 2: over 256 sources or 512 segments
 abbrev pub OverLimit : Table → Type 0
 OverLimit table = (max_sources < length table.sources) ⊎ (max_segments < length table.segments)
 

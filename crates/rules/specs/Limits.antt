@@ -2,7 +2,7 @@
 use Rattle.std.specs.Prelude.{ℕ}
 
 abbrev pub max_sources : ℕ
-max_sources = 64
+max_sources = 256
 
 abbrev pub max_segments : ℕ
 max_segments = 512

@@ -28,6 +28,9 @@ no_source = record {
   ticks = 0;
   per = 0;
   modulus = 0;
+  file_size = 0;
+  imu_known = 0;
+  imu_origin = 0;
 }
 
 unfoldable pub no_segment : Segment

@@ -19,13 +19,13 @@ use Rattle.rules.specs.declared.Segment.{Segment}
 use Rattle.rules.specs.Records.{Table, source_of, frame_total}
 
 -- 1: a flag or kind outside its set, or a present creation time whose range leaves the text
-abbrev pub bad_words : ℕ → ℕ → ℕ → ℕ → ℕ → Bool
-bad_words text_length dated from size kind =
-    (nat_lt 1 dated || nat_lt 2 kind) || (dated == 1 && past from size text_length)
+abbrev pub bad_words : ℕ → ℕ → ℕ → ℕ → ℕ → ℕ → Bool
+bad_words text_length dated from size kind imu_known =
+    (nat_lt 1 dated || nat_lt 2 kind) || (nat_lt 1 imu_known || (dated == 1 && past from size text_length))
 
 -- 1 of a source, and of a segment
 unfoldable pub bad_source : ℕ → Source → Bool
-bad_source text_length source = bad_words text_length source.dated source.from source.size source.kind
+bad_source text_length source = bad_words text_length source.dated source.from source.size source.kind source.imu_known
 
 unfoldable pub bad_segment : Segment → Bool
 bad_segment segment = nat_lt 1 segment.words.flag
@@ -36,7 +36,7 @@ malformed table =
     (table.uneven || list_any (bad_source (length table.text)) table.sources)
     || list_any bad_segment table.segments
 
--- 2: over 64 sources or 512 segments
+-- 2: over 256 sources or 512 segments
 abbrev pub over_limit : ℕ → ℕ → Bool
 over_limit sources segments = nat_lt max_sources sources || nat_lt max_segments segments
 

@@ -12,7 +12,7 @@ ghost use Rattle.rules.specs.Walks.{turned, FineFrames, FineShift, out_of_time, 
 use refusal::Reason;
 
 // The most sources (RULES 11).
-const MAX_SOURCES: usize = 64;
+const MAX_SOURCES: usize = 256;
 
 /// The most segments (RULES 11).
 pub const MAX_SEGMENTS: usize = 512;
@@ -21,7 +21,7 @@ pub const MAX_SEGMENTS: usize = 512;
 const MAX_I64: u64 = 0x7fff_ffff_ffff_ffff;
 
 /// A source of the table, RULES 1.2; the Rust's TableSource.
-#[derive(Clone, Copy)]
+#[derive(Clone, Copy, Debug, PartialEq)]
 pub struct Source {
     /// Its frames.
     pub frames: u64,
@@ -43,10 +43,16 @@ pub struct Source {
     pub per: u64,
     /// Its clock's modulus: clock.modulus.
     pub modulus: u64,
+    /// Its file's size, in bytes: size. No answer rests on it.
+    pub file_size: u64,
+    /// Whether the origin of its IMU's clock is known (0, 1): whether zcam_imu_origin_us is.
+    pub imu_known: u64,
+    /// That origin, in microseconds. No answer rests on it.
+    pub imu_origin: u64,
 }
 
 /// A segment's unsigned words, RULES 1.3; of the Rust's TrimSegment.
-#[derive(Clone, Copy)]
+#[derive(Clone, Copy, Debug, PartialEq)]
 pub struct Words {
     /// The source's number: source.
     pub source: u64,
@@ -61,7 +67,7 @@ pub struct Words {
 }
 
 /// A segment's signed words, RULES 1.3: its six times, and its shift.
-#[derive(Clone, Copy)]
+#[derive(Clone, Copy, Debug, PartialEq)]
 pub struct Stamps {
     /// src_start_us.
     pub source_start: i64,
@@ -80,7 +86,7 @@ pub struct Stamps {
 }
 
 /// A segment; the Rust's TrimSegment.
-#[derive(Clone, Copy)]
+#[derive(Clone, Copy, Debug, PartialEq)]
 pub struct Segment {
     /// Its unsigned words.
     pub words: Words,
@@ -90,7 +96,7 @@ pub struct Segment {
 
 /// What a segment's signed words say: whether one of the six times is negative, and each one's
 /// magnitude. The magnitudes of times are used only where none is negative (13).
-#[derive(Clone, Copy)]
+#[derive(Clone, Copy, Debug, PartialEq)]
 pub struct SixTimes {
     /// Whether one of the times is negative.
     pub negative: bool,
@@ -113,7 +119,7 @@ pub struct SixTimes {
 }
 
 /// Where a segment ends, if there is one: the frame, the time and the capture time after its last.
-#[derive(Clone, Copy)]
+#[derive(Clone, Copy, Debug, PartialEq)]
 pub struct Ends {
     /// Whether there is one.
     pub some: bool,
@@ -125,7 +131,7 @@ pub struct Ends {
     pub capture: u64,
 }
 
-/// Whether there are over 64 sources or 512 segments: `OverLimit` (2).
+/// Whether there are over 256 sources or 512 segments: `OverLimit` (2).
 pub fn over_limit(sources: usize, segments: usize) -> bool
     ensures { result ≡ over_limit sources segments }
 {
@@ -133,14 +139,14 @@ pub fn over_limit(sources: usize, segments: usize) -> bool
 }
 
 impl Source {
-    /// Whether its flag or kind is outside its set, or the range of its creation time leaves a text of
+    /// Whether a flag or kind is outside its set, or the range of its creation time leaves a text of
     /// so many bytes: `Malformed` (1; RULES 3.2).
     #[tactic(auto, unfolding(crate::specs::Rules::bad_source))]
     pub fn is_bad(self, text_length: u64) -> bool
         ensures { result ≡ bad_source text_length self }
     {
         let leaves = conditions::is_past(self.from, self.size, text_length);
-        ((self.dated > 1) | (self.kind > 2)) | ((self.dated == 1) & leaves)
+        ((self.dated > 1) | (self.kind > 2)) | ((self.imu_known > 1) | ((self.dated == 1) & leaves))
     }
 
     // Whether its frames, or either fps number, is 0 (4).

@@ -15,23 +15,23 @@ use judge::Video;
 pub extern "C" fn st_validate_no_video(
     sources: &[u64],
     segments: &[u64],
-    times: &[i64],
+    stamps: &[i64],
     log: bool,
     text: &[u8],
     index: &mut u64,
 ) -> u64
     ensures { (result, tt, index.new)
         ≡ told unsaid
-        (validate_of (table_of sources.now segments.now times.now log text.now) nothing) tt }
+        (validate_of (table_of sources.now segments.now stamps.now log text.now) nothing) tt }
 {
     let answer = judge::validate(
         sources,
         segments,
-        times,
+        stamps,
         log,
         text,
         Video::Nothing,
-        &times[..0],
+        &stamps[..0],
     );
     told::tell_refusal(answer, index)
 }
@@ -43,7 +43,7 @@ pub extern "C" fn st_validate_no_video(
 pub extern "C" fn st_validate_constant(
     sources: &[u64],
     segments: &[u64],
-    times: &[i64],
+    stamps: &[i64],
     log: bool,
     text: &[u8],
     video_frames: u64,
@@ -54,7 +54,7 @@ pub extern "C" fn st_validate_constant(
 ) -> u64
     ensures { (result, frames.new, index.new)
         ≡ told itself
-        (validate_of (table_of sources.now segments.now times.now log text.now)
+        (validate_of (table_of sources.now segments.now stamps.now log text.now)
         (constant video_frames numerator denominator))
         frames.old }
 {
@@ -63,7 +63,7 @@ pub extern "C" fn st_validate_constant(
         numerator,
         denominator,
     };
-    let answer = judge::validate(sources, segments, times, log, text, video, &times[..0]);
+    let answer = judge::validate(sources, segments, stamps, log, text, video, &stamps[..0]);
     told::tell(answer, frames, index)
 }
 
@@ -75,7 +75,7 @@ pub extern "C" fn st_validate_constant(
 pub extern "C" fn st_validate_times(
     sources: &[u64],
     segments: &[u64],
-    times: &[i64],
+    stamps: &[i64],
     log: bool,
     text: &[u8],
     scale: u64,
@@ -87,7 +87,7 @@ pub extern "C" fn st_validate_times(
 ) -> u64
     ensures { (result, frames.new, index.new)
         ≡ told itself
-        (validate_of (table_of sources.now segments.now times.now log text.now)
+        (validate_of (table_of sources.now segments.now stamps.now log text.now)
         (timed starts.now scale end nominal))
         frames.old }
 {
@@ -96,7 +96,7 @@ pub extern "C" fn st_validate_times(
         end,
         nominal,
     };
-    let answer = judge::validate(sources, segments, times, log, text, video, starts);
+    let answer = judge::validate(sources, segments, stamps, log, text, video, starts);
     told::tell(answer, frames, index)
 }
 
@@ -109,7 +109,7 @@ pub extern "C" fn st_validate_times(
 pub extern "C" fn st_check_mcraw(
     sources: &[u64],
     segments: &[u64],
-    times: &[i64],
+    stamps: &[i64],
     log: bool,
     text: &[u8],
     timestamps: &[i64],
@@ -118,14 +118,14 @@ pub extern "C" fn st_check_mcraw(
     frames: &mut u64,
     index: &mut u64,
 ) -> u64
-    ensures { JudgedTold (table_of sources.now segments.now times.now log text.now) timestamps.now
+    ensures { JudgedTold (table_of sources.now segments.now stamps.now log text.now) timestamps.now
         first_work.old second_work.old frames.old result first_work.new second_work.new
         frames.new index.new }
 {
     let answer = judge::check_mcraw(
         sources,
         segments,
-        times,
+        stamps,
         log,
         text,
         timestamps,

@@ -16,9 +16,9 @@
 //!
 //! Overlap. What a call may write overlaps nothing else that it is lent. No proof reaches a call
 //! that breaks this: memory may be corrupted. With one array as both working slices
-//! st_video_frame_times_of_moov answers wrong starts, or ends in a segmentation fault where 17
-//! frames or more are in no order; with its timestamps as the starts st_mcraw_times answers wrong
-//! starts.
+//! st_video_frame_times_of_moov can answer wrong starts, or end in a segmentation fault, where the
+//! times of 17 frames or more are in no order; of fewer, or of times in order, nothing shows it. With
+//! its timestamps as the starts st_mcraw_times answers wrong starts.
 //!
 //! Stack, as bindings/c/stack measures it on x86-64, and on Arm in an emulator: each call takes less
 //! than 4 KiB. Copies and cleared slices are made by the C library's memmove and memset. A program
@@ -26,13 +26,18 @@
 //! 3 KiB more for that, at its first st_join, say; how much, the loader and the processor decide.
 //! Where a task has less, link with `-z now`, which binds names at the start, or statically.
 //!
-//! A table: `sources`, ten words each: frames; fps numerator, denominator; creation time present (0,
-//! 1), its offset and length in `text`; clock (0 none, 1 no modulus, 2 modulus), its rate's
-//! numerator, denominator, its modulus. `segments`, five words each: source, source first frame,
-//! frame count, out first frame, shift present (0, 1). `times`, seven words a segment: source start,
-//! out start, duration, source capture start, out capture start, capture duration (microseconds),
-//! shift. `log`: the table names a telemetry log. `text`: the creation times' bytes. Words of an
-//! absent thing are ignored.
+//! A table: `sources`, thirteen words each: frames; fps numerator, denominator; creation time present
+//! (0, 1), its offset and length in `text`; clock (0 none, 1 no modulus, 2 modulus), its rate's
+//! numerator, denominator, its modulus; the file's size in bytes; its IMU's origin known (0, 1), and
+//! that origin in microseconds. `segments`, five words each: source, source first frame, frame
+//! count, out first frame, shift present (0, 1). `stamps`, seven words a segment: source start, out
+//! start, duration, source capture start, out capture start, capture duration (microseconds), shift.
+//! `log`: the table names a telemetry log. `text`: the creation times' bytes. Words of an absent
+//! thing, a source's size and its origin are ignored.
+//!
+//! Sources had ten words once. A table of such sources is refused with ST_MALFORMED, but where there
+//! are 13, 26, 39 or 52 of them: then the number of words is a multiple of thirteen, and nothing
+//! tells the 130 words of thirteen such sources from those of ten sources as they are now.
 //!
 //! A list of records: the same of a segment as one struct, where its flag is a bool and its times
 //! follow the words. Records are aligned as C aligns them; what lies between their fields is not

@@ -13,18 +13,18 @@ ghost use Rattle.segment_table.specs.Written.{RowedTold, IndexingTold};
 pub extern "C" fn st_check(
     sources: &[u64],
     segments: &[u64],
-    times: &[i64],
+    stamps: &[i64],
     log: bool,
     text: &[u8],
     frames: &mut u64,
     index: &mut u64,
 ) -> u64
     ensures { (result, frames.new, index.new)
-        ≡ told itself (check_of (table_of sources.now segments.now times.now log text.now))
+        ≡ told itself (check_of (table_of sources.now segments.now stamps.now log text.now))
         frames.old }
 {
     told::tell(
-        table::check(sources, segments, times, log, text),
+        table::check(sources, segments, stamps, log, text),
         frames,
         index,
     )
@@ -36,7 +36,7 @@ pub extern "C" fn st_check(
 pub extern "C" fn st_segment_of_frame(
     sources: &[u64],
     segments: &[u64],
-    times: &[i64],
+    stamps: &[i64],
     log: bool,
     text: &[u8],
     frame: u64,
@@ -45,10 +45,10 @@ pub extern "C" fn st_segment_of_frame(
 ) -> u64
     ensures { (result, segment.new, index.new)
         ≡ told itself
-        (segment_of_frame (table_of sources.now segments.now times.now log text.now) frame)
+        (segment_of_frame (table_of sources.now segments.now stamps.now log text.now) frame)
         segment.old }
 {
-    let answer = lookup::segment_of_frame(sources, segments, times, log, text, frame);
+    let answer = lookup::segment_of_frame(sources, segments, stamps, log, text, frame);
     told::tell(answer, segment, index)
 }
 
@@ -60,7 +60,7 @@ pub extern "C" fn st_segment_of_frame(
 pub extern "C" fn st_segments_of_frames(
     sources: &[u64],
     segments: &[u64],
-    times: &[i64],
+    stamps: &[i64],
     log: bool,
     text: &[u8],
     frames: &[u64],
@@ -68,13 +68,13 @@ pub extern "C" fn st_segments_of_frames(
     written: &mut u64,
     index: &mut u64,
 ) -> u64
-    ensures { IndexingTold (table_of sources.now segments.now times.now log text.now) frames.now
+    ensures { IndexingTold (table_of sources.now segments.now stamps.now log text.now) frames.now
         out_segments.old written.old result out_segments.new written.new index.new }
 {
     let answer = lookups::segments_of_frames(
         sources,
         segments,
-        times,
+        stamps,
         log,
         text,
         frames,
@@ -89,7 +89,7 @@ pub extern "C" fn st_segments_of_frames(
 pub extern "C" fn st_segment_of_time_us(
     sources: &[u64],
     segments: &[u64],
-    times: &[i64],
+    stamps: &[i64],
     log: bool,
     text: &[u8],
     time: i64,
@@ -98,10 +98,10 @@ pub extern "C" fn st_segment_of_time_us(
 ) -> u64
     ensures { (result, segment.new, index.new)
         ≡ told itself
-        (segment_of_time (table_of sources.now segments.now times.now log text.now) time)
+        (segment_of_time (table_of sources.now segments.now stamps.now log text.now) time)
         segment.old }
 {
-    let answer = lookup::segment_of_time_us(sources, segments, times, log, text, time);
+    let answer = lookup::segment_of_time_us(sources, segments, stamps, log, text, time);
     told::tell(answer, segment, index)
 }
 
@@ -112,7 +112,7 @@ pub extern "C" fn st_segment_of_time_us(
 pub extern "C" fn st_continues(
     sources: &[u64],
     segments: &[u64],
-    times: &[i64],
+    stamps: &[i64],
     log: bool,
     text: &[u8],
     segment: u64,
@@ -121,10 +121,10 @@ pub extern "C" fn st_continues(
 ) -> u64
     ensures { (result, answer.new, index.new)
         ≡ told yes_or_no
-        (continues_at (table_of sources.now segments.now times.now log text.now) segment)
+        (continues_at (table_of sources.now segments.now stamps.now log text.now) segment)
         answer.old }
 {
-    let continues = lookup::continues(sources, segments, times, log, text, segment as usize);
+    let continues = lookup::continues(sources, segments, stamps, log, text, segment as usize);
     told::tell(continues, answer, index)
 }
 
@@ -134,7 +134,7 @@ pub extern "C" fn st_continues(
 pub extern "C" fn st_rows_of_table(
     sources: &[u64],
     segments: &[u64],
-    times: &[i64],
+    stamps: &[i64],
     log: bool,
     text: &[u8],
     out_words: &mut [u64],
@@ -142,11 +142,11 @@ pub extern "C" fn st_rows_of_table(
     rows: &mut u64,
     index: &mut u64,
 ) -> u64
-    ensures { RowedTold (table_of sources.now segments.now times.now log text.now) out_words.old
+    ensures { RowedTold (table_of sources.now segments.now stamps.now log text.now) out_words.old
         out_shifts.old rows.old result out_words.new out_shifts.new rows.new index.new }
 {
     let answer = table_rows::rows_of_table(
-        sources, segments, times, log, text, out_words, out_shifts,
+        sources, segments, stamps, log, text, out_words, out_shifts,
     );
     told::tell(answer, rows, index)
 }

@@ -28,7 +28,8 @@ pub enum Fault {
     Large,
 }
 
-/// What a line asks for. Numbers are frames, and a source's number; a shift is microseconds.
+/// What a line asks for. Numbers are frames, and a source's number; a shift is in ticks
+/// of its source's clock.
 #[derive(Clone, Copy, Debug, PartialEq, Eq)]
 pub enum Step {
     /// A row more: its source, the first of its source frames, how many, and its shift, if any.

@@ -1,16 +1,21 @@
 -- T of RULES 3.6, and each refusal of a check: the contract of `worked_examples_hold`.
-use Rattle.std.specs.Prelude.{ℕ, zero, suc, true, false, List, [], ◌∷◌, ◌++◌, ℤ, pos, neg_ℤ, Result, Ok}
+use Rattle.std.specs.Prelude.{ℕ, true, false, List, [], ◌∷◌, ◌++◌, take, replicate, ℤ, pos, neg_ℤ, Result, Ok}
 use Rattle.examples.specs.Worked.{Worked, is, AllRight}
 use Rattle.refusal.specs.declared.Reason.TheVariants as reason
 use Rattle.refusal.specs.declared.Refusal.{Refusal}
 use Rattle.refusal.specs.Refusals.{refused}
 use Rattle.rules.specs.Records.{Table}
 use Rattle.rules.specs.Rules.{check_of}
-use Rattle.table.specs.Layout.{table_of}
+use Rattle.table.specs.Layout.{source_at, table_of}
 
 -- a source of 25 frames a second: its frames, creation time and clock
 abbrev pub source : ℕ → ℕ → ℕ → ℕ → ℕ → ℕ → List ℕ
-source frames dated from kind ticks modulus = frames ∷ 25 ∷ 1 ∷ dated ∷ from ∷ 20 ∷ kind ∷ ticks ∷ 1 ∷ modulus ∷ []
+source frames dated from kind ticks modulus =
+    frames ∷ 25 ∷ 1 ∷ dated ∷ from ∷ 20 ∷ kind ∷ ticks ∷ 1 ∷ modulus ∷ 0 ∷ 0 ∷ 0 ∷ []
+
+-- a source of so many bytes, with the flag of its origin, and its origin
+abbrev pub placed : ℕ → ℕ → ℕ → List ℕ
+placed file_size imu_known imu_origin = 100 ∷ 25 ∷ 1 ∷ 0 ∷ 0 ∷ 0 ∷ 0 ∷ 0 ∷ 0 ∷ 0 ∷ file_size ∷ imu_known ∷ imu_origin ∷ []
 
 abbrev pub plain : ℕ → List ℕ
 plain frames = source frames 0 0 0 0 0
@@ -59,10 +64,15 @@ text =
 abbrev pub made : ℕ → Result ℕ Refusal
 made at = check_of (table_of (source 100 1 at 0 0 0 ++ plain 50) segments times false text)
 
--- n sources
-abbrev pub many : ℕ → List ℕ
-many zero = []
-many (suc n) = plain 1 ++ many n
+-- a table of n sources, as the records that it holds, without segments
+abbrev pub many : ℕ → Result ℕ Refusal
+many n = check_of (record {
+  uneven = false;
+  log = false;
+  text = [];
+  sources = replicate n (source_at (plain 1) 0);
+  segments = [];
+})
 
 -- its second segment of a source with a clock, the first without
 abbrev pub clocked : ℕ → ℕ → ℤ → Result ℕ Refusal
@@ -87,15 +97,23 @@ checks =
     ∷ is (from (source 100 2 0 0 0 0)) (refused reason.Malformed 0)
     ∷ is (from (source 100 0 0 3 0 0)) (refused reason.Malformed 0)
     ∷ is (made 21) (refused reason.Malformed 0)
+    -- any size, and any origin, known or not; a flag outside its set; and sources of ten words
+    ∷ is (from (placed 0xffff_ffff_ffff_ffff 1 0xffff_ffff_ffff_ffff)) (Ok 50)
+    ∷ is (from (placed 7 0 5)) (Ok 50)
+    ∷ is (from (placed 7 2 5)) (refused reason.Malformed 0)
+    ∷ is (of (take 20 sources) segments times) (refused reason.Malformed 0)
     ∷ is (with (words 1 5 20 30 2) late) (refused reason.Malformed 0)
-    ∷ is (of (many 65) [] []) (refused reason.OverLimit 0)
-    ∷ is (of (many 64) [] []) (refused reason.NoSegments 0)
+    ∷ is (many 257) (refused reason.OverLimit 0)
+    ∷ is (many 256) (refused reason.NoSegments 0)
+    ∷ is (of sources [] []) (refused reason.NoSegments 0)
     ∷ is (of [] segments times) (refused reason.NoSources 0)
     ∷ is (of (plain 100 ++ plain 0) segments times) (refused reason.ZeroInSource 1)
     ∷ is (made 20) (refused reason.BadDate 0)
     ∷ is (from (source 100 0 0 1 0 7)) (refused reason.BadClock 0)
     ∷ is (from (source 100 0 0 2 1 0)) (refused reason.BadClock 0)
     ∷ is (check_of (table_of sources segments times true [])) (refused reason.NoClock 0)
+    ∷ is (many 257) (refused reason.OverLimit 0)
+    ∷ is (many 256) (refused reason.NoSegments 0)
     ∷ is (of sources [] []) (refused reason.NoSegments 0)
     ∷ is (with (words 2 5 20 30 0) late) (refused reason.NoSuchSource 1)
     ∷ is (with (words 1 5 0 30 0) late) (refused reason.NoFrames 1)

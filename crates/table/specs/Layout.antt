@@ -9,7 +9,7 @@ use Rattle.rules.specs.Records.{Table}
 
 -- how many words a source has, and how many unsigned and signed ones a segment
 abbrev pub source_words : ℕ
-source_words = 10
+source_words = 13
 
 abbrev pub segment_words : ℕ
 segment_words = 5
@@ -30,6 +30,9 @@ source_at sources k = record {
   ticks = get_or sources (k * source_words + 7) 0;
   per = get_or sources (k * source_words + 8) 0;
   modulus = get_or sources (k * source_words + 9) 0;
+  file_size = get_or sources (k * source_words + 10) 0;
+  imu_known = get_or sources (k * source_words + 11) 0;
+  imu_origin = get_or sources (k * source_words + 12) 0;
 }
 
 -- segment number k: its unsigned words, its signed words

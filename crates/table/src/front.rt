@@ -42,13 +42,14 @@ impl<'a, S: Segments> SegmentTable<'a, S> {
         self.source_refusal(k).is_ok()
     }
 
-    // The same; of a source without creation time and clock three words are left to test.
+    // The same; of a source without creation time and clock three words are left to test. A bad flag
+    // of its origin is left to the whole test too.
     fn is_fine(&self, k: usize) -> bool
         requires { k < length self.now.sources }
         ensures { result ≡ true → FineSource self.now.log self.now.text (source self.now k) }
     {
         let source = self.source(k);
-        if (source.dated != 0) | (source.kind != 0) {
+        if ((source.dated != 0) | (source.kind != 0)) | (source.imu_known > 1) {
             return self.is_fine_whole(k);
         }
         if self.log {

@@ -37,9 +37,9 @@ pub trait Segments: Copy {
         ensures { result ≡ get_or (listed self.now) k no_segment };
 }
 
-/// Rows of words: five unsigned words a segment in one slice, seven signed ones in the other.
+/// Words: five unsigned words a segment in one slice, seven signed ones in the other.
 #[derive(Clone, Copy)]
-pub struct Rows<'a> {
+pub struct SegmentWords<'a> {
     /// Source, source first, frame count, out first, whether there is a shift: of each segment.
     pub words: &'a [u64],
     /// Its six times in microseconds, and its shift.
@@ -93,7 +93,7 @@ fn uneven_rows(words: usize, stamps: usize) -> bool
 }
 
 #[tactic(auto, using(crate::proofs::Lent::segments_length, crate::proofs::Lent::segments_get, crate::proofs::Lent::even))]
-impl Segments for Rows<'_> {
+impl Segments for SegmentWords<'_> {
     ghost uneven = { λ rows. uneven_rows (length rows.words.now) (length rows.stamps.now) };
 
     ghost listed = { λ rows. segments_of rows.words.now rows.stamps.now };

@@ -13,7 +13,7 @@ pub mod layout;
 pub mod sources;
 mod walk;
 
-use layout::{Rows, Segments};
+use layout::{SegmentWords, Segments};
 use refusal::Refusal;
 use rules::{Segment, Source};
 use sources::Sources;
@@ -24,7 +24,7 @@ use walk::Walked;
 /// layout of its segments.
 #[derive(Drop)]
 pub struct SegmentTable<'a, S: Segments> {
-    /// Its sources, ten words each.
+    /// Its sources, thirteen words each.
     pub sources: Sources<'a>,
     /// Its segments, in a layout.
     pub segments: S,
@@ -65,7 +65,7 @@ impl<S: Segments> Tabled for Accepted<'_, '_, S> {
     ghost table = { λ accepted. accepted.table.now };
 }
 
-impl<'a> SegmentTable<'a, Rows<'a>> {
+impl<'a> SegmentTable<'a, SegmentWords<'a>> {
     /// The table whose segments are lent as words, five unsigned ones and seven signed ones each
     /// (RULES 1.3). Nothing is tested yet.
     #[inline(always)]
@@ -81,7 +81,7 @@ impl<'a> SegmentTable<'a, Rows<'a>> {
     {
         SegmentTable {
             sources: Sources { words: sources },
-            segments: Rows { words, stamps },
+            segments: SegmentWords { words, stamps },
             text,
             log,
         }
@@ -184,7 +184,7 @@ impl<'t, 'a, S: Segments> Accepted<'t, 'a, S> {
     }
 }
 
-/// The check of a table that is lent as words: ten a source, five unsigned and seven signed ones a
+/// The check of a table that is lent as words: thirteen a source, five unsigned and seven signed ones a
 /// segment, the bytes of the creation times. Refuses as `SegmentTable::check`.
 #[inline(always)]
 pub fn check(

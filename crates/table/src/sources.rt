@@ -1,4 +1,4 @@
-//! How a table's sources are lent: ten words each, RULES 1.2, one after another.
+//! How a table's sources are lent: thirteen words each, RULES 1.2, one after another.
 
 ghost use Rattle.std.specs.Prelude.{◌≡◌, ◌+◌, ◌*◌, ◌≤◌, ◌<◌, length, get_or};
 ghost use Rattle.rules.specs.Records.{no_source};
@@ -7,9 +7,9 @@ ghost use Rattle.table.specs.Layout.{source_words, source_at, sources_of, uneven
 use rules::Source;
 
 // How many words a source has.
-const SOURCE_WORDS: usize = 10;
+const SOURCE_WORDS: usize = 13;
 
-/// Sources as words, ten each (RULES 1.2).
+/// Sources as words, thirteen each (RULES 1.2).
 #[derive(Clone, Copy)]
 pub struct Sources<'a> {
     /// The words of all.
@@ -33,6 +33,9 @@ fn source_at(sources: &[u64], k: usize) -> Source
         ticks: sources[at + 7],
         per: sources[at + 8],
         modulus: sources[at + 9],
+        file_size: sources[at + 10],
+        imu_known: sources[at + 11],
+        imu_origin: sources[at + 12],
     }
 }
 

@@ -14,7 +14,7 @@ ghost use Rattle.table_rows.specs.Examples.{WorkedExamples};
 use refusal::{Reason, Refusal};
 use rows::{ROW_WORDS, Row};
 use rules::Segment;
-use table::layout::{Rows, Segments};
+use table::layout::{SegmentWords, Segments};
 use table::{Accepted, SegmentTable, Tabled};
 
 // The shift of a row: an absent one is 0.
@@ -61,7 +61,7 @@ pub trait RowWords: Segments {
 }
 
 #[tactic(auto, using(crate::proofs::Written::lent))]
-impl RowWords for Rows<'_> {
+impl RowWords for SegmentWords<'_> {
     // A segment's unsigned words are its row's.
     fn write_words(&self, out: &mut [u64]) {
         slices::copy(self.words, out);

@@ -19,7 +19,7 @@ pub const LARGEST_SCALE: u64 = 4_294_967_295;
 const SMALL_TICKS: u64 = 4_611_686_018_427;
 
 /// The frame times of a video or a recording, beside its starts: RULES 8 and 9.
-#[derive(Clone, Copy)]
+#[derive(Clone, Copy, Debug, PartialEq)]
 pub struct FrameTimes {
     /// How many frames there are, each with its start.
     pub frames: usize,

@@ -333,4 +333,25 @@ mod tests {
         }
         Ok(())
     }
+
+    // Rows whose maps take more than waits before a writer.
+    const ROWS: &[u8] = b"row 0 0 1\nrow 1 0 1\nrow 2 0 1\nrow 3 0 1\nrow 4 0 1\nrow 5 0 1\n\
+        row 0 0 1\nrow 1 0 1\nrow 2 0 1\nrow 3 0 1\nrow 4 0 1\nrow 5 0 1\nrow 0 0 1\n\
+        row 1 0 1\nrow 2 0 1\nrow 3 0 1\nrow 4 0 1\nrow 5 0 1\n";
+
+    // So is one of what waits, in the middle or at the end.
+    #[test]
+    fn a_failed_write_of_what_waits_is_told(rt: HostRuntime) -> Result<(), Fail> {
+        let mut room = Cursor::new([0; 8192]);
+        answer(&mut &ROWS[..], &mut room)?;
+        let whole = room.position();
+        assert!(rt; 4096 < whole && whole < 8192);
+        for length in 0..8192 {
+            let mut bytes = [0; 8192];
+            let mut out = Buffered::new(&mut bytes[..length]);
+            let answer = answer(&mut &ROWS[..], &mut out);
+            assert_eq!(rt; answer.is_ok(), whole <= length as u64);
+        }
+        Ok(())
+    }
 }

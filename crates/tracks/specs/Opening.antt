@@ -1,11 +1,11 @@
 -- What the functions promise each other of a table that is opened or laid, and of an offset.
 use Rattle.std.specs.Prelude.{Option, Some, None, ℕ, ◌+◌, ◌≤◌, ◌^◌, min, ◌≡◌, List, map, length, ℤ, pos, ◌-ℤ◌, Bool, true, false, if◌then◌else◌, nat_lt}
 use Rattle.slices.specs.Slices.{laid}
-use Rattle.tracks.specs.declared.entries.Table.{Table}
+use Rattle.tracks.specs.declared.entries.EntryTable.{EntryTable}
 use Rattle.tracks.specs.Tables.{entries_of, entry_total, durations}
 
 -- a payload of so many entries is opened as a table, or isn't one
-abbrev pub Opened : List ℕ → Option ℕ → Option Table → Type 0
+abbrev pub Opened : List ℕ → Option ℕ → Option EntryTable → Type 0
 Opened payload entries None = entries ≡ None
 Opened payload entries (Some table) = (entries ≡ Some table.entries) × (table.payload.now ≡ payload)
 

@@ -15,7 +15,7 @@ pub struct Run {
 /// The payload of a stts or ctts, and how many entries it has, all of which are there: 8 bytes
 /// each, from offset 8 on.
 #[derive(Clone, Copy)]
-pub struct Table<'a> {
+pub struct EntryTable<'a> {
     pub payload: &'a [u8],
     pub entries: usize,
     ghost there: { entries * 8 ≤ length payload.now - 8 },
@@ -44,14 +44,14 @@ pub struct Frames<'a> {
     pub after: Runs<'a>,
 }
 
-impl<'a> Table<'a> {
+impl<'a> EntryTable<'a> {
     ghost use Rattle.tracks.specs.Tables.{table_entries, optional_entries, entries_of, durations};
     ghost use Rattle.tracks.specs.Opening.{Opened};
     ghost use Rattle.tracks.specs.Walking.{runs_left, frames_left};
 
     /// The table of a payload whose entries are all there: one length tells. None where they aren't
     /// (RULES 8.3).
-    pub fn of(payload: &'a [u8]) -> Option<Table<'a>>
+    pub fn of(payload: &'a [u8]) -> Option<EntryTable<'a>>
         ensures { Opened payload.now (table_entries payload.now) result }
     {
         if payload.len() < 8 {
@@ -61,20 +61,20 @@ impl<'a> Table<'a> {
         if payload.len() < entries * 8 + 8 {
             return None;
         }
-        Some(Table { payload, entries })
+        Some(EntryTable { payload, entries })
     }
 
     /// The same of a table that may be absent, as one under 4 bytes is (RULES 8.4).
-    pub fn of_optional(payload: &'a [u8]) -> Option<Table<'a>>
+    pub fn of_optional(payload: &'a [u8]) -> Option<EntryTable<'a>>
         ensures { Opened payload.now (optional_entries payload.now) result }
     {
         if payload.len() < 4 {
-            return Some(Table {
+            return Some(EntryTable {
                 payload,
                 entries: 0,
             });
         }
-        Table::of(payload)
+        EntryTable::of(payload)
     }
 
     /// Its entries, in order.

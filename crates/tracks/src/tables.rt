@@ -5,7 +5,7 @@ ghost use Rattle.boxes.specs.Boxes.{most_bytes};
 ghost use Rattle.tracks.specs.Tables.{timescale, is_unsigned, offset_of};
 ghost use Rattle.tracks.specs.Opening.{Spread, offset_wrap, wrapped};
 
-use crate::entries::Table;
+use crate::entries::EntryTable;
 use boxes::read::be32;
 
 /// The timescale of a mvhd's or mdhd's payload, in ticks a second; none where it isn't whole: the
@@ -70,7 +70,7 @@ pub fn wrapped_offsets_are_right()
 /// Lays a table's values over `out`, each as often as its entry says, and answers how often that is
 /// together: the first loop of the Rust's `video_frame_times_of_moov` (RULES 8.3). Over `most` it
 /// stops, and answers `most + 1`; what doesn't fit `out` isn't laid.
-pub fn lay(table: Table<'_>, most: usize, out: &mut [i64]) -> usize
+pub fn lay(table: EntryTable<'_>, most: usize, out: &mut [i64]) -> usize
     requires { most ≤ most_bytes }
     ensures { Spread table.entry.payload.now table.entry.entries most result out.old out.new }
 {

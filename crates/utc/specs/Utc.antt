@@ -8,7 +8,7 @@ figures bytes i =
     && (nat_le 48 (get_or bytes (i + 1) 0) && nat_le (get_or bytes (i + 1) 0) 57)
 
 -- the number that they are
-unfoldable pub two : List ℕ → ℕ → ℕ
+abbrev pub two : List ℕ → ℕ → ℕ
 two bytes i = (get_or bytes i 0 - 48) * 10 + (get_or bytes (i + 1) 0 - 48)
 
 -- figures of year, month, day, hour, minute and second
@@ -28,7 +28,7 @@ abbrev pub leap : ℕ → Bool
 leap year = year % 4 == 0 && (not (year % 100 == 0) || year % 400 == 0)
 
 -- how many days a month of a year has
-unfoldable pub days : ℕ → ℕ → ℕ
+abbrev pub days : ℕ → ℕ → ℕ
 days year month =
     if month == 2 then if leap year then 29 else 28
     else if (month == 4 || month == 6) || (month == 9 || month == 11) then 30
@@ -43,7 +43,7 @@ abbrev pub time_of_day : ℕ → ℕ → ℕ → Bool
 time_of_day hour minute second = (nat_lt hour 24 && nat_lt minute 60) && nat_lt second 60
 
 -- the rule for 20 bytes
-unfoldable pub utc_bytes : List ℕ → Bool
+abbrev pub utc_bytes : List ℕ → Bool
 utc_bytes bytes =
     (marks bytes && all_figures bytes)
     && (dated (two bytes 0 * 100 + two bytes 2) (two bytes 5) (two bytes 8)

@@ -13,7 +13,6 @@ fn value(byte: u8) -> u64
 }
 
 // The number of two figures.
-#[tactic(auto, unfolding(crate::specs::Utc::two))]
 fn two_at(bytes: &[u8], i: usize) -> u64
     requires { i + 1 < length bytes.now }
     ensures { (result ≡ two bytes.now i) × (result < 4096) }
@@ -56,7 +55,6 @@ fn is_leap(year: u64) -> bool
 }
 
 // How many days a month has.
-#[tactic(auto, unfolding(crate::specs::Utc::days))]
 fn days_of(year: u64, month: u64) -> u64
     ensures { result ≡ days year month }
 {
@@ -84,7 +82,6 @@ fn is_timed(hour: u64, minute: u64, second: u64) -> bool
 }
 
 // The rule for 20 bytes.
-#[tactic(auto, unfolding(crate::specs::Utc::utc_bytes))]
 fn utc_bytes(bytes: &[u8]) -> bool
     requires { length bytes.now ≡ 20 }
     ensures { result ≡ utc_bytes bytes.now }
@@ -109,7 +106,7 @@ pub fn is_utc_second(bytes: &[u8]) -> bool
 }
 
 /// A theorem: the definitions give the numbers of specs/Examples.antt.
-#[tactic(auto, unfolding(crate::specs::Utc::utc_second, crate::specs::Utc::utc_bytes, crate::specs::Utc::two, crate::specs::Utc::days))]
+#[tactic(auto, unfolding(crate::specs::Utc::utc_second))]
 pub fn worked_examples_hold()
     ensures { WorkedExamples }
 {}

@@ -6,14 +6,14 @@ ghost use Rattle.wide.specs.Value.{value, OneForm};
 ghost use Rattle.wide.specs.Divided.{Divided, OneWord};
 
 /// An unsigned number of two words: `high` × 2^64 + `low`.
-#[derive(Clone, Copy)]
+#[derive(Clone, Copy, Debug, PartialEq)]
 pub struct Wide {
     pub high: u64,
     pub low: u64,
 }
 
 /// An integer of a sign and a magnitude: below 0 where `negative` is true and `magnitude` isn't 0.
-#[derive(Clone, Copy)]
+#[derive(Clone, Copy, Debug, PartialEq)]
 pub struct Big {
     pub negative: bool,
     pub magnitude: Wide,
@@ -21,7 +21,7 @@ pub struct Big {
 
 /// A digit of a quotient, `quotient`, in base 2^32 or in base 2^64, and the remainder after it,
 /// `rest`.
-#[derive(Clone, Copy)]
+#[derive(Clone, Copy, Debug, PartialEq)]
 pub struct Digit {
     pub quotient: u64,
     pub rest: u64,

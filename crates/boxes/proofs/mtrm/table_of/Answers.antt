@@ -1,6 +1,6 @@
 use Rattle.std.proofs.Common.{arith}
 use Rattle.boxes.proofs.Within.{fits_in, movable, only-within}
-use Rattle.boxes.proofs.table.table_of.Goals as goal
+use Rattle.boxes.proofs.mtrm.table_of.Goals as goal
 
 pub moved-requires : goal.moved-requires
 moved-requires c =

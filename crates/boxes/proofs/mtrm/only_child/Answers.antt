@@ -3,7 +3,7 @@ use Rattle.boxes.specs.Boxes.{header_at}
 use Rattle.boxes.specs.declared.Header.TheVariants.{Whole}
 use Rattle.boxes.proofs.Sizes.{lies}
 use Rattle.boxes.proofs.Searches.{no_more, first_one, second-one, not-one}
-use Rattle.boxes.proofs.table.only_child.Goals as goal
+use Rattle.boxes.proofs.mtrm.only_child.Goals as goal
 
 pub loop-child-smaller-else-is_some : goal.loop-child-smaller-else-is_some
 loop-child-smaller-else-is_some c = omega (arith, lies _ _ (sym c.in-Whole.is ∙ c.header_at-header.ensures))

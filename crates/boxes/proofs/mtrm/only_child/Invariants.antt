@@ -2,7 +2,7 @@ use Rattle.std.proofs.Common.{◌≡◌, ◌-◌, ◌/◌, ◌≤◌, length}
 use Rattle.boxes.specs.Boxes.{boxes_at, boxes_of}
 use Rattle.boxes.specs.Places.{all_of, only_of}
 use Rattle.boxes.proofs.Searches.{with_found}
-use Rattle.boxes.proofs.table.only_child.Given as goal
+use Rattle.boxes.proofs.mtrm.only_child.Given as goal
 
 -- the only one of what was found and of what is left is the only one of all
 abbrev pub invariant-loop-child : goal.invariant-loop-child

@@ -83,7 +83,7 @@ pub struct Segment {
 pub struct Table {
     pub(crate) sources: Vec<u64>,
     pub(crate) segments: Vec<u64>,
-    pub(crate) times: Vec<i64>,
+    pub(crate) stamps: Vec<i64>,
     pub(crate) log: bool,
     pub(crate) text: Vec<u8>,
     frames: u64,
@@ -93,7 +93,7 @@ pub struct Table {
 macro_rules! lent {
     ($call:ident, $t:expr $(, $more:expr)*) => {
         crate::ffi::$call(
-            $t.sources.as_ptr(), $t.sources.len(), $t.segments.as_ptr(), $t.segments.len(), $t.times.as_ptr(), $t.times.len(),
+            $t.sources.as_ptr(), $t.sources.len(), $t.segments.as_ptr(), $t.segments.len(), $t.stamps.as_ptr(), $t.stamps.len(),
             $t.log, $t.text.as_ptr(), $t.text.len() $(, $more)*
         )
     };
@@ -158,21 +158,21 @@ impl Table {
         let (words, text) = words_of(sources);
         let segments = first_of(segments, MOST_SEGMENTS);
         let rows = segments.iter().flat_map(|s| [s.source, s.src_first_frame, s.frame_count, s.out_first_frame, s.clock_shift.is_some() as u64]);
-        let times = segments.iter().flat_map(|s| {
+        let stamps = segments.iter().flat_map(|s| {
             let [source, out, length] = [s.src_capture_start_us, s.out_capture_start_us, s.capture_duration_us];
             [s.src_start_us, s.out_start_us, s.duration_us, source, out, length, s.clock_shift.unwrap_or(0)]
         });
-        Table::from_words(words, rows.collect(), times.collect(), log, text)
+        Table::from_words(words, rows.collect(), stamps.collect(), log, text)
     }
 
-    /// Checks a table as it is lent: thirteen words a source, five words and seven times a segment, and the bytes of creation
+    /// Checks a table as it is lent: thirteen words a source, five words and seven stamps a segment, and the bytes of creation
     /// times. Refuses 1 to 17.
     ///
     /// ```
     /// assert_eq!(segment_table::Table::from_words(vec![1; 12], vec![], vec![], false, vec![]).unwrap_err().number, 1);
     /// ```
-    pub fn from_words(sources: Vec<u64>, segments: Vec<u64>, times: Vec<i64>, log: bool, text: Vec<u8>) -> Result<Table, Refusal> {
-        let mut table = Table { sources, segments, times, log, text, frames: 0 };
+    pub fn from_words(sources: Vec<u64>, segments: Vec<u64>, stamps: Vec<i64>, log: bool, text: Vec<u8>) -> Result<Table, Refusal> {
+        let mut table = Table { sources, segments, stamps, log, text, frames: 0 };
         let (mut frames, mut index) = (0, 0);
         let number = unsafe { lent!(st_check, table, &mut frames, &mut index) };
         table.frames = frames;
@@ -199,8 +199,8 @@ impl Table {
             }
             if source[11] == 0 { source[12] = 0 } // the origin
         }
-        for (words, times) in self.segments.chunks_exact(5).zip(self.times.chunks_exact_mut(7)) {
-            if words[4] == 0 { times[6] = 0 } // the shift
+        for (words, stamps) in self.segments.chunks_exact(5).zip(self.stamps.chunks_exact_mut(7)) {
+            if words[4] == 0 { stamps[6] = 0 } // the shift
         }
         self.text = text;
     }

@@ -15,8 +15,8 @@ fn table(created: [u64; 3], clock: [u64; 4], flag: u64, shift: i64) -> Table { o
 /// The same with this size and origin.
 fn of_origin(created: [u64; 3], clock: [u64; 4], flag: u64, shift: i64, origin: [u64; 3]) -> Table {
     let source = [&[100, 25, 1][..], &created, &clock, &origin].concat();
-    let times = vec![0, 0, 400_000, 0, 0, 400_000, shift];
-    Table::from_words(source, vec![0, 0, 10, 0, flag], times, false, b"2024-11-17T13:12:46Z".to_vec()).unwrap()
+    let stamps = vec![0, 0, 400_000, 0, 0, 400_000, shift];
+    Table::from_words(source, vec![0, 0, 10, 0, flag], stamps, false, b"2024-11-17T13:12:46Z".to_vec()).unwrap()
 }
 
 #[track_caller]

@@ -263,10 +263,10 @@ fn without_a_track() {
 #[test]
 fn room() {
     let (mut rows, mut index) = (7, 7);
-    let (sources, segments, times) = ([100, 25, 1, 0, 0, 0, 0, 0, 0, 0, 0, 0, 0], [0, 0, 10, 0, 0], [0; 7]);
+    let (sources, segments, stamps) = ([100, 25, 1, 0, 0, 0, 0, 0, 0, 0, 0, 0, 0], [0, 0, 10, 0, 0], [0; 7]);
     let number = unsafe {
         ffi::st_rows_of_table(
-            sources.as_ptr(), 13, segments.as_ptr(), 5, times.as_ptr(), 7, false, std::ptr::null(), 0,
+            sources.as_ptr(), 13, segments.as_ptr(), 5, stamps.as_ptr(), 7, false, std::ptr::null(), 0,
             std::ptr::null_mut(), 0, std::ptr::null_mut(), 0, &mut rows, &mut index,
         )
     };
@@ -277,10 +277,10 @@ fn room() {
 /// words `written` and `index`, lent as 7.
 fn looked_up(second: u64, frames: &[u64], room: &mut [u64]) -> (u64, u64, u64) {
     let (mut written, mut index) = (7, 7);
-    let (sources, segments, times) = ([100, 25, 1, 0, 0, 0, 0, 0, 0, 0, 0, 0, 0], [0, 0, 10, 0, 0, 0, 0, 10, second, 0], [0; 14]);
+    let (sources, segments, stamps) = ([100, 25, 1, 0, 0, 0, 0, 0, 0, 0, 0, 0, 0], [0, 0, 10, 0, 0, 0, 0, 10, second, 0], [0; 14]);
     let number = unsafe {
         ffi::st_segments_of_frames(
-            sources.as_ptr(), 13, segments.as_ptr(), 10, times.as_ptr(), 14, false, std::ptr::null(), 0,
+            sources.as_ptr(), 13, segments.as_ptr(), 10, stamps.as_ptr(), 14, false, std::ptr::null(), 0,
             frames.as_ptr(), frames.len(), room.as_mut_ptr(), room.len(), &mut written, &mut index,
         )
     };

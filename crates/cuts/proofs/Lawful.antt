@@ -20,7 +20,7 @@ use Rattle.rows.specs.Rows.{cut}
 use Rattle.rows.specs.Lent.{rows, words_of, shifts_of}
 use Rattle.rows.proofs.Flat.{words_append, shifts-append, length-words, length-shifts}
 use Rattle.maps.specs.Answers.{Cut}
-use Rattle.maps.specs.Laws.{LentMap}
+use Rattle.maps.proofs.Chains.{lent, sound-lent}
 use Rattle.maps.proofs.Lawful as maps
 use Rattle.maps.proofs.ReadBack.{none, count, words_are, shifts-are, as_lent}
 use Rattle.cuts.specs.Answers.{range_at, ranges_of, cuts_of, concat, cuts_refusal, Cuts}
@@ -58,9 +58,6 @@ found x y z o b n p q =
     ∙ take_at y (z ++ o) n q
 
 -- ---- an accepted call
-lent : {u : List ℕ} {s : List ℤ} {ranges : List ℕ} {nu ns nc : ℕ} → Cuttable u s ranges nu ns nc → LentMap u s
-lent c = record { some = c.sound.some; sizes = c.sound.sizes; well = c.sound.well; few = c.few }
-
 module _ (u : List ℕ) (s : List ℤ) (ranges ou : List ℕ) (os : List ℤ) (counts : List ℕ) {n : ℕ} {ou' : List ℕ} {os' : List ℤ} {counts' : List ℕ} (p : Cuts u s ranges ou os counts (Ok n) ou' os' counts') where
   abbrev all : List (List Row)
   all = cuts_of (rows u s) (ranges_of ranges)
@@ -142,12 +139,12 @@ module _ (u : List ℕ) (s : List ℤ) (ranges ou : List ℕ) (os : List ℤ) (c
         → Cut u s (range_at ranges k).from (range_at ranges k).to pu ps r pu' ps' → r ≡ Ok (get_or counts' k 0)
     answers {pu} {pu'} {ps} {ps'} {r} x y q =
         let i = can.inside k h in
-        (maps.lawful).cut_accepts u s (range_at ranges k).from (range_at ranges k).to pu pu' ps ps' r (lent can) i.some i.within (omega (arith, count-is)) (omega (arith, count-is)) q
+        (maps.lawful).cut_accepts u s (range_at ranges k).from (range_at ranges k).to pu pu' ps ps' r (lent can.sound can.few) i.some i.within (omega (arith, count-is)) (omega (arith, count-is)) q
         ∙ ap Ok (sym count-is)
 
   what : Accepted u s ranges ou os counts
   what = record {
-    map = lent can;
+    map = lent can.sound can.few;
     pairs = can.even;
     inside = can.inside;
     words = can.words;
@@ -163,7 +160,7 @@ accept {u} {s} {ranges} {ou} {os} {counts} a p =
     ∙ ap (λ (x : Result (Unit {0}) Refusal). result_and x (Ok (length (concat (cuts_of (rows u s) (ranges_of ranges))))))
     (cuts-accepted u s ranges (length ou) (length os) (length counts)
     (record {
-      sound = record { some = a.map.some; sizes = a.map.sizes; well = a.map.well };
+      sound = sound-lent a.map;
       inside = a.inside;
       few = a.map.few;
       even = a.pairs;

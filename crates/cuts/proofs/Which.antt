@@ -15,7 +15,7 @@ use Rattle.rows.specs.Rows.{total}
 use Rattle.rows.specs.Lent.{rows}
 use Rattle.maps.specs.Answers.{most_rows, map_refusal, cut_refusal, Cut}
 use Rattle.maps.specs.Laws.{LentMap}
-use Rattle.maps.proofs.Chains.{sound, sound-map}
+use Rattle.maps.proofs.Chains.{sound, lent, is-sound}
 use Rattle.cuts.specs.Answers.{Inside, range_at, ranges_of, cuts_of, ranges_refusal, cuts_fit, cuts_refusal, Cuts}
 use Rattle.cuts.specs.Laws.{Accepted}
 use Rattle.cuts.proofs.Refused.{ranges-odd, ranges-accepted, ranges-first, fit-facts}
@@ -30,17 +30,14 @@ module _ (u : List ℕ) (s : List ℤ) (ranges ou : List ℕ) (os : List ℤ) (c
       by (Err x) e = (rw e at p.placed.answer) ∙ sym (rw e at c.answer)
       by (Ok x) e =
           decide (ltb most_rows (length s)) (λ l. (rw (e, l) at p.placed.answer) ∙ sym (rw (e, l) at c.answer))
-          (λ l. absurd (h (let o = sound u s e in record { some = o.some; sizes = o.sizes; well = o.well; few = ltb-false most_rows (length s) l })))
+          (λ l. absurd (h (lent (sound u s e) (ltb-false most_rows (length s) l))))
 
   module _ (m : LentMap u s) where
     abbrev t : ℕ
     t = total (rows u s)
 
-    is-sound : map_refusal u s ≡ Ok tt
-    is-sound = sound-map u s (record { some = m.some; sizes = m.sizes; well = m.well })
-
     at_range : {k : ℕ} → ranges_refusal t ranges ≡ refused reason.BadRange k → r ≡ refused reason.BadRange k
-    at_range e = rw (is-sound, le-ltb most_rows (length s) m.few, e) at p.placed.answer
+    at_range e = rw (is-sound m, le-ltb most_rows (length s) m.few, e) at p.placed.answer
 
     pub torn_refused : length ranges % 2 ≡ 1 → r ≡ refused reason.BadRange (length ranges / 2)
     torn_refused e = at_range (ranges-odd t ranges e)
@@ -55,4 +52,4 @@ module _ (u : List ℕ) (s : List ℤ) (ranges ou : List ℕ) (os : List ℤ) (c
     room_refused e b q =
         decide (cuts_fit (cuts_of (rows u s) (ranges_of ranges)) (length ou) (length os) (length counts))
         (λ f. let x = fit-facts u s ranges (length ou) (length os) (length counts) f in absurd (q (record { map = m; pairs = e; inside = b; words = x.0; shifts = x.1; counts_fit = x.2 })))
-        (λ f. rw (is-sound, le-ltb most_rows (length s) m.few, ranges-accepted t ranges e b, f) at p.placed.answer)
+        (λ f. rw (is-sound m, le-ltb most_rows (length s) m.few, ranges-accepted t ranges e b, f) at p.placed.answer)

@@ -35,14 +35,14 @@ cuts_of whole ranges = map (λ range. cut range.from range.to whole) ranges
 unfoldable pub concat : {A : Type 0} → List (List A) → List A
 concat lists = flat_map (λ xs. xs) lists
 
--- 50 of a range of a map of so many frames, by the tests of `cut`
+-- BadRange (50), of a range of a map of so many frames, by the tests of `cut`
 abbrev pub range_refusal : ℕ → Range → Result (Unit {0}) Reason
 range_refusal frames range =
     if nat_le range.to range.from then Err reason.BadRange
     else if nat_lt frames range.to then Err reason.BadRange
     else Ok tt
 
--- 50 of the lent words: the last range has no end, or the first range that is refused
+-- BadRange, of the lent words: the last range has no end, or the first range that is refused
 abbrev pub ranges_refusal : ℕ → List ℕ → Result (Unit {0}) Refusal
 ranges_refusal frames ranges =
     if length ranges % 2 == 1 then refused reason.BadRange (length ranges / 2)

@@ -64,7 +64,7 @@ fn room_of(word_room: usize, shift_room: usize) -> usize
 }
 
 /// Ranges that a map has, and the map: what is cut.
-#[derive(Clone, Copy)]
+#[derive(Clone, Copy, Debug, PartialEq)]
 pub struct Ranges<'a> {
     /// The map.
     pub map: FrameMap<'a>,

@@ -45,6 +45,24 @@ fn write_refusal<W: Write>(out: &mut W, reason: Reason) -> io::Result<()> {
     writeln!(out, "refused {number}")
 }
 
+// The line of a call's refusal, and its words.
+fn say_refusal<W: Write, E: Write>(
+    out: &mut W,
+    errors: &mut E,
+    refusal: Refusal,
+) -> io::Result<()> {
+    write_refusal(out, refusal.reason)?;
+    reading::say_refused(out, errors, refusal)
+}
+
+// The line of a file that is too long, and its words: those of the reason have the calls' limit.
+fn say_too_long<W: Write, E: Write>(out: &mut W, errors: &mut E) -> io::Result<()> {
+    write_refusal(out, Reason::TooLong)?;
+    out.flush()?;
+    let _ = writeln!(errors, "the file has over {FILE_BYTES} bytes");
+    Ok(())
+}
+
 // The line of numbers, and a start a line.
 fn write_times<W: Write>(out: &mut W, times: FrameTimes, starts: &[i64]) -> io::Result<()> {
     let FrameTimes {
@@ -65,25 +83,30 @@ fn write_times<W: Write>(out: &mut W, times: FrameTimes, starts: &[i64]) -> io::
 }
 
 // All lines for a file, with room for 1,024 frames.
-fn write_file<W: Write>(out: &mut W, file: &[u8]) -> io::Result<()> {
+fn write_file<W: Write, E: Write>(out: &mut W, errors: &mut E, file: &[u8]) -> io::Result<()> {
     let mut starts = [0i64; 1024];
     let mut first_work = [0i64; 1024];
     let mut second_work = [0i64; 1024];
     match times_of_file(file, &mut starts, &mut first_work, &mut second_work) {
         Ok(times) => write_times(out, times, &starts),
-        Err(refusal) => write_refusal(out, refusal.reason),
+        Err(refusal) => say_refusal(out, errors, refusal),
     }
 }
 
 /// Writes the lines of RULES 12 for a file of at most 32,768 bytes, and flushes: its frames and
-/// times, or `refused` and a number; 30 for a longer one. Where it can't be read to its end nothing
-/// is written: what was read of it has no frame times.
-pub fn run<R: Read, W: Write>(input: &mut R, out: &mut W) -> Result<(), Failure> {
+/// times, or `refused` and a number; 30 for a longer one. What refuses it is said in words on
+/// `errors`. Where it can't be read to its end nothing is written: what was read of it has no frame
+/// times.
+pub fn run<R: Read, W: Write, E: Write>(
+    input: &mut R,
+    out: &mut W,
+    errors: &mut E,
+) -> Result<(), Failure> {
     let mut file = [0u8; FILE_BYTES];
     let HeldInput { held, end } = reading::read_input(input, &mut file);
     let written = match end {
-        Ending::Within => write_file(out, &file[..held]),
-        Ending::Past => write_refusal(out, Reason::TooLong),
+        Ending::Within => write_file(out, errors, &file[..held]),
+        Ending::Past => say_too_long(out, errors),
         Ending::Failed(error) => return Err(Failure::Input(error)),
     };
     written.map_err(Failure::Output)?;

@@ -3,7 +3,7 @@
 use Rattle.std.specs.Prelude.{ℕ, ◌+◌, min, ◌≡◌, Bool, ◌||◌, List, [], ◌∷◌, map, length, get_or, ℤ, pos, if◌then◌else◌, Option, Result, Ok, Err, ◌==◌, nat_lt, int_le}
 use Rattle.std.specs.List.{list_any}
 use Rattle.std.specs.Option.{ok_or}
-use Rattle.std.specs.Result.{result_and}
+use Rattle.conditions.specs.Results.{◌>>=◌, ◌>>◌}
 use Rattle.refusal.specs.declared.Reason.{Reason}
 use Rattle.refusal.specs.declared.Reason.TheVariants as reason
 use Rattle.refusal.specs.declared.Refusal.{Refusal}
@@ -86,16 +86,7 @@ abbrev pub of_frames : ℕ → Edit → List ℕ → List ℤ → Outcome
 of_frames scale edit durations offsets =
     of_kept scale (mode (map pos durations)) edit (kept edit (frames_from 0 durations offsets))
 
--- ---- steps that may be refused: `do` goes on from each, as `?` does in the code
-infixl 10 ◌>>=◌
-abbrev pub ◌>>=◌ : {A B : Type 0} → Result A Refusal → (A → Result B Refusal) → Result B Refusal
-Ok value >>= next = next value
-Err refusal >>= next = Err refusal
-
-infixl 10 ◌>>◌
-abbrev pub ◌>>◌ : {A : Type 0} → Result (Unit {0}) Refusal → Result A Refusal → Result A Refusal
-step >> next = result_and step next
-
+-- ---- steps that may be refused
 abbrev pub refuse_if : Bool → Reason → Result (Unit {0}) Refusal
 refuse_if test why = if test then refused why 0 else Ok tt
 

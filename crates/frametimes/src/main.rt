@@ -7,8 +7,12 @@ use std::io::{self, Read, Write};
 use std::process::ExitCode;
 
 // The frame times of an input; of one that can't be read to its end, that it can't.
-fn answer<R: Read, W: Write>(input: &mut R, out: &mut W) -> io::Result<()> {
-    match frame_lines::run(input, out) {
+fn answer<R: Read, W: Write, E: Write>(
+    input: &mut R,
+    out: &mut W,
+    errors: &mut E,
+) -> io::Result<()> {
+    match frame_lines::run(input, out, errors) {
         Ok(()) => Ok(()),
         Err(Failure::Input(_)) => reading::write_unread(out),
         Err(Failure::Output(error)) => Err(error),
@@ -17,7 +21,7 @@ fn answer<R: Read, W: Write>(input: &mut R, out: &mut W) -> io::Result<()> {
 
 fn main(rt: HostRuntime) -> ExitCode {
     let mut out = Buffered::new(io::writer(&rt));
-    match answer(&mut rt.reader(), &mut out) {
+    match answer(&mut rt.reader(), &mut out, &mut rt.stderr()) {
         Ok(()) => ExitCode::SUCCESS,
         Err(_) => reading::say_unwritten(&rt),
     }

@@ -25,16 +25,15 @@
 use reading::{Buffered, Failure};
 use std::io::Write;
 use std::process::ExitCode;
-use std::rt::Files;
 use std::{env, fs, io};
 
 // What frametimes prints of a file, under its name, which is there before the file is read.
-fn print_named(rt: &(impl Files + Print), name: &str) -> Result<(), Failure> {
+fn print_named(rt: &HostRuntime, name: &str) -> Result<(), Failure> {
     let mut file = fs::open(rt, name).map_err(Failure::Input)?;
     let mut out = Buffered::new(io::writer(rt));
     writeln!(out, "{name}:").map_err(Failure::Output)?;
     out.flush().map_err(Failure::Output)?;
-    frame_lines::run(&mut file, &mut out)
+    frame_lines::run(&mut file, &mut out, &mut rt.stderr())
 }
 
 // Prints the files that are named, up to the first that can't be opened or read, or whose lines

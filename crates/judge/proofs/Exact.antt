@@ -58,7 +58,7 @@ too_large Nothing starts = record { holds = λ e. tf (sym e); fails = λ e x. x 
 too_large (Constant frames numerator denominator) starts = either (less largest_scale numerator) (less largest_scale denominator)
 too_large (Times scale end nominal) starts = either (less largest_scale scale) (less most_starts (length starts))
 
--- 23, and then 24, as a chain of tests
+-- NoFrameTime and then OtherFrameTime, as a chain of tests
 chain : (us out : ℤ) (s : ℕ) → starts_at (if eqb s 0 then None else as_i64 us) out
     ≡ (if eqb s 0 || is_outside us then Err reason.NoFrameTime else if not (int_eq us out) then Err reason.OtherFrameTime else Ok tt)
 unfolding starts_at

@@ -21,19 +21,19 @@ abbrev pub Beyond : ℤ → Type 0
 Beyond z = (z <ℤ neg_ℤ (pos (2 ^ 63))) ⊎ (pos max_i64 <ℤ z)
 
 -- ---- a video
--- 21: no video given
+-- NoVideo (21): no video given
 abbrev pub NoVideo : Video → Type 0
 NoVideo Nothing = Unit
 NoVideo (Constant frames numerator denominator) = ⊥
 NoVideo (Times scale end nominal) = ⊥
 
--- 20: a rate number or timescale over 4,294,967,295, or over 16,777,216 starts
+-- TooLarge (20): a rate number or timescale over 4,294,967,295, or over 16,777,216 starts
 abbrev pub TooLarge : Video → List ℤ → Type 0
 TooLarge Nothing starts = ⊥
 TooLarge (Constant frames numerator denominator) starts = (largest_scale < numerator) ⊎ (largest_scale < denominator)
 TooLarge (Times scale end nominal) starts = (largest_scale < scale) ⊎ (most_starts < length starts)
 
--- 22: last out end isn't the video's frame count
+-- OtherFrameCount (22): last out end isn't the video's frame count
 abbrev pub OtherCount : Table → Shown → Type 0
 OtherCount table shown = out_end (last_segment table.segments) ≡ shown.frames → ⊥
 
@@ -41,11 +41,11 @@ OtherCount table shown = out_end (last_segment table.segments) ≡ shown.frames 
 abbrev pub frame_us : Table → Shown → ℕ → ℤ
 frame_us table shown k = rounded (shown.time (segment table k).words.out *ℤ pos 1000000) shown.scale
 
--- 23: a segment's frame time can't be had: scale 0, or outside i64
+-- NoFrameTime (23): a segment's frame time can't be had: scale 0, or outside i64
 abbrev pub NoTime : Table → Shown → ℕ → Type 0
 NoTime table shown k = (shown.scale ≡ 0) ⊎ Beyond (frame_us table shown k)
 
--- 24: it differs from out_start
+-- OtherFrameTime (24): it differs from out_start
 abbrev pub OtherStart : Table → Shown → ℕ → Type 0
 OtherStart table shown k = frame_us table shown k ≡ (segment table k).stamps.out_start → ⊥
 
@@ -56,12 +56,12 @@ Near table shown =
     (pos 2 *ℤ out_end_us (last_segment table.segments) *ℤ pos shown.scale -ℤ pos 2 *ℤ shown.end *ℤ pos 1000000))
     ≤ℤ (pos 2 *ℤ shown.nominal *ℤ pos 1000000 +ℤ pos shown.scale)
 
--- 23 and 24 of segment k
+-- what refuses the start of segment k: 23 and 24
 abbrev pub of_start : Table → Shown → ℕ → List Test
 of_start table shown k =
     given (NoTime table shown k) reason.NoFrameTime k ∷ given (OtherStart table shown k) reason.OtherFrameTime k ∷ []
 
--- the tests of a video that is lent so, in testing order; 25: the end isn't near
+-- the tests of a video that is lent so, in testing order; EndNotNear (25): the end isn't near
 abbrev pub video_tests : Table → Video → List ℤ → List Test
 video_tests table video starts =
     given (NoVideo video) reason.NoVideo 0
@@ -72,7 +72,7 @@ video_tests table video starts =
     ∷ []))
 
 -- ---- a recording
--- 34: timestamps not ascending (equal neighbours are allowed); k is the later one of the pair
+-- Falling (34): timestamps not ascending (equal neighbours are allowed); k is the later one of the pair
 abbrev pub of_pair : List ℤ → ℕ → List Test
 of_pair timestamps k = given (get_or timestamps k (pos 0) <ℤ get_or timestamps (k - 1) (pos 0)) reason.Falling k ∷ []
 

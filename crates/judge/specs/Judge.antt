@@ -16,7 +16,7 @@ use Rattle.ticks.specs.declared.FrameTimes.{FrameTimes}
 use Rattle.mcraw.specs.Mcraw.{starts_of, mcraw_times}
 use Rattle.judge.specs.Video.{Shown, constant, timed}
 
--- 23: the time of the segment's first frame can't be had. 24: it differs from out_start
+-- NoFrameTime (23): the time of the segment's first frame can't be had. OtherFrameTime (24): it differs from out_start
 unfoldable pub starts_at : Option ℤ → ℤ → Result (Unit {0}) Reason
 starts_at None out_start = Err reason.NoFrameTime
 starts_at (Some time) out_start = if int_eq time out_start then Ok tt else Err reason.OtherFrameTime
@@ -36,7 +36,7 @@ timeline_refusal segments shown =
     then refused reason.EndNotNear 0
     else Ok tt)
 
--- 21, 20, and then these
+-- NoVideo (21), TooLarge (20), and then these
 unfoldable pub video_refusal : List Segment → Shown → Result (Unit {0}) Refusal
 video_refusal segments shown =
     if not shown.given then refused reason.NoVideo 0
@@ -56,7 +56,7 @@ single sources segments =
     (source_of sources (get_or segments 0 no_segment)).numerator
     (source_of sources (get_or segments 0 no_segment)).denominator
 
--- 31 of a recording's times is told as 35, and other reasons stay
+-- Missing (31) of a recording's times is told as NoRecordingTimes (35), and other reasons stay
 unfoldable pub recoded : Reason → Reason
 recoded reason.Missing = reason.NoRecordingTimes
 recoded why = why

@@ -17,6 +17,7 @@ use Rattle.rows.specs.Lent.{row_at, rows}
 use Rattle.maps.specs.declared.FrameMap.{FrameMap}
 use Rattle.maps.specs.Answers.{most_rows, sized, first_bad, map_refusal, fits, room_refusal, cut_refusal, join_refusal, merge_refusal, origin_refusal}
 use Rattle.maps.specs.Spans.{Sound}
+use Rattle.maps.specs.Laws.{LentMap}
 
 -- 51
 first-well : (m : List Row) (p i : ℕ) → first_bad p i m ≡ Ok tt → WellFrom p m
@@ -58,6 +59,16 @@ pub sound-map : (u : List ℕ) (s : List ℤ) → Sound u s → map_refusal u s 
 sound-map u s o =
     let z : sized (length u) (length s) ≡ true = rw (lt-ltb 0 (length s) o.some) (eq-eqb (length u) (5 * length s) o.sizes) in
     rw z (well-first (rows u s) 0 0 o.well)
+
+-- a lent map that no call refuses for itself
+pub lent : {u : List ℕ} {s : List ℤ} → Sound u s → length s ≤ most_rows → LentMap u s
+lent m few = record { some = m.some; sizes = m.sizes; well = m.well; few = few }
+
+pub sound-lent : {u : List ℕ} {s : List ℤ} → LentMap u s → Sound u s
+sound-lent l = record { some = l.some; sizes = l.sizes; well = l.well }
+
+pub is-sound : {u : List ℕ} {s : List ℤ} → LentMap u s → map_refusal u s ≡ Ok tt
+is-sound l = sound-map _ _ (sound-lent l)
 
 -- what is lent has room
 pub record Fits (k nu ns : ℕ) : Type 0 where

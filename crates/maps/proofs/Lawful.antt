@@ -13,21 +13,14 @@ use Rattle.rows.specs.Rows.{total, origin, cut, join, merge}
 use Rattle.rows.proofs.Demanded.{demanded}
 use Rattle.rows.specs.Lent.{rows}
 use Rattle.maps.specs.Answers.{most_rows, room_refusal, cut_refusal, merge_refusal, traced_as, Placed, Cut, Join, Merge, Trace}
-use Rattle.maps.specs.Spans.{Sound}
 use Rattle.maps.specs.Laws.{LentMap, Wrote, TracedTo, Laws}
 use Rattle.conditions.proofs.Sums.{not-past}
-use Rattle.maps.proofs.Chains.{Fits, room-on, too_many, sound-map, cut-empty, cut-room, cut-unrefused, cut-accepted, merge-room, merge-unrefused, merge-accepted, join-room, join-unrefused, join-accepted, origin-beyond, origin-accepted}
+use Rattle.maps.proofs.Chains.{Fits, room-on, too_many, lent, sound-lent, is-sound, cut-empty, cut-room, cut-unrefused, cut-accepted, merge-room, merge-unrefused, merge-accepted, join-room, join-unrefused, join-accepted, origin-beyond, origin-accepted}
 use Rattle.maps.proofs.Spans.{origin-held, row-holder}
 use Rattle.maps.proofs.Joined.{length-rows, length-join}
 use Rattle.maps.proofs.ReadBack.{none, count, wrote, as_lent, frames-rows, rows-frames}
 
 -- ---- lent maps
-lent : {u : List ℕ} {s : List ℤ} → Sound u s → length s ≤ most_rows → LentMap u s
-lent m few = record { some = m.some; sizes = m.sizes; well = m.well; few = few }
-
-sound : {u : List ℕ} {s : List ℤ} → LentMap u s → Sound u s
-sound l = record { some = l.some; sizes = l.sizes; well = l.well }
-
 some-frames : (u : List ℕ) (s : List ℤ) → LentMap u s → 0 < total (rows u s)
 some-frames u s l = rows-frames (rows u s) l.well (omega (arith, length-rows u s, l.some))
 
@@ -83,7 +76,7 @@ cut_accepts : (u : List ℕ) (s : List ℤ) (a b : ℕ) (ou ou' : List ℕ) (os 
     → 5 * length (cut a b (rows u s)) ≤ length ou → length (cut a b (rows u s)) ≤ length os → Cut u s a b ou os r ou' os' → r ≡ Ok (length (cut a b (rows u s)))
 cut_accepts u s a b ou ou' os os' r l h i x y p =
     let f : Fits (length (cut a b (rows u s))) (length ou) (length os) = record { few = omega (arith, demanded.cut_rows (rows u s) a b, length-rows u s, l.few); words = x; shifts = y } in
-    answer p (cut-accepted u s a b (length ou) (length os) (record { sound = sound l; few = l.few; some = h; inside = i; room = f }))
+    answer p (cut-accepted u s a b (length ou) (length os) (record { sound = sound-lent l; few = l.few; some = h; inside = i; room = f }))
 
 join_accepts : (u v : List ℕ) (s t : List ℤ) (ou ou' : List ℕ) (os os' : List ℤ) (r : Result ℕ Refusal) → LentMap u s
     → LentMap v t → total (rows u s) + total (rows v t) ≤ max_u64
@@ -91,13 +84,13 @@ join_accepts : (u v : List ℕ) (s t : List ℤ) (ou ou' : List ℕ) (os os' : L
 join_accepts u v s t ou ou' os os' r l k h few x y p =
     let n = length-join u s v t in
     let f : Fits (length (join (rows u s) (rows v t))) (length ou) (length os) = record { few = omega arith; words = omega arith; shifts = omega arith } in
-    answer p (join-accepted u s v t (length ou) (length os) (record { first = sound l; second = sound k; few = l.few; few-second = k.few; short = h; room = f })) ∙ ap Ok n
+    answer p (join-accepted u s v t (length ou) (length os) (record { first = sound-lent l; second = sound-lent k; few = l.few; few-second = k.few; short = h; room = f })) ∙ ap Ok n
 
 merge_accepts : (u : List ℕ) (s : List ℤ) (ou ou' : List ℕ) (os os' : List ℤ) (r : Result ℕ Refusal) → LentMap u s
     → 5 * length (merge (rows u s)) ≤ length ou → length (merge (rows u s)) ≤ length os → Merge u s ou os r ou' os' → r ≡ Ok (length (merge (rows u s)))
 merge_accepts u s ou ou' os os' r l x y p =
     let f : Fits (length (merge (rows u s))) (length ou) (length os) = record { few = omega (arith, demanded.merge_rows (rows u s), length-rows u s, l.few); words = x; shifts = y } in
-    answer p (merge-accepted u s (length ou) (length os) (record { sound = sound l; few = l.few; room = f }))
+    answer p (merge-accepted u s (length ou) (length os) (record { sound = sound-lent l; few = l.few; room = f }))
 
 -- ---- origins
 -- what `origin` answers of a lent map, for every frame
@@ -107,9 +100,9 @@ traces u s f r l e =
     ⊎_elim
     (λ (h : total (rows u s) ≤ f).
     e
-    ∙ ap (λ (x : Result (Unit {0}) Refusal). result_and x (traced_as (origin (rows u s) f))) (origin-beyond u s f (sound-map u s (sound l)) l.few h)
+    ∙ ap (λ (x : Result (Unit {0}) Refusal). result_and x (traced_as (origin (rows u s) f))) (origin-beyond u s f (is-sound l) l.few h)
     ∙ ap traced_as (sym (demanded.past_map (rows u s) f l.well h)))
-    (λ (h : f < total (rows u s)). e ∙ ap (λ (x : Result (Unit {0}) Refusal). result_and x (traced_as (origin (rows u s) f))) (origin-accepted u s f (sound-map u s (sound l)) l.few h))
+    (λ (h : f < total (rows u s)). e ∙ ap (λ (x : Result (Unit {0}) Refusal). result_and x (traced_as (origin (rows u s) f))) (origin-accepted u s f (is-sound l) l.few h))
     (le-or-lt (total (rows u s)) f)
 
 origin_past : (u : List ℕ) (s : List ℤ) (f : ℕ) (r : Result Origin Refusal) → LentMap u s → total (rows u s) ≤ f
@@ -119,14 +112,14 @@ origin_past u s f r l h e = traces u s f r l e ∙ ap traced_as (demanded.past_m
 origin_found : (u : List ℕ) (s : List ℤ) (f : ℕ) (r : Result Origin Refusal) → LentMap u s → f < total (rows u s)
     → Trace u s f r → TracedTo u s f r
 origin_found u s f r l h e =
-    let o = row-holder (sound l) f h in
+    let o = row-holder (sound-lent l) f h in
     record {
       index = o.index;
       within = o.holder.within;
       low = o.holder.low;
       high = o.holder.high;
       only = o.only;
-      gives = traces u s f r l e ∙ ap traced_as (origin-held (sound l) f o.index o.holder);
+      gives = traces u s f r l e ∙ ap traced_as (origin-held (sound-lent l) f o.index o.holder);
     }
 
 -- two maps give two frames the same origin, so `origin` answers the same
@@ -193,12 +186,12 @@ cut_again u s a b c d k mu mu' ou ou' ou'' ms ms' os os' os'' r q p x y h = once
         let tv = ap total g.3.is ∙ g.4 in
         ⊎_elim
         (λ (e : d ≤ c).
-        cut-empty (take (5 * k) mu') (take k ms') c d (length ou) (length os) (sound-map _ _ (sound lv)) lv.few e
-        ∙ sym (cut-empty u s (a + c) (a + d) (length ou) (length os) (sound-map _ _ (sound lu)) lu.few (omega arith)))
+        cut-empty (take (5 * k) mu') (take k ms') c d (length ou) (length os) (is-sound lv) lv.few e
+        ∙ sym (cut-empty u s (a + c) (a + d) (length ou) (length os) (is-sound lu) lu.few (omega arith)))
         (λ (e : c < d).
-        cut-room (take (5 * k) mu') (take k ms') c d (length ou) (length os) (sound-map _ _ (sound lv)) lv.few e (omega arith)
+        cut-room (take (5 * k) mu') (take k ms') c d (length ou) (length os) (is-sound lv) lv.few e (omega arith)
         ∙ ap (λ (m : List Row). room_refusal (length m) (length ou) (length os)) one
-        ∙ sym (cut-room u s (a + c) (a + d) (length ou) (length os) (sound-map _ _ (sound lu)) lu.few (omega arith) (omega (arith, g.2))))
+        ∙ sym (cut-room u s (a + c) (a + d) (length ou) (length os) (is-sound lu) lu.few (omega arith) (omega (arith, g.2))))
         (le-or-lt d c)
 
 -- ---- merges
@@ -206,9 +199,9 @@ cut_again u s a b c d k mu mu' ou ou' ou'' ms ms' os os' os'' r q p x y h = once
 merge-alike : (u v : List ℕ) (s t : List ℤ) (nu ns : ℕ) → LentMap u s → LentMap v t
     → merge (rows u s) ≡ merge (rows v t) → merge_refusal u s nu ns ≡ merge_refusal v t nu ns
 merge-alike u v s t nu ns l k e =
-    merge-room u s nu ns (sound-map u s (sound l)) l.few
+    merge-room u s nu ns (is-sound l) l.few
     ∙ ap (λ (m : List Row). room_refusal (length m) nu ns) e
-    ∙ sym (merge-room v t nu ns (sound-map v t (sound k)) k.few)
+    ∙ sym (merge-room v t nu ns (is-sound k) k.few)
 
 merge_again : (u : List ℕ) (s : List ℤ) (k : ℕ) (ou ou' ou'' : List ℕ) (os os' os'' : List ℤ) (r : Result ℕ Refusal)
     → Merge u s ou os (Ok k) ou' os'
@@ -291,7 +284,7 @@ module _ (u : List ℕ) (s : List ℤ) (a b c i j : ℕ) (pu pu' qu qu' : List �
       let t : total (rows vu vs) + total (rows wu ws) ≤ max_u64 = omega (arith, ap total left.3.is ∙ left.4, ap total right.3.is ∙ right.4, left.1, right.1, right.2, (demanded.tiles (rows u s) left.0.well).1) in (
         λ e. join_accepts vu wu vs ws ju ju' js js' r left.3.lent right.3.lent t (omega arith) (omega arith) (omega arith) k ∙ ap Ok n,
         λ e.
-            let z = join-room vu vs wu ws (length ju) (length js) (sound-map vu vs (sound left.3.lent)) (sound-map wu ws (sound right.3.lent)) left.3.lent.few right.3.lent.few (not-past (total (rows vu vs)) (total (rows wu ws)) max_u64 t) in
+            let z = join-room vu vs wu ws (length ju) (length js) (is-sound left.3.lent) (is-sound right.3.lent) left.3.lent.few right.3.lent.few (not-past (total (rows vu vs)) (total (rows wu ws)) max_u64 t) in
             let f = too_many (length (join (rows vu vs) (rows wu ws))) (length ju) (length js) (omega (arith, length-join vu vs wu ws)) in
             k.answer ∙ ap (λ (y : Result (Unit {0}) Refusal). result_and y (Ok (length (join (rows vu vs) (rows wu ws))))) (z ∙ room-on (length (join (rows vu vs) (rows wu ws))) (length ju) (length js) f),
       )

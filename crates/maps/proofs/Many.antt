@@ -9,7 +9,8 @@ use Rattle.slices.proofs.Ranges.{run}
 use Rattle.slices.proofs.Lists.{copy_more, copy-all}
 use Rattle.slices.proofs.Laid.{length-laid}
 use Rattle.slices.specs.Slices.{laid, after}
-use Rattle.std.specs.Prelude.{Result, Ok, Err, Some}
+use Rattle.std.specs.Prelude.{Option, Result, Ok, Err, Some}
+use Rattle.std.specs.Option.{unwrap_or}
 use Rattle.std.specs.Result.{result_and}
 use Rattle.conditions.specs.Conditions.{max_u64}
 use Rattle.conditions.proofs.Tests.{tests, decide}
@@ -25,10 +26,10 @@ use Rattle.rows.specs.Rows.{row_end, total, holds, origin}
 use Rattle.rows.specs.Lent.{row_at, rows}
 use Rattle.rows.proofs.Origins.{holds-lo, holds-hi}
 use Rattle.maps.specs.Answers.{most_rows, map_refusal, origin_refusal, traced_as, Trace}
-use Rattle.maps.specs.Origins.{no_origin, found, origin_at, frame_refusal, origins_refusal, Traces, AllInside, RoomAsLent, OriginsLaws}
+use Rattle.maps.specs.Origins.{no_origin, origin_at, frame_refusal, origins_refusal, Traces, AllInside, RoomAsLent, OriginsLaws}
 use Rattle.maps.specs.Laws.{LentMap}
 use Rattle.maps.specs.Spans.{Sound, Holder}
-use Rattle.maps.proofs.Chains.{sound, sound-map, some-rows, origin-accepted}
+use Rattle.maps.proofs.Chains.{sound, sound-map, lent, is-sound, some-rows, origin-accepted}
 use Rattle.maps.proofs.Spans.{row-end, row-holder, origin-held}
 
 -- frames as a loop reads them
@@ -55,7 +56,8 @@ pub origin-more : (m : List Row) (l : List ℕ) (o out : List Origin) (k : ℕ) 
     → set out k it ≡ take (k + 1) (map (origin_at m) l) ++ drop (k + 1) o
 origin-more m l o out k it h room e f =
     let n = length-map l (origin_at m) in
-    let is : it ≡ get_or (map (origin_at m) l) k no_origin = sym (get_or-map (origin_at m) l k 0 no_origin h ∙ ap found f) in
+    let is : it ≡ get_or (map (origin_at m) l) k no_origin =
+    sym (get_or-map (origin_at m) l k 0 no_origin h ∙ ap (λ (x : Option Origin). unwrap_or x no_origin) f) in
     (λ i. set (e i) k (is i)) ∙ copy_more (map (origin_at m) l) o k no_origin (omega (arith, n)) (omega (arith, room))
 
 pub origins-all : (m : List Row) (l : List ℕ) (o out : List Origin) (k : ℕ) → k ≤ length l → length l ≤ k
@@ -112,9 +114,6 @@ traced u s l room e =
       fits = ltb-false room (length l) d.0;
     }
 
-lent : {u : List ℕ} {s : List ℤ} → Sound u s → length s ≤ most_rows → LentMap u s
-lent m few = record { some = m.some; sizes = m.sizes; well = m.well; few = few }
-
 -- the same refusal, of an answer of another type
 again : {w x : Refusal} → ◌≡◌ {A = Result Origin Refusal} (Err w) (Err x) → ◌≡◌ {A = Result ℕ Refusal} (Err w) (Err x)
 again e = grind arith
@@ -149,11 +148,11 @@ module _ (u : List ℕ) (s : List ℤ) (l : List ℕ) (o : List Origin) where
         let f = nth l k in
         let w = row-holder can.sound f (can.inside k h) in
         let g = origin-held can.sound f w.index w.holder in
-        let got : get_or o' k no_origin ≡ found (origin m f) =
+        let got : get_or o' k no_origin ≡ origin_at m f =
         ap (λ (x : List Origin). get_or x k no_origin) over ∙ get_or-append origins-of (drop (length origins-of) o) no_origin k (omega (arith, as-many))
         ∙ get_or-map (origin_at m) l k 0 no_origin h in
         t ∙ ap (λ (x : Result (Unit {0}) Refusal). result_and x (traced_as (origin m f))) (origin-accepted u s f (sound-map u s can.sound) can.few (can.inside k h))
-        ∙ ap traced_as g ∙ ap Ok (sym (got ∙ ap found g))
+        ∙ ap traced_as g ∙ ap Ok (sym (got ∙ ap (λ (x : Option Origin). unwrap_or x no_origin) g))
 
     past : drop n o' ≡ drop n o
     past =
@@ -182,23 +181,20 @@ module _ (u : List ℕ) (s : List ℤ) (l : List ℕ) (o : List Origin) where
             (λ g. absurd (h (lent (sound u s e) (ltb-false most_rows (length s) g))))
 
     module _ (m : LentMap u s) where
-      is-sound : map_refusal u s ≡ Ok tt
-      is-sound = sound-map u s (record { some = m.some; sizes = m.sizes; well = m.well })
-
       frame-refused : (k : ℕ) → k < length l → ((j : ℕ) → j < k → nth l j < total (rows u s)) → total (rows u s) ≤ nth l k
           → r ≡ refused reason.PastMap k
       frame-refused k h b g =
           let t = total (rows u s) in
           let e = first-refused (frame_refusal t) 0 l 0 k reason.PastMap h (λ j c. frame-kept t (nth l j) (b j c)) (past-refused t (nth l k) g) in
           let z : 0 + k ≡ k = omega arith in
-          (rw (is-sound, le-ltb most_rows (length s) m.few, e) at p.answer) ∙ ap (refused reason.PastMap) z
+          (rw (is-sound m, le-ltb most_rows (length s) m.few, e) at p.answer) ∙ ap (refused reason.PastMap) z
 
       module _ (b : AllInside (total (rows u s)) l) where
         room-refused : length o < length l → r ≡ refused reason.NoRoom 0
-        room-refused h = rw (is-sound, le-ltb most_rows (length s) m.few, kept-all (total (rows u s)) l b, lt-ltb (length o) (length l) h) at p.answer
+        room-refused h = rw (is-sound m, le-ltb most_rows (length s) m.few, kept-all (total (rows u s)) l b, lt-ltb (length o) (length l) h) at p.answer
 
         accepts : length l ≤ length o → r ≡ Ok (length l)
-        accepts h = rw (is-sound, le-ltb most_rows (length s) m.few, kept-all (total (rows u s)) l b, le-ltb (length o) (length l) h) at p.answer
+        accepts h = rw (is-sound m, le-ltb most_rows (length s) m.few, kept-all (total (rows u s)) l b, le-ltb (length o) (length l) h) at p.answer
 
 pub lawful : OriginsLaws Traces Trace
 lawful = record {

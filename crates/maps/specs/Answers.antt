@@ -25,14 +25,14 @@ most_rows = 1024
 abbrev pub sized : ℕ → ℕ → Bool
 sized word_count shift_count = nat_lt 0 shift_count && word_count == 5 * shift_count
 
--- 51 at the first row that isn't well formed, from row i on, where frame `next` is next
+-- BadRows (51), at the first row that isn't well formed, from row i on, where frame `next` is next
 unfoldable pub first_bad : ℕ → ℕ → List Row → Result (Unit {0}) Refusal
 first_bad next i [] = Ok tt
 first_bad next i (row ∷ rest) =
     if not (ok_row next row) then refused reason.BadRows i
     else first_bad (next + row.count) (suc i) rest
 
--- 51 of a lent map
+-- BadRows, of a lent map
 abbrev pub map_refusal : List ℕ → List ℤ → Result (Unit {0}) Refusal
 map_refusal words shifts =
     if not (sized (length words) (length shifts)) then refused reason.BadRows 0
@@ -43,7 +43,7 @@ abbrev pub fits : ℕ → ℕ → ℕ → Bool
 fits count word_room shift_room =
     nat_le count most_rows && nat_le (5 * count) word_room && nat_le count shift_room
 
--- 52 of so many rows out
+-- RowsDontFit (52), of so many rows out
 abbrev pub room_refusal : ℕ → ℕ → ℕ → Result (Unit {0}) Refusal
 room_refusal count word_room shift_room =
     if not (fits count word_room shift_room) then refused reason.RowsDontFit 0 else Ok tt

@@ -1,7 +1,8 @@
 -- The origins of a list of frames (RULES 10.9), of a map that is tested once: what `origins` answers and leaves in the
 -- lent room, and that each is what `origin` answers. out is lent for the origins, room long; with a prime it is what is
 -- there afterwards.
-use Rattle.std.specs.Prelude.{◌≡◌, ℕ, ◌<◌, ◌≤◌, List, map, length, get_or, drop, ℤ, pos, nat_le, nat_lt, Result, Ok, Err, Option, Some, None, if◌then◌else◌}
+use Rattle.std.specs.Prelude.{◌≡◌, ℕ, ◌<◌, ◌≤◌, List, map, length, get_or, drop, ℤ, pos, nat_le, nat_lt, Result, Ok, Err, if◌then◌else◌}
+use Rattle.std.specs.Option.{unwrap_or}
 use Rattle.std.specs.Result.{result_and}
 use Rattle.refusal.specs.declared.Reason.{Reason}
 use Rattle.refusal.specs.declared.Reason.TheVariants as reason
@@ -19,19 +20,16 @@ use Rattle.maps.specs.Laws.{LentMap}
 abbrev pub no_origin : Origin
 no_origin = record { source = 0; frame = 0; flag = 0; shift = pos 0 }
 
-abbrev pub found : Option Origin → Origin
-found (Some it) = it
-found None = no_origin
-
 -- the origin of a frame that a map has
 abbrev pub origin_at : List Row → ℕ → Origin
-origin_at map frame = found (origin map frame)
+origin_at map frame = unwrap_or (origin map frame) no_origin
 
--- 54 of a frame of a map of so many frames
+-- PastMap (54), of a frame of a map of so many frames
 abbrev pub frame_refusal : ℕ → ℕ → Result (Unit {0}) Reason
 frame_refusal frames frame = if nat_le frames frame then Err reason.PastMap else Ok tt
 
--- 51 and 52 as of `origin`, 54 of the first frame past the map, 32 where there is no room
+-- what `origin` refuses the map for (51 and 52), then PastMap of the first frame past the map, then NoRoom (32) where
+-- there is no room
 abbrev pub origins_refusal : List ℕ → List ℤ → List ℕ → ℕ → Result (Unit {0}) Refusal
 origins_refusal words shifts frames room =
     result_and (map_refusal words shifts)

@@ -22,7 +22,7 @@ use rows::{Origin, ROW_WORDS, Row};
 pub const MOST_ROWS: usize = 1024;
 
 /// A map that was tested: its rows are well formed (RULES 10.1). `FrameMap::of` alone makes one.
-#[derive(Clone, Copy)]
+#[derive(Clone, Copy, Debug, PartialEq)]
 pub struct FrameMap<'a> {
     /// Five words a row: source, source first, frame count, out first, shift flag (0 or 1).
     pub words: &'a [u64],

@@ -12,6 +12,7 @@ use mir.Facts.{to_z_pos}
 use lib.Dec.{ltb, eqb}
 use borrow.Author.Tests.{eqb-true}
 use Rattle.conditions.proofs.Tests.{decide}
+use Rattle.conditions.specs.Results.{◌>>=◌, ◌>>◌}
 use Rattle.refusal.specs.declared.Reason.TheVariants as reason
 use Rattle.refusal.specs.declared.Refusal.{Refusal}
 use Rattle.boxes.specs.Bytes.{mdia}
@@ -24,7 +25,7 @@ use Rattle.tracks.specs.Tables.{timescale, table_entries, optional_entries, entr
 use Rattle.tracks.specs.Edits.{edit_of}
 use Rattle.tracks.specs.declared.entries.Run.{Run}
 use Rattle.tracks.proofs.EntryLaws.{map-replicate}
-use Rattle.frame_times.specs.Times.{Outcome, of_frames, ◌>>=◌, ◌>>◌, refuse_if, needed, Part, whole_part, inner_part, found, Track, track_by, times_in, outcome_of, times_of_moov, mvhd, mdhd, minf, stbl, stts, ctts}
+use Rattle.frame_times.specs.Times.{Outcome, of_frames, refuse_if, needed, Part, whole_part, inner_part, found, Track, track_by, times_in, outcome_of, times_of_moov, mvhd, mdhd, minf, stbl, stts, ctts}
 use Rattle.frame_times.proofs.Steps.{by-needed, by-test}
 use Rattle.modes.specs.Modes.{ctts_of, TopClear, NoTopBit}
 

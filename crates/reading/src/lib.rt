@@ -1,14 +1,16 @@
-//! What the programs read, and what they say where they can't read or write. Which bytes the
-//! system gives no contract can say; these say how many bytes of the room are held, and of a reader
-//! whose bytes are known, that those are its next ones.
+//! What the programs read, and what they say where they can't read or write, or where a call
+//! refuses. Which bytes the system gives no contract can say; these say how many bytes of the room
+//! are held, and of a reader or a writer whose bytes are known, which come next.
 #![tactic(auto)]
 
-ghost use Rattle.std.specs.Prelude.{◌≡◌, ◌<◌, ◌≤◌, length, take, IfSome};
+ghost use Rattle.std.specs.Prelude.{◌≡◌, ◌<◌, ◌≤◌, ◌++◌, ◌∷◌, [], length, take, IfSome, OnOk};
 ghost use Rattle.std.specs.Option.{IsNone};
-ghost use Rattle.std.specs.Io.KnownBytes.{Consumes, IsAtEnd};
+ghost use Rattle.std.specs.Io.KnownBytes.{Appends, Consumes, IsAtEnd};
+ghost use Rattle.refusal.specs.Words.{refusal_text};
 ghost use Rattle.reading.specs.Held.{IsPrefixLen};
 ghost use Rattle.reading.specs.declared.Ending.TheVariants.{Within};
 
+use refusal::Refusal;
 use std::io::{self, Read, Write};
 use std::process::ExitCode;
 
@@ -160,6 +162,27 @@ pub fn read_input<R: Read>(input: &mut R, room: &mut [u8]) -> HeldInput
 pub fn write_unread<W: Write>(out: &mut W) -> io::Result<()> {
     writeln!(out, "cannot read standard input")?;
     out.flush()
+}
+
+// Writes a refusal in words, on a line.
+fn write_words<W: Write>(out: &mut W, refusal: Refusal) -> io::Result<()>
+    ensures { OnOk result (Appends (W.contents out.old) (W.contents out.new)
+        (refusal_text refusal ++ 10 ∷ [])) }
+{
+    writeln!(out, "{refusal}")
+}
+
+/// Says in words, on a writer for people, a refusal whose line was written to `out`. That line goes
+/// out first, so that the two stand in order where both end in one place. The line is the answer:
+/// where the words can't be written, nothing else changes.
+pub fn say_refused<W: Write, E: Write>(
+    out: &mut W,
+    errors: &mut E,
+    refusal: Refusal,
+) -> io::Result<()> {
+    out.flush()?;
+    let _ = write_words(errors, refusal);
+    Ok(())
 }
 
 /// Says on standard error that standard output can't be written. The program's exit status is 2

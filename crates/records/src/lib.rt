@@ -77,7 +77,7 @@ fn segment_of(trim: TrimSegment) -> Segment
 }
 
 /// Records, one a segment: a layout of a table's segments, of any length.
-#[derive(Clone, Copy)]
+#[derive(Clone, Copy, Debug, PartialEq)]
 pub struct Records<'a> {
     /// The records, in the order of the segments.
     pub all: &'a [TrimSegment],

@@ -9,7 +9,7 @@ use Rattle.refusal.proofs.Chains.{ok-of, err-of}
 use Rattle.rules.specs.Records.{Table}
 use Rattle.rules.specs.Rules.{refusal, check_of}
 
--- 1 to 17 come first, and where they refuse nothing the rest decides
+-- refusals 1 to 17 come first, and where they refuse nothing the rest decides
 module _ (t : Table) {A : Type 0} (rest : Result A Refusal) where
   pub check-first : {r : Refusal} → check_of t ≡ Err r → result_and (refusal t) rest ≡ Err r
   unfolding check_of

@@ -20,7 +20,7 @@ use Rattle.rules.specs.Limits.{max_i64}
 use Rattle.rules.specs.Rules.{too_late, apart, bad_shift, frames_or, times_or, judged}
 use Rattle.rules.specs.Walks.{FineFrames, out_of_time}
 
--- 10 to 17 in parts, as code goes through them
+-- what refuses a segment in parts, as code goes through them
 pub judged_parts : (s : Source) (previous : Ends) (w : Words) (t : SixTimes) → judged s previous w t
     ≡ result_and (frames_or s.frames w.first w.count w.out (Ok tt)) (result_and (times_or previous w.out t (Ok tt)) (if bad_shift s.kind s.modulus w.flag t.back t.shift then Err reason.BadShift else Ok tt))
 unfolding judged

@@ -122,7 +122,7 @@ module _ (sources : List Source) (previous : Ends) (e : Segment) where
   passing-none h s =
       (λ z. tf (sym z ∙ ap (λ (x : Ends). x.some) s), λ z f q. let y : Err reason.NoSuchSource ≡ Ok tt = rw (le-leb (length sources) e.words.source h) at q in absurd (grind arith))
 
--- 1 to 8 decide whether the segments are walked
+-- refusals 1 to 8 decide whether the segments are walked
 module _ (t : Table) where
   pub check-stops : {r : Refusal} → front_refusal t.log t.text t.sources (malformed t) (length t.segments) ≡ Err r
       → Err r ≡ check_of t

@@ -1,5 +1,5 @@
 -- Refusals 1 to 17 in the order of RULES 3.1, over records: nothing in this file knows how a table is lent. The words
--- after a number are RULES 2.4's, in short.
+-- after a reason are RULES 2.4's, in short.
 use Rattle.std.specs.Prelude.{ℕ, suc, ◌+◌, List, [], ◌∷◌, Bool, true, false, not, ◌||◌, ◌&&◌, length, take, drop, ℤ, pos, Result, Ok, Err, ◌==◌, nat_lt, nat_le, int_lt, unsigned_abs, if◌then◌else◌}
 use Rattle.std.specs.List.{list_any}
 use Rattle.std.specs.Result.{result_and}
@@ -18,41 +18,41 @@ use Rattle.rules.specs.declared.Stamps.{Stamps}
 use Rattle.rules.specs.declared.Segment.{Segment}
 use Rattle.rules.specs.Records.{Table, source_of, frame_total}
 
--- 1: a flag or kind outside its set, or a present creation time whose range leaves the text
+-- Malformed (1): a flag or kind outside its set, or a present creation time whose range leaves the text
 abbrev pub bad_words : ℕ → ℕ → ℕ → ℕ → ℕ → ℕ → Bool
 bad_words text_length dated from size kind imu_known =
     (nat_lt 1 dated || nat_lt 2 kind) || (nat_lt 1 imu_known || (dated == 1 && past from size text_length))
 
--- 1 of a source, and of a segment
+-- the same of a source's record, and of a segment
 unfoldable pub bad_source : ℕ → Source → Bool
 bad_source text_length source = bad_words text_length source.dated source.from source.size source.kind source.imu_known
 
 unfoldable pub bad_segment : Segment → Bool
 bad_segment segment = nat_lt 1 segment.words.flag
 
--- 1, whole: also where lengths don't fit
+-- Malformed, whole: also where lengths don't fit
 unfoldable pub malformed : Table → Bool
 malformed table =
     (table.uneven || list_any (bad_source (length table.text)) table.sources)
     || list_any bad_segment table.segments
 
--- 2: over 256 sources or 512 segments
+-- OverLimit (2): over 256 sources or 512 segments
 abbrev pub over_limit : ℕ → ℕ → Bool
 over_limit sources segments = nat_lt max_sources sources || nat_lt max_segments segments
 
--- 4: its frames, or a number of its frames a second, is 0
+-- ZeroInSource (4): its frames, or a number of its frames a second, is 0
 abbrev pub zero_in_source : ℕ → ℕ → ℕ → Bool
 zero_in_source frames numerator denominator = (frames == 0 || numerator == 0) || denominator == 0
 
--- 5: its creation time fails the UTC rule
+-- BadDate (5): its creation time fails the UTC rule
 abbrev pub bad_date : List ℕ → ℕ → ℕ → ℕ → Bool
 bad_date text dated from size = dated == 1 && not (utc_second (take size (drop from text)))
 
--- 6: its clock rate has a 0, or its modulus is 0
+-- BadClock (6): its clock rate has a 0, or its modulus is 0
 abbrev pub bad_clock : ℕ → ℕ → ℕ → ℕ → Bool
 bad_clock kind ticks per modulus = not (kind == 0) && ((ticks == 0 || per == 0) || (kind == 2 && modulus == 0))
 
--- 4 to 7 of a source; 7: a log is named and it has no clock
+-- what refuses a source: 4 to 7; NoClock (7): a log is named and it has no clock
 unfoldable pub source_refusal : Bool → List ℕ → Source → Result (Unit {0}) Reason
 source_refusal log text source =
     if zero_in_source source.frames source.numerator source.denominator then Err reason.ZeroInSource
@@ -82,21 +82,21 @@ stamp_times stamps = record {
   shift = unsigned_abs stamps.shift;
 }
 
--- 14: a start plus its duration, or the capture pair, passes 2^63 - 1
+-- TooLate (14): a start plus its duration, or the capture pair, passes 2^63 - 1
 abbrev pub too_late : ℕ → ℕ → ℕ → ℕ → Bool
 too_late start duration capture capture_duration = past start duration max_i64 || past capture capture_duration max_i64
 
--- 16: out_start or out_capture_start isn't the end before; the first is free
+-- TimeGap (16): out_start or out_capture_start isn't the end before; the first is free
 abbrev pub apart : Bool → ℕ → ℕ → ℕ → ℕ → Bool
 apart some time capture out_start out_capture_start =
     some && (not (out_start == time) || not (out_capture_start == capture))
 
--- 17: a shift without clock, a clock without shift, or a modulus with the shift outside 0..modulus
+-- BadShift (17): a shift without clock, a clock without shift, or a modulus with the shift outside 0..modulus
 abbrev pub bad_shift : ℕ → ℕ → ℕ → Bool → ℕ → Bool
 bad_shift kind modulus flag back shift =
     ((kind == 0 && flag == 1) || (not (kind == 0) && flag == 0)) || (kind == 2 && (back || nat_le modulus shift))
 
--- 10 to 12, and then the rest
+-- what refuses a segment for its frames, 10 to 12, and then the rest
 abbrev pub frames_or : ℕ → ℕ → ℕ → ℕ → Result (Unit {0}) Reason → Result (Unit {0}) Reason
 frames_or frames source_first count out_first rest =
     if count == 0 then Err reason.NoFrames
@@ -104,7 +104,7 @@ frames_or frames source_first count out_first rest =
     else if past source_first count frames then Err reason.PastSource
     else rest
 
--- 13 to 16, 14 again, and then the rest
+-- what refuses it for its times or where it begins, 13 to 16 and 14 again, and then the rest
 abbrev pub times_or : Ends → ℕ → SixTimes → Result (Unit {0}) Reason → Result (Unit {0}) Reason
 times_or previous out_first times rest =
     if times.negative then Err reason.NegativeTime
@@ -117,7 +117,7 @@ times_or previous out_first times rest =
     then Err reason.TooLate
     else rest
 
--- 10 to 17 of a segment of this source, after one that ends at `previous`, in the order of RULES 3.4
+-- what refuses a segment of this source, 10 to 17, after one that ends at `previous`, in the order of RULES 3.4
 unfoldable pub judged : Source → Ends → Words → SixTimes → Result (Unit {0}) Reason
 judged source previous words times =
     frames_or source.frames words.first words.count words.out
@@ -125,7 +125,7 @@ judged source previous words times =
     (if bad_shift source.kind source.modulus words.flag times.back times.shift then Err reason.BadShift
     else Ok tt))
 
--- 9 to 17 of a segment; 9: no such source
+-- what refuses a segment, 9 to 17; NoSuchSource (9): it names no source of the table
 unfoldable pub segment_refusal : List Source → Ends → Segment → Result (Unit {0}) Reason
 segment_refusal sources previous segment =
     if nat_le (length sources) segment.words.source then Err reason.NoSuchSource
@@ -148,14 +148,15 @@ ends_of words times = record {
 unfoldable pub ends : Segment → Ends
 ends segment = ends_of segment.words (stamp_times segment.stamps)
 
--- 9 to 17, segment by segment from number i on, after one that ends at `previous`
+-- what refuses the segments, 9 to 17, one after another from number i on, after one that ends at `previous`
 unfoldable pub segments_from : List Source → ℕ → Ends → List Segment → Result (Unit {0}) Refusal
 segments_from sources i previous [] = Ok tt
 segments_from sources i previous (segment ∷ rest) =
     result_and (indexed i (segment_refusal sources previous segment))
     (segments_from sources (suc i) (ends segment) rest)
 
--- 1 to 8, where `bad` says whether 1 holds and n segments are lent; 3: no sources; 8: no segments
+-- what comes before the segments, 1 to 8, where `bad` says whether the table is malformed and n segments are lent;
+-- NoSources (3): no sources; NoSegments (8): no segments
 unfoldable pub front_refusal : Bool → List ℕ → List Source → Bool → ℕ → Result (Unit {0}) Refusal
 front_refusal log text sources bad n =
     if bad then refused reason.Malformed 0
@@ -165,7 +166,7 @@ front_refusal log text sources bad n =
     (if n == 0 then refused reason.NoSegments 0
     else Ok tt)
 
--- 1 to 17
+-- what refuses a table, 1 to 17
 unfoldable pub refusal : Table → Result (Unit {0}) Refusal
 refusal table =
     result_and (front_refusal table.log table.text table.sources (malformed table) (length table.segments))

@@ -14,15 +14,15 @@ use Rattle.rules.specs.declared.Segment.{Segment}
 use Rattle.rules.specs.Records.{nth, frame_total}
 use Rattle.rules.specs.Rules.{bad_source, bad_segment, source_refusal, negative, stamp_times, too_late, apart, bad_shift, judged, ends_of, segment_refusal, ends, segments_from, start}
 
--- 10 to 17 of a segment, and where it ends
+-- what refuses a segment of this source, 10 to 17, or where it ends
 unfoldable pub turned : Source → Ends → Words → SixTimes → Result Ends Reason
 turned source previous words times = result_and (judged source previous words times) (Ok (ends_of words times))
 
--- 9 to 17 of a segment, and where it ends
+-- what refuses a segment, 9 to 17, or where it ends
 unfoldable pub turn_of : List Source → Ends → Segment → Result Ends Reason
 turn_of sources previous segment = result_and (segment_refusal sources previous segment) (Ok (ends segment))
 
--- 9 to 17 of all segments, then the frame total
+-- what refuses the first of the segments that is refused, 9 to 17, or the frame total
 unfoldable pub walked : List Source → List Segment → Result ℕ Refusal
 walked sources segments = result_and (segments_from sources 0 start segments) (Ok (frame_total segments))
 
@@ -35,7 +35,7 @@ pub record FineFrames (frames source_first count out_first before : ℕ) : Type 
   pub inside : past source_first count frames ≡ false
   pub next : not (out_first == before) ≡ false
 
--- 14 or 16 holds of times after a segment that ends at `previous`
+-- too late (14) or apart (16): times after a segment that ends at `previous`
 abbrev pub out_of_time : Ends → ℕ → ℕ → ℕ → ℕ → ℕ → ℕ → Bool
 out_of_time previous source_start out_start duration source_capture_start out_capture_start capture_duration =
     apart previous.some previous.time previous.capture out_start out_capture_start
@@ -53,7 +53,7 @@ pub record Passes (source : Source) (previous : Ends) (words : Words) (stamps : 
   pub none : judged source previous words (stamp_times stamps) ≡ Ok tt
   pub end : to ≡ ends_of words (stamp_times stamps)
 
--- 1 or one of 10 to 17 holds of it, and it has no end
+-- a flag outside its set (1) or one of 10 to 17 refuses it, and it has no end
 pub record Stops (source : Source) (previous : Ends) (words : Words) (stamps : Stamps) (to : Ends) : Type 0 where
   pub refused : nat_lt 1 words.flag ≡ false → judged source previous words (stamp_times stamps) ≡ Ok tt → ⊥
   pub end : to ≡ start

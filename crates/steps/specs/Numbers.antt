@@ -5,14 +5,10 @@ use Rattle.std.specs.List.{list_all}
 use Rattle.std.specs.Option.{ok_or}
 use Rattle.std.specs.Str.Parse.{digits_value}
 use Rattle.conditions.specs.Conditions.{max_u64}
+use Rattle.conditions.specs.Results.{◌>>=◌}
 use Rattle.signed.specs.Signed.{as_i64, with_sign}
 use Rattle.steps.specs.declared.Fault.{Fault}
 use Rattle.steps.specs.declared.Fault.TheVariants.{Unknown, Large}
-
--- what goes on from a value
-abbrev pub with : {A B : Type 0} → Result A Fault → (A → Result B Fault) → Result B Fault
-with (Ok value) next = next value
-with (Err fault) next = Err fault
 
 -- a word as a number
 abbrev pub number_in : List ℕ → Result ℕ Fault
@@ -22,7 +18,7 @@ number_in word =
 
 -- a number with a sign, true for below 0
 abbrev pub signed_as : Bool → Result ℕ Fault → Result ℤ Fault
-signed_as negative number = with number (λ size. ok_or (as_i64 (with_sign negative size)) Large)
+signed_as negative number = number >>= (λ size. ok_or (as_i64 (with_sign negative size)) Large)
 
 -- a word as a signed number
 abbrev pub integer_in : List ℕ → Result ℤ Fault

@@ -53,7 +53,7 @@ pub enum Step {
 }
 
 /// The words of a line that aren't read yet. Spaces, tabs and carriage returns stand between words.
-#[derive(Clone, Copy, Debug)]
+#[derive(Clone, Copy, Debug, PartialEq)]
 pub struct Words<'a> {
     /// What is left of the line.
     pub rest: &'a [u8],

@@ -11,6 +11,7 @@ use lib.ListN.{length, take, drop}
 use lib.Seq.{take-take, take-length, drop-drop}
 use lib.Dec.{ltb, eqb}
 use Rattle.std.specs.Prelude.{Result, Ok, Err}
+use Rattle.conditions.specs.Results.{◌>>=◌}
 use Rattle.refusal.specs.declared.Reason.TheVariants as reason
 use Rattle.refusal.specs.declared.Refusal.{Refusal}
 use Rattle.boxes.specs.Bytes.{mdia}
@@ -23,7 +24,7 @@ use Rattle.boxes.specs.declared.Walk.TheVariants.{Found, End, Bad as BadAt}
 use Rattle.boxes.proofs.Parts.{length_part}
 use Rattle.boxes.proofs.Within.{walk-stays}
 use Rattle.tracks.specs.Tables.{timescale}
-use Rattle.frame_times.specs.Times.{Outcome, Part, whole_part, inner_part, mvhd, mdhd, minf, stbl, stts, ◌>>=◌, found, Track, track_by, times_in, outcome_of, times_of_moov}
+use Rattle.frame_times.specs.Times.{Outcome, Part, whole_part, inner_part, mvhd, mdhd, minf, stbl, stts, found, Track, track_by, times_in, outcome_of, times_of_moov}
 use Rattle.frame_times.proofs.Steps.{by-needed, by-test}
 use Rattle.stops.specs.Stops.{StopsAt, Search, search_for, search_for_video, and_in, in_tables, in_info, in_media, in_track, searches, StopsIn, OfOne}
 use Rattle.stops.proofs.Ends.{stopped-at-bad}

@@ -12,11 +12,12 @@ use Rattle.boxes.specs.Tracks.{video_track}
 use Rattle.boxes.specs.declared.Walk.{Walk}
 use Rattle.boxes.specs.declared.Walk.TheVariants.{Found, End, Bad as BadAt}
 use Rattle.tracks.specs.Tables.{timescale}
+use Rattle.conditions.specs.Results.{◌>>=◌, ◌>>◌}
 use Rattle.refusal.specs.declared.Reason.{Reason}
 use Rattle.refusal.specs.declared.Reason.TheVariants as reason
 use Rattle.refusal.specs.declared.Refusal.{Refusal}
 use Rattle.refusal.specs.Refusals.{refusal_at}
-use Rattle.frame_times.specs.Times.{Outcome, mvhd, mdhd, minf, stbl, stts, ◌>>=◌, ◌>>◌, refuse_if, needed, Part, whole_part, inner_part, found, Track, track_by, times_in, outcome_of, times_of_moov}
+use Rattle.frame_times.specs.Times.{Outcome, mvhd, mdhd, minf, stbl, stts, refuse_if, needed, Part, whole_part, inner_part, found, Track, track_by, times_in, outcome_of, times_of_moov}
 use Rattle.stops.specs.Undivided.{undivided, taken_back, found_undivided, times_undivided}
 use Rattle.stops.proofs.Answers.{Told}
 use Rattle.stops.proofs.Plain.{Plain, plain-times}

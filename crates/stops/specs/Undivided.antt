@@ -2,6 +2,7 @@
 -- to be there. And 36 taken back to 31. Frame times have `standard` as in frame_times/specs/Times.antt.
 use Rattle.std.specs.Prelude.{ℕ, ◌-◌, Bool, List, length, if◌then◌else◌, Result, Ok, Err, nat_lt}
 use Rattle.std.specs.Option.{ok_or}
+use Rattle.conditions.specs.Results.{◌>>=◌}
 use Rattle.refusal.specs.declared.Reason.{Reason}
 use Rattle.refusal.specs.declared.Reason.TheVariants as reason
 use Rattle.refusal.specs.declared.Refusal.{Refusal}
@@ -14,7 +15,7 @@ use Rattle.boxes.specs.declared.Place.{Place}
 use Rattle.boxes.specs.declared.BoxAt.{BoxAt}
 use Rattle.boxes.specs.declared.Walk.{Walk}
 use Rattle.boxes.specs.declared.Walk.TheVariants.{Found, End, Bad as BadAt}
-use Rattle.frame_times.specs.Times.{Outcome, ◌>>=◌, Part, inner_part, track_by, times_in, outcome_of}
+use Rattle.frame_times.specs.Times.{Outcome, Part, inner_part, track_by, times_in, outcome_of}
 
 -- a refusal with 36 taken back to 31, whose index is 0
 abbrev pub undivided : Reason → ℕ → Refusal

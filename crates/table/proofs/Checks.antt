@@ -61,7 +61,7 @@ pub fine-more : (sources : List Source) (l : List Segment) (k : ℕ) → ((j : �
     → FineAt sources l k → (j : ℕ) → j < k + 1 → FineAt sources l j
 fine-more sources l k h f j b = decide (eqb j k) (λ e. rw (eqb-true j k e) f) (λ e. h j (let n = eqb-false j k e in omega arith))
 
--- 1 holds of none
+-- Malformed holds of none
 pub flags-fine : (l : List Segment) → ((k : ℕ) → k < length l → bad_segment (nth l k) ≡ false)
     → list_any bad_segment l ≡ false
 flags-fine [] h = refl
@@ -86,14 +86,14 @@ pub before-more : (l : List Segment) (k : ℕ) → (k ≡ 0 → ⊥) → ends (n
 unfolding end_before
 before-more l k h = let e : suc (k - 1) ≡ k = omega arith in ap (end_before l) e
 
--- 1 to 8 refused nothing: 1 doesn't hold
+-- refusals 1 to 8 didn't come: the table isn't malformed
 front-free : (log : Bool) (text : List ℕ) (sources : List Source) (bad : Bool) (n : ℕ)
     → front_refusal log text sources bad n ≡ Ok tt → bad ≡ false
 unfolding front_refusal
 front-free log text sources bad n e = (if-ok bad _ _ tt e).0
 
 module _ (t : Table) where
-  -- 1 to 8 refuse nothing
+  -- none of 1 to 8 refuses
   pub fine-front : front_of t ≡ Ok tt → FineFront t
   unfolding malformed
   fine-front h =
@@ -104,12 +104,12 @@ module _ (t : Table) where
         none = sym (ap (λ (x : Bool). front_refusal t.log t.text t.sources x (length t.segments)) b) ∙ h;
       }
 
-  -- 1 refuses lengths
+  -- Malformed refuses lengths
   pub check-uneven : t.uneven ≡ true → refused reason.Malformed 0 ≡ check_of t
   unfolding malformed front_refusal
   check-uneven e = check-stops t (rw e)
 
-  -- 1 to 8 decide
+  -- refusals 1 to 8 decide
   pub check-refused : {r : Refusal} → front_of t ≡ Err r → Err r ≡ check_of t
   check-refused h = check-stops t h
 
@@ -122,7 +122,7 @@ module _ (t : Table) where
     pub check-accepted : {n : ℕ} → FineSegments t.sources t.segments n → Ok n ≡ check_of t
     check-accepted g = g.frames ∙ check-goes t (fine ∙ rw g.flags f.none)
 
-    -- 1 refuses a flag
+    -- Malformed refuses a flag
     pub check-flagged : list_any bad_segment t.segments ≡ true → refused reason.Malformed 0 ≡ check_of t
     unfolding front_refusal
     check-flagged b = check-refused (fine ∙ rw b)

@@ -36,19 +36,19 @@ stamps out_start duration source_start = source_start ∷ out_start ∷ duration
 abbrev pub first : List ℤ
 first = stamps (pos 0) (pos 1200000) (pos 0)
 
-abbrev pub times : List ℤ
-times = first ++ stamps (pos 1200000) (pos 800000) (pos 0)
+abbrev pub all_stamps : List ℤ
+all_stamps = first ++ stamps (pos 1200000) (pos 800000) (pos 0)
 
 abbrev pub T : Table
-T = table_of sources segments times false []
+T = table_of sources segments all_stamps false []
 
 -- a check of a changed T
 abbrev pub of : List ℕ → List ℕ → List ℤ → Result ℕ Refusal
-of sources segments times = check_of (table_of sources segments times false [])
+of sources segments stamps = check_of (table_of sources segments stamps false [])
 
 -- its first source another
 abbrev pub from : List ℕ → Result ℕ Refusal
-from changed = of (changed ++ plain 50) segments times
+from changed = of (changed ++ plain 50) segments all_stamps
 
 -- its second segment another
 abbrev pub with : List ℕ → List ℤ → Result ℕ Refusal
@@ -62,7 +62,7 @@ text =
 
 -- its first source made at the creation time that starts at a byte
 abbrev pub made : ℕ → Result ℕ Refusal
-made at = check_of (table_of (source 100 1 at 0 0 0 ++ plain 50) segments times false text)
+made at = check_of (table_of (source 100 1 at 0 0 0 ++ plain 50) segments all_stamps false text)
 
 -- a table of n sources, as the records that it holds, without segments
 abbrev pub many : ℕ → Result ℕ Refusal
@@ -92,8 +92,8 @@ abbrev pub checks : List (Worked (Result ℕ Refusal))
 checks =
     is (check_of T) (Ok 50)
     ∷ is (made 0) (Ok 50)
-    ∷ is (of (0 ∷ sources) segments times) (refused reason.Malformed 0)
-    ∷ is (of sources (segments ++ segments) times) (refused reason.Malformed 0)
+    ∷ is (of (0 ∷ sources) segments all_stamps) (refused reason.Malformed 0)
+    ∷ is (of sources (segments ++ segments) all_stamps) (refused reason.Malformed 0)
     ∷ is (from (source 100 2 0 0 0 0)) (refused reason.Malformed 0)
     ∷ is (from (source 100 0 0 3 0 0)) (refused reason.Malformed 0)
     ∷ is (made 21) (refused reason.Malformed 0)
@@ -101,17 +101,17 @@ checks =
     ∷ is (from (placed 0xffff_ffff_ffff_ffff 1 0xffff_ffff_ffff_ffff)) (Ok 50)
     ∷ is (from (placed 7 0 5)) (Ok 50)
     ∷ is (from (placed 7 2 5)) (refused reason.Malformed 0)
-    ∷ is (of (take 20 sources) segments times) (refused reason.Malformed 0)
+    ∷ is (of (take 20 sources) segments all_stamps) (refused reason.Malformed 0)
     ∷ is (with (words 1 5 20 30 2) late) (refused reason.Malformed 0)
     ∷ is (many 257) (refused reason.OverLimit 0)
     ∷ is (many 256) (refused reason.NoSegments 0)
     ∷ is (of sources [] []) (refused reason.NoSegments 0)
-    ∷ is (of [] segments times) (refused reason.NoSources 0)
-    ∷ is (of (plain 100 ++ plain 0) segments times) (refused reason.ZeroInSource 1)
+    ∷ is (of [] segments all_stamps) (refused reason.NoSources 0)
+    ∷ is (of (plain 100 ++ plain 0) segments all_stamps) (refused reason.ZeroInSource 1)
     ∷ is (made 20) (refused reason.BadDate 0)
     ∷ is (from (source 100 0 0 1 0 7)) (refused reason.BadClock 0)
     ∷ is (from (source 100 0 0 2 1 0)) (refused reason.BadClock 0)
-    ∷ is (check_of (table_of sources segments times true [])) (refused reason.NoClock 0)
+    ∷ is (check_of (table_of sources segments all_stamps true [])) (refused reason.NoClock 0)
     ∷ is (many 257) (refused reason.OverLimit 0)
     ∷ is (many 256) (refused reason.NoSegments 0)
     ∷ is (of sources [] []) (refused reason.NoSegments 0)

@@ -21,7 +21,7 @@ pub record FineFront (table : Table) : Type 0 where
   pub words : list_any (bad_source (length table.text)) table.sources ≡ false
   pub none : front_refusal table.log table.text table.sources false (length table.segments) ≡ Ok tt
 
--- 1 to 8
+-- what comes before the segments: 1 to 8
 abbrev pub front_of : Table → Result (Unit {0}) Refusal
 front_of table = front_refusal table.log table.text table.sources (malformed table) (length table.segments)
 

@@ -38,7 +38,7 @@ pub trait Segments: Copy {
 }
 
 /// Words: five unsigned words a segment in one slice, seven signed ones in the other.
-#[derive(Clone, Copy)]
+#[derive(Clone, Copy, Debug, PartialEq)]
 pub struct SegmentWords<'a> {
     /// Source, source first, frame count, out first, whether there is a shift: of each segment.
     pub words: &'a [u64],

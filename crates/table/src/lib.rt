@@ -22,7 +22,7 @@ use walk::Walked;
 
 /// A table as it is lent (RULES 1.4). In a contract it is the records that it holds, whatever the
 /// layout of its segments.
-#[derive(Drop)]
+#[derive(Debug, Drop)]
 pub struct SegmentTable<'a, S: Segments> {
     /// Its sources, thirteen words each.
     pub sources: Sources<'a>,
@@ -42,7 +42,7 @@ impl<'a, S: Segments> Model for SegmentTable<'a, S> {
 }
 
 /// A table that its check accepts: what is asked of it checks nothing again.
-#[derive(Drop)]
+#[derive(Debug, Drop)]
 pub struct Accepted<'t, 'a, S: Segments> {
     /// The table.
     pub table: &'t SegmentTable<'a, S>,

@@ -10,7 +10,7 @@ use rules::Source;
 const SOURCE_WORDS: usize = 13;
 
 /// Sources as words, thirteen each (RULES 1.2).
-#[derive(Clone, Copy)]
+#[derive(Clone, Copy, Debug, PartialEq)]
 pub struct Sources<'a> {
     /// The words of all.
     pub words: &'a [u64],

@@ -11,7 +11,7 @@ use std::fmt::{self, Display, Formatter};
 use std::io::{self, Write};
 
 /// Where frames start, in ticks, one a line.
-#[derive(Clone, Copy, Debug)]
+#[derive(Clone, Copy, Debug, PartialEq)]
 pub struct Starts<'a> {
     /// One a frame.
     pub starts: &'a [i64],

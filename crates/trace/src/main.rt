@@ -8,7 +8,8 @@
 //!     origin FRAME                           where a frame comes from
 //!
 //! Every map goes through the proved calls, and every refusal is theirs, that of a 1,025th row too;
-//! this program only holds the rows and prints.
+//! this program only holds the rows and prints. A refusal is printed by its number, and said in
+//! words on standard error.
 #![tactic(auto)]
 
 ghost use Rattle.std.specs.Prelude.{ℕ, ◌≤◌, Ok};
@@ -132,18 +133,27 @@ impl Map {
     }
 
     // A call's answer: its map takes this one's place and is written, or its refusal is written.
-    fn keep<W: Write>(&mut self, out: &mut W, answer: Result<Map, Refusal>) -> io::Result<()> {
+    fn keep<W: Write, E: Write>(
+        &mut self,
+        out: &mut W,
+        errors: &mut E,
+        answer: Result<Map, Refusal>,
+    ) -> io::Result<()> {
         match answer {
             Ok(map) => {
                 *self = map;
                 maptext::write_map(out, self.words(), self.shifts())
             }
-            Err(refusal) => maptext::write_refusal(out, refusal),
+            Err(refusal) => {
+                maptext::write_refusal(out, refusal)?;
+                reading::say_refused(out, errors, refusal)
+            }
         }
     }
 }
 
-// The map, and the second map of a join that waits for its rows.
+// The map, and the second map of a join that waits for its rows. What is written goes to `out`, and
+// a refusal's words to `errors`.
 #[derive(Drop)]
 struct Lesson {
     map: Map,
@@ -160,57 +170,79 @@ impl Lesson {
     }
 
     // A row goes to the second map of a join that waits for its rows, else to the map.
-    fn add<W: Write>(&mut self, out: &mut W, row: Row) -> io::Result<()> {
+    fn add<W: Write, E: Write>(&mut self, out: &mut W, errors: &mut E, row: Row) -> io::Result<()> {
         write_row_step(out, row)?;
         let map = match &mut self.second {
             Some(second) => second,
             None => &mut self.map,
         };
         let answer = map.with_row(row);
-        map.keep(out, answer)
+        map.keep(out, errors, answer)
     }
 
     // The map is cut.
-    fn cut<W: Write>(&mut self, out: &mut W, start: u64, end: u64) -> io::Result<()> {
-        self.finish_join(out)?;
+    fn cut<W: Write, E: Write>(
+        &mut self,
+        out: &mut W,
+        errors: &mut E,
+        start: u64,
+        end: u64,
+    ) -> io::Result<()> {
+        self.finish_join(out, errors)?;
         writeln!(out, "cut {start} {end}:")?;
-        self.map.keep(out, self.map.cut(start, end))
+        self.map.keep(out, errors, self.map.cut(start, end))
     }
 
     // The map is merged.
-    fn merge<W: Write>(&mut self, out: &mut W) -> io::Result<()> {
-        self.finish_join(out)?;
+    fn merge<W: Write, E: Write>(&mut self, out: &mut W, errors: &mut E) -> io::Result<()> {
+        self.finish_join(out, errors)?;
         writeln!(out, "merge:")?;
-        self.map.keep(out, self.map.merge())
+        self.map.keep(out, errors, self.map.merge())
     }
 
     // A frame's origin in the map is said.
-    fn origin<W: Write>(&mut self, out: &mut W, frame: u64) -> io::Result<()> {
-        self.finish_join(out)?;
-        maptext::write_origin(out, frame, self.map.origin(frame))
+    fn origin<W: Write, E: Write>(
+        &mut self,
+        out: &mut W,
+        errors: &mut E,
+        frame: u64,
+    ) -> io::Result<()> {
+        self.finish_join(out, errors)?;
+        let answer = self.map.origin(frame);
+        maptext::write_origin(out, frame, answer)?;
+        match answer {
+            Ok(_) => Ok(()),
+            Err(refusal) => reading::say_refused(out, errors, refusal),
+        }
     }
 
     // A join begins, and waits for its rows.
-    fn begin_join<W: Write>(&mut self, out: &mut W) -> io::Result<()> {
-        self.finish_join(out)?;
+    fn begin_join<W: Write, E: Write>(&mut self, out: &mut W, errors: &mut E) -> io::Result<()> {
+        self.finish_join(out, errors)?;
         writeln!(out, "join:")?;
         self.second = Some(Map::empty());
         Ok(())
     }
 
     // A join that waits for its rows is made.
-    fn finish_join<W: Write>(&mut self, out: &mut W) -> io::Result<()> {
+    fn finish_join<W: Write, E: Write>(&mut self, out: &mut W, errors: &mut E) -> io::Result<()> {
         if let Some(second) = self.second.take() {
             writeln!(out, "joined:")?;
-            self.map.keep(out, self.map.join(&second))?;
+            self.map.keep(out, errors, self.map.join(&second))?;
         }
         Ok(())
     }
 
     // One line, by its number.
-    fn line<W: Write>(&mut self, out: &mut W, number: usize, text: &[u8]) -> io::Result<()> {
+    fn line<W: Write, E: Write>(
+        &mut self,
+        out: &mut W,
+        errors: &mut E,
+        number: usize,
+        text: &[u8],
+    ) -> io::Result<()> {
         match steps::parse(text) {
-            Ok(Some(step)) => self.step(out, step),
+            Ok(Some(step)) => self.step(out, errors, step),
             Ok(None) => Ok(()),
             Err(Fault::Unknown) => maptext::write_fault(out, number, "not a step"),
             Err(Fault::Large) => maptext::write_fault(out, number, "a number over 64 bits"),
@@ -218,7 +250,12 @@ impl Lesson {
     }
 
     // One step.
-    fn step<W: Write>(&mut self, out: &mut W, step: Step) -> io::Result<()> {
+    fn step<W: Write, E: Write>(
+        &mut self,
+        out: &mut W,
+        errors: &mut E,
+        step: Step,
+    ) -> io::Result<()> {
         match step {
             Step::Row {
                 source,
@@ -234,21 +271,31 @@ impl Lesson {
                     flag: shift.is_some() as u64,
                     shift: shift.unwrap_or(0),
                 };
-                self.add(out, row)
+                self.add(out, errors, row)
             }
-            Step::Cut { start, end } => self.cut(out, start, end),
-            Step::Origin(frame) => self.origin(out, frame),
-            Step::Join => self.begin_join(out),
-            Step::Merge => self.merge(out),
+            Step::Cut { start, end } => self.cut(out, errors, start, end),
+            Step::Origin(frame) => self.origin(out, errors, frame),
+            Step::Join => self.begin_join(out, errors),
+            Step::Merge => self.merge(out, errors),
         }
     }
 
     // Every line of a text. A join may still wait for its rows at the end.
-    fn run<W: Write>(mut self, out: &mut W, text: &[u8]) -> io::Result<()> {
+    fn run<W: Write, E: Write>(
+        mut self,
+        out: &mut W,
+        errors: &mut E,
+        text: &[u8],
+    ) -> io::Result<()> {
         for (index, line) in text.split_inclusive(is_line_feed).enumerate() {
-            self.line(out, index + 1, line.strip_suffix(b"\n").unwrap_or(line))?;
+            self.line(
+                out,
+                errors,
+                index + 1,
+                line.strip_suffix(b"\n").unwrap_or(line),
+            )?;
         }
-        self.finish_join(out)
+        self.finish_join(out, errors)
     }
 }
 
@@ -276,25 +323,29 @@ fn write_row_step<W: Write>(out: &mut W, row: Row) -> io::Result<()> {
 
 // The whole lines of an input that is too long, and that it is. What comes after them is left
 // unread: an input may never end.
-fn too_long<W: Write>(out: &mut W, text: &[u8]) -> io::Result<()> {
+fn too_long<W: Write, E: Write>(out: &mut W, errors: &mut E, text: &[u8]) -> io::Result<()> {
     let end = text
         .iter()
         .rposition(is_line_feed)
         .map_or(0, |last| last + 1);
     let whole = &text[..end];
-    Lesson::new().run(out, whole)?;
+    Lesson::new().run(out, errors, whole)?;
     let lines = whole.split_inclusive(is_line_feed).count();
     maptext::write_fault(out, lines + 1, "the input is too long")
 }
 
 // The lines of an input; of one that can't be read to its end, none.
-fn answer<R: Read, W: Write>(input: &mut R, out: &mut W) -> io::Result<()> {
+fn answer<R: Read, W: Write, E: Write>(
+    input: &mut R,
+    out: &mut W,
+    errors: &mut E,
+) -> io::Result<()> {
     let mut file = [0u8; FILE_BYTES];
     let HeldInput { held, end } = reading::read_input(input, &mut file);
     let text = &file[..held];
     match end {
-        Ending::Within => Lesson::new().run(out, text)?,
-        Ending::Past => too_long(out, text)?,
+        Ending::Within => Lesson::new().run(out, errors, text)?,
+        Ending::Past => too_long(out, errors, text)?,
         Ending::Failed(_) => reading::write_unread(out)?,
     }
     out.flush()
@@ -303,7 +354,7 @@ fn answer<R: Read, W: Write>(input: &mut R, out: &mut W) -> io::Result<()> {
 // The lines of standard input.
 fn main(rt: HostRuntime) -> ExitCode {
     let mut out = Buffered::new(io::writer(&rt));
-    match answer(&mut rt.reader(), &mut out) {
+    match answer(&mut rt.reader(), &mut out, &mut rt.stderr()) {
         Ok(()) => ExitCode::SUCCESS,
         Err(_) => reading::say_unwritten(&rt),
     }
@@ -323,12 +374,12 @@ mod tests {
     #[test]
     fn a_failed_write_is_told(rt: HostRuntime) -> Result<(), Fail> {
         let mut room = Cursor::new([0; 1024]);
-        Lesson::new().run(&mut room, STEPS)?;
+        Lesson::new().run(&mut room, &mut io::sink(), STEPS)?;
         let whole = room.position();
         assert!(rt; whole < 1024);
         for length in 0..1024 {
             let mut bytes = [0; 1024];
-            let answer = Lesson::new().run(&mut &mut bytes[..length], STEPS);
+            let answer = Lesson::new().run(&mut &mut bytes[..length], &mut io::sink(), STEPS);
             assert_eq!(rt; answer.is_ok(), whole <= length as u64);
         }
         Ok(())
@@ -343,13 +394,13 @@ mod tests {
     #[test]
     fn a_failed_write_of_what_waits_is_told(rt: HostRuntime) -> Result<(), Fail> {
         let mut room = Cursor::new([0; 8192]);
-        answer(&mut &ROWS[..], &mut room)?;
+        answer(&mut &ROWS[..], &mut room, &mut io::sink())?;
         let whole = room.position();
         assert!(rt; 4096 < whole && whole < 8192);
         for length in 0..8192 {
             let mut bytes = [0; 8192];
             let mut out = Buffered::new(&mut bytes[..length]);
-            let answer = answer(&mut &ROWS[..], &mut out);
+            let answer = answer(&mut &ROWS[..], &mut out, &mut io::sink());
             assert_eq!(rt; answer.is_ok(), whole <= length as u64);
         }
         Ok(())

@@ -14,7 +14,7 @@ pub struct Run {
 
 /// The payload of a stts or ctts, and how many entries it has, all of which are there: 8 bytes
 /// each, from offset 8 on.
-#[derive(Clone, Copy)]
+#[derive(Clone, Copy, Debug, PartialEq)]
 pub struct EntryTable<'a> {
     pub payload: &'a [u8],
     pub entries: usize,
@@ -22,7 +22,7 @@ pub struct EntryTable<'a> {
 }
 
 /// The entries that a walk hasn't passed: those from the offset `at` to `end`.
-#[derive(Clone, Copy)]
+#[derive(Clone, Copy, Debug, PartialEq)]
 pub struct Runs<'a> {
     /// The table's payload.
     pub payload: &'a [u8],
@@ -36,7 +36,7 @@ pub struct Runs<'a> {
 }
 
 /// The frames that a walk hasn't passed: what is left of an entry, and the entries after it.
-#[derive(Clone, Copy)]
+#[derive(Clone, Copy, Debug, PartialEq)]
 pub struct Frames<'a> {
     /// What is left of an entry.
     pub run: Run,

@@ -21,10 +21,12 @@
  * its timestamps as the starts st_mcraw_times answers wrong starts.
  *
  * Stack, as bindings/c/stack measures it on x86-64, and on Arm in an emulator: each call takes less
- * than 4 KiB. Copies and cleared slices are made by the C library's memmove and memset. A program
- * whose loader binds such a name at its first call, which is what many linkers make, takes some
- * 3 KiB more for that, at its first st_join, say; how much, the loader and the processor decide.
- * Where a task has less, link with `-z now`, which binds names at the start, or statically.
+ * than 4 KiB, but st_read_table and st_source_names, whose lists and objects lie one in another and
+ * whose names are sorted, less than 20 KiB. Copies and cleared slices are made by the C library's
+ * memmove and memset. A program whose loader binds such a name at its first call, which is what
+ * many linkers make, takes some 3 KiB more for that, at its first st_join, say; how much, the loader
+ * and the processor decide. Where a task has less, link with `-z now`, which binds names at the
+ * start, or statically.
  *
  * A table: `sources`, thirteen words each: frames; fps numerator, denominator; creation time present
  * (0, 1), its offset and length in `text`; clock (0 none, 1 no modulus, 2 modulus), its rate's
@@ -38,6 +40,9 @@
  * Sources had ten words once. A table of such sources is refused with ST_MALFORMED, but where there
  * are 13, 26, 39 or 52 of them: then the number of words is a multiple of thirteen, and nothing
  * tells the 130 words of thirteen such sources from those of ten sources as they are now.
+ *
+ * A table's text: JSON in UTF-8, as a file has it. `dates` are the creation times that st_read_table
+ * finds in it, one after another: it is what other calls are lent as `text`.
  *
  * A list of records: the same of a segment as one struct, where its flag is a bool and its times
  * follow the words. Records are aligned as C aligns them; what lies between their fields is not
@@ -53,6 +58,7 @@
  *
  * Refusals. The index is the source in 4 to 7, the segment in 9 to 17, 23 and 24, the later
  * timestamp of the first falling pair in 34, the broken header's offset in the lent bytes in 36,
+ * 1 in 32 of st_read_table and st_source_names where it is their working slice that is too short,
  * the range in 50 of st_cuts (a last one without its end is tested first), the row in 51 (0 for
  * slice lengths or no rows, which are tested first), the frame's number in the list in 54 of
  * st_origins, else 0. Each call names its refusals in the order of its tests: 4 to 7 source by
@@ -161,7 +167,20 @@ enum st_reason {
     /* the frames of both maps together pass 2^64 - 1 */
     ST_JOIN_WRAPS = 53,
     /* a frame lies past the map */
-    ST_PAST_MAP = 54
+    ST_PAST_MAP = 54,
+    /* the table's text has over 1,048,576 bytes */
+    ST_TEXT_TOO_LONG = 60,
+    /* the table's text isn't JSON, or over 32 lists and objects stand one in another; it breaks RFC
+     * 8259's grammar, a string holds half a surrogate pair, or bytes are no UTF-8 */
+    ST_NOT_JSON = 61,
+    /* an object in the table's text has a name twice; at any depth, in members that are skipped
+     * too, escapes resolved */
+    ST_REPEATED_NAME = 62,
+    /* the table's version isn't 1; or the text's value is no object */
+    ST_OTHER_VERSION = 63,
+    /* a member of the table's text is missing or has another type; what follows the Rust's
+     * `SegmentTable::parse` */
+    ST_BAD_MEMBER = 64
 };
 
 /* ---- Times: the UTC rule, and ticks in microseconds. */
@@ -402,6 +421,60 @@ uint64_t st_rows_of_table(const uint64_t *sources, size_t sources_len, const uin
                           size_t segments_len, const int64_t *stamps, size_t stamps_len, bool log,
                           const uint8_t *text, size_t text_len, uint64_t *out_words, size_t out_words_len,
                           int64_t *out_shifts, size_t out_shifts_len, uint64_t *rows, uint64_t *index);
+
+/* ---- A table's text, JSON as RFC 8259 has it: the table that it holds, its sources' names, and any of its strings. */
+
+/* What was read of a table's text. */
+typedef struct st_table_read {
+    /* How many frames the table has. */
+    uint64_t frames;
+    /* How many sources it has; thirteen words each are written. */
+    uint64_t sources;
+    /* How many segments it has; five words and seven stamps each are written. */
+    uint64_t segments;
+    /* How many bytes its creation times have, which are all written. */
+    uint64_t dates;
+    /* 1 where it names a telemetry log, else 0. */
+    uint64_t log;
+} st_table_read;
+
+/* Reads a table's text: the words, stamps and creation times that all other calls are lent of a
+ * table, its frame total, and whether it names a telemetry log. All of the text is tested before
+ * anything is written: first that it is JSON, then that no object has a name twice, then its
+ * version, then each member by its type, and then the table as st_check does, with its indices. A
+ * member that no table needs may hold anything. Words of an absent thing are 0.
+ * Lent: the text (of a file, what st_table_text finds); room for the sources, the segments, their
+ * stamps and the creation times' bytes; a working slice of a quarter as many words as the text has
+ * bytes, rounded up, and at least 3,840. 3,328 words, 2,560 words, 3,584 stamps and as many bytes as
+ * the text has are enough for every table. To other calls lend what was written, not the room:
+ * thirteen words a source, five words and seven stamps a segment, and the creation times as their
+ * text. Writes sources, segments, stamps, dates, work (all 0), read, index. Refuses: 60,
+ * 32 (the working slice), 61 to 64, 2, 32, 3 to 17.
+ * A null pointer only with length 0; what is written overlaps nothing else, or memory may be corrupted. */
+uint64_t st_read_table(const uint8_t *text, size_t text_len, uint64_t *sources, size_t sources_len,
+                       uint64_t *segments, size_t segments_len, int64_t *stamps, size_t stamps_len,
+                       uint8_t *dates, size_t dates_len, uint64_t *work, size_t work_len, st_table_read *read,
+                       uint64_t *index);
+
+/* Where the names of a table's sources stand in its text: two words a source, where the name starts
+ * and how long it is, in bytes, without its quotation marks and with its escapes as they stand.
+ * st_json_string, lent the start less one, resolves them. The text is tested as st_read_table tests
+ * it, but not the table.
+ * Lent: the text; room for two words a source; a working slice as long as that of st_read_table.
+ * Writes names, work (all 0), count (how many sources), index. Refuses: 60, 32 (the working slice),
+ * 61 to 64, 2, 32.
+ * A null pointer only with length 0; what is written overlaps nothing else, or memory may be corrupted. */
+uint64_t st_source_names(const uint8_t *text, size_t text_len, uint64_t *names, size_t names_len,
+                         uint64_t *work, size_t work_len, uint64_t *count, uint64_t *index);
+
+/* The bytes of a string that stands in a text, in UTF-8, its escapes resolved: that whose opening
+ * quotation mark stands at offset `at`. Nothing before it, and nothing after its closing quotation
+ * mark, is looked at. It is 61 where no whole string stands there.
+ * Lent: the text; room for the bytes, which are no more than stand between the quotation marks.
+ * Writes out, length (how many bytes), index. Refuses: 60, 61, 32.
+ * A null pointer only with length 0; what is written overlaps nothing else, or memory may be corrupted. */
+uint64_t st_json_string(const uint8_t *text, size_t text_len, uint64_t at, uint8_t *out, size_t out_len,
+                        uint64_t *length, uint64_t *index);
 
 /* ---- Boxes: sizes, the walk, the child of a type, the search in a range, the table's text. */
 

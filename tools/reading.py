@@ -216,6 +216,9 @@ def language(files):
             if re.match(r"use |infix", line):
                 words.update({line.split()[0], *(word for word in (" as ", MIXFIX) if word in line)} - {" as "} | ({"as"} if " as " in line else set()))
                 continue
+            if '"' in line:
+                words.add('"')
+                line = re.sub(r'"(?:[^"\\]|\\.)*"', " ", line)  # what stands between quotation marks is no word of the language
             words.update(sign for sign in "(){};,'·" if sign in line)
             for word in re.split(r"[\s(){};,]+", line):
                 first, *rest = word.split(".") if not word.startswith(".") else ["", word]
@@ -231,7 +234,7 @@ def instance(sign, files):
     """A short line in which a declaration uses a sign, and the declaration, as a row of NOTATION.md ends."""
     parts = sign.replace("«»", "«").split(" .. ")
     lines = [(abs(len(line.strip()) - 40), line.strip(), path_of(*file), one.name) for file in files for one in declarations(*file).values()
-             for line in one.code.split("\n") if set(parts) <= set(re.split(r"[\s();,]+", line)) or sign in "(){};,'·." and sign in line]
+             for line in one.code.split("\n") if set(parts) <= set(re.split(r"[\s();,]+", line)) or sign in "(){};,'·.\"" and sign in line]
     _, line, path, name = min(lines, default=(0, "..", "crates/NAME/specs/FILE.antt", ".."))
     return f"| `{sign}` | MEANING | `{line}` | {path}:1 ({name}) |".replace("||", "\\|\\|")
 

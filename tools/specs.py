@@ -100,10 +100,15 @@ def declarations(crate, module):
     """{name: declaration} of a file, in order. Of a module of parameters what stands in it is declared like the rest."""
     path = path_of(crate, module)
     lines = text_of(path).split("\n")
-    depth, starts = "", []
+    depth, starts, mutual = "", [], False
     for k, line in enumerate(lines):
         if re.match(r"module _ .* where$", line):
             depth = "  "
+        elif re.match(r"(?:unfoldable )?mutual$", line):
+            depth, mutual = "  ", True
+            continue
+        elif mutual and line[:1] not in ("", " ", "-"):
+            depth, mutual = "", False
         form = DECLARATION.match(line.removeprefix(depth)) if line.startswith(depth) and not line.startswith(depth + " ") else None
         if form and form[1] != "mod":
             starts.append((k, form[1]))
@@ -112,7 +117,8 @@ def declarations(crate, module):
     found = {}
     for (k, name), after in zip(starts, [*(k for k, _ in starts[1:]), len(lines)]):
         first, last = commented(lines, k, after)
-        found[name] = Declaration(name, first + 1, last, lines[k:last])
+        inner = re.match(" *", lines[k])[0] if lines[k].lstrip().startswith("pub data") else ""
+        found[name] = Declaration(name, first + 1, last, [line.removeprefix(inner) for line in lines[k:last]])
     return found
 
 

@@ -1,5 +1,6 @@
 /* Lends what a careless caller may lend (wrong lengths, no bytes behind a null pointer, the largest numbers, file bytes at
  * any address) and looks at numbers, indices, words and slices. Prints ok, or the line that fails. */
+#include <inttypes.h>
 #include <stdio.h>
 #include <stdlib.h>
 #include <string.h>
@@ -840,6 +841,255 @@ static void judge_calls(void) {
     IS(zero(a, 50));
 }
 
+/* A table's text: two sources, the second with a creation time, a clock and an IMU's origin, and two segments. */
+#define FIRST_NAME "C0538.MP4"
+#define FIRST "{\"name\":\"" FIRST_NAME "\",\"size\":9,\"frames\":100,\"fps\":[25,1],\"creation_time\":null,\"clock\":null}"
+#define SECOND_NAME "\\u0043\\\"\\ud83d\\ude00\\n"
+#define SECOND                                                                                                          \
+    "{\"name\":\"" SECOND_NAME "\",\"size\":18446744073709551615,\"frames\":50,\"fps\":[25,1],"                             \
+    "\"creation_time\":\"2024-11-17T13:12:46\\u005a\",\"clock\":{\"name\":\"\",\"rate\":[1000,1],\"modulus\":8},\"zcam_imu_origin_us\":5}"
+#define SEGMENT(source, first, count, out, start, length, shift)                                                        \
+    "{\"source\":" #source ",\"src_first_frame\":" #first ",\"frame_count\":" #count ",\"out_first_frame\":" #out         \
+    ",\"src_start_us\":0,\"out_start_us\":" #start ",\"duration_us\":" #length ",\"src_capture_start_us\":0"             \
+    ",\"out_capture_start_us\":0,\"capture_duration_us\":0,\"requested\":null,\"start\":\"\",\"entry\":\"\""              \
+    ",\"end\":\"\",\"clock_shift\":" #shift "}"
+#define TABLE_OF(version, sources, segments) "{\"version\":" version ",\"sources\":[" sources "],\"segments\":[" segments "]}"
+#define BOTH SEGMENT(0, 10, 30, 0, 0, 1200000, null) "," SEGMENT(1, 5, 20, 30, 1200000, 800000, 7)
+static const char *const whole = TABLE_OF("1", FIRST "," SECOND, BOTH);
+
+/* What is lent for it, one element more of each than it needs. */
+#define WORK 3840
+static uint64_t text_sources[27], text_segments[11], text_work[WORK + 1], names[5];
+static int64_t text_stamps[15];
+static uint8_t dates[21], bytes[9];
+static st_table_read got;
+
+static void lend_text(void) {
+    for (size_t k = 0; k < COUNT(text_sources); k++) text_sources[k] = LENT;
+    for (size_t k = 0; k < COUNT(text_segments); k++) text_segments[k] = LENT;
+    for (size_t k = 0; k < COUNT(text_stamps); k++) text_stamps[k] = LENT;
+    for (size_t k = 0; k < COUNT(text_work); k++) text_work[k] = LENT;
+    for (size_t k = 0; k < COUNT(names); k++) names[k] = LENT;
+    memset(dates, LENT, sizeof dates), memset(bytes, LENT, sizeof bytes);
+    got = (st_table_read){LENT, LENT, LENT, LENT, LENT};
+}
+
+static bool bytes_as_lent(const uint8_t *a, size_t count) {
+    for (size_t k = 0; k < count; k++) if (a[k] != LENT) return false;
+    return true;
+}
+
+static bool stamps_as_lent(size_t from) {
+    for (size_t k = from; k < COUNT(text_stamps); k++) if (text_stamps[k] != LENT) return false;
+    return true;
+}
+
+/* The working slice is zero as far as it was lent. */
+static bool work_cleared(size_t lent) {
+    for (size_t k = 0; k < lent; k++) if (text_work[k]) return false;
+    return as_lent(text_work + lent, COUNT(text_work) - lent);
+}
+
+static bool nothing_read(void) {
+    const bool told = got.frames == LENT && got.sources == LENT && got.segments == LENT && got.dates == LENT && got.log == LENT;
+    return told && as_lent(text_sources, 27) && as_lent(text_segments, 11) && stamps_as_lent(0) && bytes_as_lent(dates, 21);
+}
+
+#define READ_WITHIN(text, length, sources, segments, stamps, bytes, work)                                               \
+    st_read_table((const uint8_t *)(text), length, text_sources, sources, text_segments, segments, text_stamps, stamps, \
+                  dates, bytes, text_work, work, &got, &at)
+#define READ(text, length) READ_WITHIN(text, length, 27, 11, 15, 21, WORK)
+#define NAMES(text, length, room, work) st_source_names((const uint8_t *)(text), length, names, room, text_work, work, &x, &at)
+
+/* A text that both calls refuse alike, and one that is refused as a table, but whose names can be had. */
+#define TEXT_REFUSED(number, text)                                              \
+    do {                                                                        \
+        const char *t = text;                                                   \
+        lend_text();                                                            \
+        REFUSED_AT(number, 0, READ(t, strlen(t)));                              \
+        IS(nothing_read() && work_cleared(WORK));                               \
+        lend_text();                                                            \
+        REFUSED_AT(number, 0, NAMES(t, strlen(t), 5, WORK));                    \
+        IS(as_lent(names, 5) && work_cleared(WORK));                            \
+    } while (0)
+
+#define TABLE_REFUSED(number, index, text, sources)                             \
+    do {                                                                        \
+        const char *t = text;                                                   \
+        lend_text();                                                            \
+        REFUSED_AT(number, index, READ(t, strlen(t)));                          \
+        IS(nothing_read() && work_cleared(WORK));                               \
+        lend_text();                                                            \
+        ACCEPTED(NAMES(t, strlen(t), 5, WORK));                                 \
+        IS(x == (sources) && as_lent(names + 2 * (sources), 5 - 2 * (sources)) && work_cleared(WORK)); \
+    } while (0)
+
+/* A text that is accepted, at any address. */
+static void read_calls(void) {
+    uint8_t room[2048];
+    const uint64_t first[13] = {100, 25, 1, 0, 0, 0, 0, 0, 0, 0, 9, 0, 0}, second[13] = {50, 25, 1, 1, 0, 20, 2, 1000, 1, 8, MOST, 1, 5};
+    const uint64_t rows[10] = {0, 10, 30, 0, 0, 1, 5, 20, 30, 1};
+    const int64_t stamps[14] = {0, 0, 1200000, 0, 0, 0, 0, 0, 1200000, 800000, 0, 0, 0, 7};
+    const size_t length = strlen(whole);
+    for (size_t shift = 0; shift < 8; shift++) {
+        memcpy(room + shift, whole, length);
+        lend_text();
+        ACCEPTED(READ(room + shift, length));
+        IS(got.frames == 50 && got.sources == 2 && got.segments == 2 && got.dates == 20 && got.log == 0 && work_cleared(WORK));
+        IS(memcmp(text_sources, first, sizeof first) == 0 && memcmp(text_sources + 13, second, sizeof second) == 0 && text_sources[26] == LENT);
+        IS(memcmp(text_segments, rows, sizeof rows) == 0 && text_segments[10] == LENT);
+        IS(memcmp(text_stamps, stamps, sizeof stamps) == 0 && stamps_as_lent(14));
+        IS(memcmp(dates, "2024-11-17T13:12:46Z", 20) == 0 && dates[20] == LENT);
+        /* what was read is what is lent */
+        ACCEPTED(st_check(text_sources, 13 * got.sources, text_segments, 5 * got.segments, text_stamps, 7 * got.segments, got.log, dates, got.dates, &x, &at));
+        IS(x == got.frames);
+        lend_text();
+        ACCEPTED(NAMES(room + shift, length, 4, WORK));
+        IS(x == 2 && names[1] == strlen(FIRST_NAME) && names[3] == strlen(SECOND_NAME) && names[4] == LENT && work_cleared(WORK));
+        IS(memcmp(room + shift + names[0], FIRST_NAME, names[1]) == 0 && memcmp(room + shift + names[2], SECOND_NAME, names[3]) == 0);
+        ACCEPTED(st_json_string(room + shift, length, names[2] - 1, bytes, 7, &x, &at));
+        IS(x == 7 && memcmp(bytes, "C\"\xf0\x9f\x98\x80\n", 7) == 0 && bytes_as_lent(bytes + 7, 2));
+    }
+}
+
+/* Too little room, by one element and for any at all. */
+static void text_room_calls(void) {
+    const size_t length = strlen(whole);
+    const size_t exact[5] = {26, 10, 14, 20, WORK};
+    for (size_t k = 0; k < 5; k++) {
+        for (int none = 0; none < 2; none++) {
+            size_t r[5];
+            memcpy(r, exact, sizeof r);
+            r[k] = none ? 0 : r[k] - 1;
+            lend_text();
+            REFUSED_AT(ST_NO_ROOM, k == 4, READ_WITHIN(whole, length, r[0], r[1], r[2], r[3], r[4]));
+            IS(nothing_read() && work_cleared(r[4]));
+        }
+    }
+    lend_text();
+    ACCEPTED(READ_WITHIN(whole, length, 26, 10, 14, 20, WORK));
+    lend_text();
+    REFUSED_AT(ST_NO_ROOM, 0, st_read_table((const uint8_t *)whole, length, NULL, 0, NULL, 0, NULL, 0, NULL, 0, text_work, WORK, &got, &at));
+    IS(nothing_read() && work_cleared(WORK));
+    lend_text();
+    REFUSED_AT(ST_NO_ROOM, 1, st_read_table((const uint8_t *)whole, length, NULL, 0, NULL, 0, NULL, 0, NULL, 0, NULL, 0, &got, &at));
+    REFUSED_AT(ST_NO_ROOM, 1, st_read_table(NULL, 0, NULL, 0, NULL, 0, NULL, 0, NULL, 0, NULL, 0, &got, &at));
+    REFUSED_AT(ST_NOT_JSON, 0, st_read_table(NULL, 0, NULL, 0, NULL, 0, NULL, 0, NULL, 0, text_work, WORK, &got, &at));
+    IS(nothing_read() && work_cleared(WORK));
+
+    lend_text();
+    REFUSED_AT(ST_NO_ROOM, 0, NAMES(whole, length, 3, WORK));
+    IS(as_lent(names, 5) && work_cleared(WORK));
+    lend_text();
+    REFUSED_AT(ST_NO_ROOM, 1, NAMES(whole, length, 4, WORK - 1));
+    IS(as_lent(names, 5) && work_cleared(WORK - 1));
+    REFUSED_AT(ST_NO_ROOM, 1, st_source_names(NULL, 0, NULL, 0, NULL, 0, &x, &at));
+    REFUSED_AT(ST_NOT_JSON, 0, st_source_names(NULL, 0, NULL, 0, text_work, WORK, &x, &at));
+    REFUSED_AT(ST_NO_ROOM, 0, st_source_names((const uint8_t *)whole, length, NULL, 0, text_work, WORK, &x, &at));
+}
+
+/* Every refusal of a text. */
+static void bad_text_calls(void) {
+    TEXT_REFUSED(ST_NOT_JSON, "");
+    TEXT_REFUSED(ST_NOT_JSON, "{");
+    TEXT_REFUSED(ST_NOT_JSON, "{\"a\":\"\\ud800\"}");
+    TEXT_REFUSED(ST_NOT_JSON, "[\"\xed\xa0\x80\"]");
+    TEXT_REFUSED(ST_NOT_JSON, "\xef\xbb\xbf[]");
+    TEXT_REFUSED(ST_NOT_JSON, TABLE_OF("1", FIRST, BOTH) "]");
+    TEXT_REFUSED(ST_NOT_JSON, "[[[[[[[[[[[[[[[[[[[[[[[[[[[[[[[[[]]]]]]]]]]]]]]]]]]]]]]]]]]]]]]]]]");
+    TEXT_REFUSED(ST_OTHER_VERSION, "[[[[[[[[[[[[[[[[[[[[[[[[[[[[[[[[1]]]]]]]]]]]]]]]]]]]]]]]]]]]]]]]]");
+    TEXT_REFUSED(ST_REPEATED_NAME, "{\"version\":1,\"\\u0076ersion\":1}");
+    TEXT_REFUSED(ST_REPEATED_NAME, "[{\"\":{\"a\":1,\"a\":1}}]");
+    TEXT_REFUSED(ST_OTHER_VERSION, TABLE_OF("1.0", FIRST, BOTH));
+    TEXT_REFUSED(ST_OTHER_VERSION, "{}");
+    TEXT_REFUSED(ST_BAD_MEMBER, "{\"version\":1}");
+    TEXT_REFUSED(ST_BAD_MEMBER, TABLE_OF("1", "{}", BOTH));
+    TEXT_REFUSED(ST_BAD_MEMBER, TABLE_OF("1", "", "{}"));
+    TEXT_REFUSED(ST_BAD_MEMBER, TABLE_OF("1", FIRST, SEGMENT(0, 1.0, 1, 0, 0, 0, null)));
+    TEXT_REFUSED(ST_BAD_MEMBER, TABLE_OF("1", FIRST, SEGMENT(0, 0, 18446744073709551616, 0, 0, 0, null)));
+
+    TABLE_REFUSED(ST_NO_SOURCES, 0, TABLE_OF("1", "", BOTH), 0);
+    TABLE_REFUSED(ST_NO_SEGMENTS, 0, TABLE_OF("1", FIRST, ""), 1);
+    TABLE_REFUSED(ST_NO_SUCH_SOURCE, 1, TABLE_OF("1", FIRST, BOTH), 1);
+    TABLE_REFUSED(ST_FRAME_GAP, 1, TABLE_OF("1", FIRST "," SECOND, SEGMENT(0, 0, 1, 0, 0, 0, null) "," SEGMENT(0, 0, 1, 0, 0, 0, null)), 2);
+    TABLE_REFUSED(ST_FRAMES_WRAP, 0, TABLE_OF("1", FIRST, SEGMENT(0, 1, 18446744073709551615, 0, 0, 0, null)), 1);
+    TABLE_REFUSED(ST_NEGATIVE_TIME, 0, TABLE_OF("1", FIRST, SEGMENT(0, 0, 1, 0, 0, -9223372036854775808, null)), 1);
+    TABLE_REFUSED(ST_BAD_SHIFT, 0, TABLE_OF("1", FIRST "," SECOND, SEGMENT(1, 0, 1, 0, 0, 0, 8)), 2);
+}
+
+/* The longest text, and one longer; and a text of as many names as that holds. */
+static void long_text_calls(void) {
+    const size_t most = 1048576, room = most / 4;
+    char *text = malloc(most + 1);
+    uint64_t *work = calloc(room, 8);
+    if (text && work) {
+        const size_t length = strlen(whole);
+        memset(text, ' ', most + 1);
+        memcpy(text + most - length, whole, length);
+#define LONG(length, words) \
+    st_read_table((const uint8_t *)text, length, text_sources, 27, text_segments, 11, text_stamps, 15, dates, 21, work, words, &got, &at)
+        lend_text();
+        REFUSED_AT(ST_TEXT_TOO_LONG, 0, LONG(most + 1, room));
+        REFUSED_AT(ST_TEXT_TOO_LONG, 0, st_read_table((const uint8_t *)text, most + 1, NULL, 0, NULL, 0, NULL, 0, NULL, 0, NULL, 0, &got, &at));
+        REFUSED_AT(ST_TEXT_TOO_LONG, 0, st_source_names((const uint8_t *)text, most + 1, NULL, 0, NULL, 0, &x, &at));
+        REFUSED_AT(ST_TEXT_TOO_LONG, 0, st_json_string((const uint8_t *)text, most + 1, 0, NULL, 0, &x, &at));
+        REFUSED_AT(ST_NO_ROOM, 1, LONG(most, room - 1));
+        REFUSED_AT(ST_NO_ROOM, 1, LONG(most, WORK));
+        REFUSED_AT(ST_NO_ROOM, 1, st_source_names((const uint8_t *)text, most, names, 5, work, room - 1, &x, &at));
+        IS(nothing_read() && as_lent(names, 5));
+        ACCEPTED(LONG(most, room));
+        IS(got.frames == 50 && got.sources == 2);
+        ACCEPTED(st_source_names((const uint8_t *)text, most, names, 5, work, room, &x, &at));
+        IS(x == 2 && names[0] > most - length);
+
+        /* names in order, and the last one twice; a string that fills the text */
+        size_t to = 0;
+        text[to++] = '{';
+        for (uint64_t k = 0; to + 32 < most; k++) to += (size_t)sprintf(text + to, "\"%" PRIu64 "\":%" PRIu64 ",", k, k);
+        memcpy(text + to, "\"0\":0}", 6);
+        REFUSED_AT(ST_REPEATED_NAME, 0, LONG(to + 6, room));
+        memcpy(text + to, "\"x\":0}", 6);
+        REFUSED_AT(ST_OTHER_VERSION, 0, LONG(to + 6, room));
+        memset(text, '"', most);
+        memset(text + 1, 'x', most - 2);
+        REFUSED_AT(ST_OTHER_VERSION, 0, LONG(most, room));
+        text[most - 1] = 'x';
+        REFUSED_AT(ST_NOT_JSON, 0, LONG(most, room));
+        REFUSED_AT(ST_NOT_JSON, 0, st_json_string((const uint8_t *)text, most, 0, NULL, 0, &x, &at));
+        for (size_t k = 0; k < room; k++) if (work[k]) IS(!"the working slice is zero");
+    }
+    free(text), free(work);
+}
+
+/* Strings of any bytes: at, before and past their quotation marks. */
+static void string_calls(void) {
+#define STRING(text, offset, room) st_json_string((const uint8_t *)(text), strlen(text), offset, bytes, room, &x, &at)
+    lend_text();
+    REFUSED_AT(ST_NOT_JSON, 0, STRING("\"a\"", 1, 9));
+    REFUSED_AT(ST_NOT_JSON, 0, STRING("\"a\"", 2, 9));
+    REFUSED_AT(ST_NOT_JSON, 0, STRING("\"a\"", 3, 9));
+    REFUSED_AT(ST_NOT_JSON, 0, STRING("\"a\"", MOST, 9));
+    REFUSED_AT(ST_NOT_JSON, 0, STRING("\"a", 0, 9));
+    REFUSED_AT(ST_NOT_JSON, 0, STRING("\"\\ud83d\"", 0, 9));
+    REFUSED_AT(ST_NOT_JSON, 0, STRING("\"\\ude00\\ud83d\"", 0, 9));
+    REFUSED_AT(ST_NOT_JSON, 0, STRING("\"\x80\"", 0, 9));
+    REFUSED_AT(ST_NOT_JSON, 0, STRING("\"\n\"", 0, 9));
+    REFUSED_AT(ST_NOT_JSON, 0, st_json_string(NULL, 0, 0, NULL, 0, &x, &at));
+    REFUSED_AT(ST_NOT_JSON, 0, st_json_string(NULL, 0, MOST, bytes, 9, &x, &at));
+    REFUSED_AT(ST_NO_ROOM, 0, STRING("\"a\"", 0, 0));
+    REFUSED_AT(ST_NO_ROOM, 0, STRING("\"\\ud83d\\ude00\"", 0, 3));
+    REFUSED_AT(ST_NO_ROOM, 0, st_json_string((const uint8_t *)"\"a\"", 3, 0, NULL, 0, &x, &at));
+    IS(bytes_as_lent(bytes, 9));
+    ACCEPTED(STRING("\"\"", 0, 9));
+    IS(x == 0);
+    ACCEPTED(st_json_string((const uint8_t *)"\"\"", 2, 0, NULL, 0, &x, &at));
+    IS(x == 0 && bytes_as_lent(bytes, 9));
+    ACCEPTED(STRING("}] \"\\ud83d\\ude00\" and no JSON", 3, 4));
+    IS(x == 4 && memcmp(bytes, "\xf0\x9f\x98\x80", 4) == 0 && bytes_as_lent(bytes + 4, 5));
+    ACCEPTED(STRING("\"\\\"\\\\\\/\\b\\f\\n\\r\\t\"", 0, 8));
+    IS(x == 8 && memcmp(bytes, "\"\\/\b\f\n\r\t", 8) == 0 && bytes[8] == LENT);
+}
+
 int main(void) {
     clock_calls();
     table_calls();
@@ -848,6 +1098,11 @@ int main(void) {
     map_calls();
     cut_calls();
     origin_calls();
+    read_calls();
+    text_room_calls();
+    bad_text_calls();
+    long_text_calls();
+    string_calls();
     box_calls();
     stop_calls();
     recording_calls();

@@ -5,6 +5,7 @@ mod field;
 mod instructions;
 mod lookups;
 mod origins;
+mod texts;
 
 use std::hint::black_box;
 use released::segment_table::{ SegmentTable, TrimSegment, VideoFrameTimes, VideoFrames, reach };
@@ -34,27 +35,32 @@ struct Line {
 #[derive(Clone, Copy, PartialEq)]
 enum Measure { Times(usize), Turns }
 
-/// Measures all, and prints a table; whether every input is accepted, and the check, the lookups over records, those of lists, the origins of lists, and many cuts are fast enough
-pub fn run(runs: usize) -> bool {
+/// Measures all, or one call only, and prints a table; whether every input is accepted, and the check, the lookups over records, those of lists, the origins of lists, texts, and many cuts are fast enough
+pub fn run(runs: usize, only: Option<Call>) -> bool {
     println!("| call | input | the Rust, µs | library, µs | library / Rust |\n|---|---|---:|---:|---:|");
-    let lines = lines(Measure::Times(runs));
-    let fast = !ours::LINKED || check(&lines) & records(&lines) & lookups::fast(&lines, runs) & origins::fast(&lines, runs) & editor::shares(&lines, runs);
-    fast && all_accepted(&lines)
+    let lines = lines(Measure::Times(runs), only);
+    let fast = || match only {
+        None => check(&lines) & records(&lines) & lookups::fast(&lines, runs) & origins::fast(&lines, runs) & texts::fast(&lines, runs) & editor::shares(&lines, runs),
+        Some(Call::Check) => check(&lines),
+        Some(Call::ReadTable) => texts::fast(&lines, runs),
+        Some(_) => true,
+    };
+    (!ours::LINKED || fast()) && all_accepted(&lines)
 }
 
 /// Prints the instructions of a turn of each line, which don't depend on what else runs
-pub fn instructions() -> bool { instructions::print() }
+pub fn instructions(only: Option<Call>) -> bool { instructions::print(only) }
 
 /// Makes one counted turn of each side of each line, for `instructions` to count; whether every input is accepted
-pub fn counted_turns() -> bool { all_accepted(&lines(Measure::Turns)) }
+pub fn counted_turns(only: Option<Call>) -> bool { all_accepted(&lines(Measure::Turns, only)) }
 
-/// Measures every line. The largest inputs are left out where instructions are counted, which takes fifty times as long
-fn lines(measure: Measure) -> Vec<Line> {
-    let cases = small().into_iter().chain(tables()).chain(lookups::lists()).chain(maps()).chain(origins::lists());
-    let mut lines: Vec<Line> = cases.map(|(input, case)| of_case(input, &case, measure)).collect();
-    lines.extend(editor::lines(measure));
-    let cases = moovs().into_iter().chain(recordings()).chain(field::inputs(measure != Measure::Turns));
-    lines.extend(cases.map(|(input, case)| of_case(input, &case, measure)));
+/// Measures every line, or those of one call. The largest inputs are left out where instructions are counted, which takes fifty times as long
+fn lines(measure: Measure, only: Option<Call>) -> Vec<Line> {
+    let of = |cases: Inputs| cases.into_iter().filter(|(_, case)| only.is_none_or(|only| only == case.call())).map(|(input, case)| of_case(input, &case, measure)).collect::<Vec<Line>>();
+    let mut lines: Vec<Line> = [small, tables, lookups::lists, maps, origins::lists, texts::inputs, texts::names_and_strings].into_iter().flat_map(|inputs| of(inputs())).collect();
+    if only.is_none() { lines.extend(editor::lines(measure)); }
+    lines.extend([moovs, recordings].into_iter().flat_map(|inputs| of(inputs())));
+    lines.extend(of(field::inputs(measure != Measure::Turns)));
     lines
 }
 
@@ -187,6 +193,8 @@ fn rust_side(case: &Case) -> Work<'_> {
         }
         Case::ValidateNoVideo { .. } => unreachable!("it is never accepted"),
         Case::Cut { .. } | Case::Join { .. } | Case::Merge { .. } | Case::Origin { .. } | Case::Origins { .. } => plain_side(case),
+        Case::ReadTable { text, .. } | Case::SourceNames { text, .. } => Box::new(|| SegmentTable::parse(black_box(text)).is_ok() as u64),
+        Case::JsonString { text, .. } => Box::new(|| serde_json::from_slice::<String>(black_box(text)).unwrap().len() as u64),
         Case::Cuts { .. } => unreachable!("many cuts are timed beside single ones, in editor.rs"),
     }
 }

@@ -9,16 +9,17 @@ use oracle::segment_table::SegmentTable;
 pub enum Call {
     IsUtcSecond, TicksToUs, Check, SegmentOfFrame, SegmentOfFrameRecords, SegmentOfTimeUs, Continues, RowsOfTable,
     ValidateNoVideo, ValidateConstant, ValidateTimes, BoxSize, Child, FindBox, TableText, VideoFrameTimesOfMoov,
-    McrawTimes, CheckMcraw, Cut, Join, Merge, Origin, Children, SegmentsOfFrames, Cuts, Origins,
+    McrawTimes, CheckMcraw, Cut, Join, Merge, Origin, Children, SegmentsOfFrames, Cuts, Origins, ReadTable,
+    SourceNames, JsonString,
 }
 
 impl Call {
-    pub const ALL: [Call; 26] = [
+    pub const ALL: [Call; 29] = [
         Call::IsUtcSecond, Call::TicksToUs, Call::Check, Call::SegmentOfFrame, Call::SegmentOfFrameRecords,
         Call::SegmentOfTimeUs, Call::Continues, Call::RowsOfTable, Call::ValidateNoVideo, Call::ValidateConstant,
         Call::ValidateTimes, Call::BoxSize, Call::Child, Call::FindBox, Call::TableText, Call::VideoFrameTimesOfMoov,
         Call::McrawTimes, Call::CheckMcraw, Call::Cut, Call::Join, Call::Merge, Call::Origin, Call::Children,
-        Call::SegmentsOfFrames, Call::Cuts, Call::Origins,
+        Call::SegmentsOfFrames, Call::Cuts, Call::Origins, Call::ReadTable, Call::SourceNames, Call::JsonString,
     ];
 
     /// The name of the call, without the library's prefix
@@ -50,6 +51,9 @@ impl Call {
             Call::Merge => "merge",
             Call::Origin => "origin",
             Call::Origins => "origins",
+            Call::ReadTable => "read_table",
+            Call::SourceNames => "source_names",
+            Call::JsonString => "json_string",
         }
     }
 
@@ -61,6 +65,7 @@ impl Call {
             Call::ValidateNoVideo => 0,
             Call::BoxSize | Call::Child | Call::FindBox | Call::TableText => 2,
             Call::Children | Call::VideoFrameTimesOfMoov | Call::McrawTimes | Call::Origin => 4,
+            Call::ReadTable => 5,
             _ => 1,
         }
     }
@@ -170,6 +175,11 @@ pub enum Case {
     Merge { map: Map, room: [usize; 2] },
     Origin { map: Map, frame: u64 },
     Origins { map: Map, frames: Vec<u64>, room: usize },
+    /// Room for sources, words, stamps, creation times and work
+    ReadTable { text: Vec<u8>, room: [usize; 5] },
+    /// Room for the names' places, and work
+    SourceNames { text: Vec<u8>, room: [usize; 2] },
+    JsonString { text: Vec<u8>, at: u64, room: usize },
 }
 
 /// One argument of a case, to be changed, written or read
@@ -222,6 +232,9 @@ impl Case {
             Case::Merge { .. } => Call::Merge,
             Case::Origin { .. } => Call::Origin,
             Case::Origins { .. } => Call::Origins,
+            Case::ReadTable { .. } => Call::ReadTable,
+            Case::SourceNames { .. } => Call::SourceNames,
+            Case::JsonString { .. } => Call::JsonString,
         }
     }
 
@@ -255,6 +268,9 @@ impl Case {
             Call::Merge => Case::Merge { map, room: [0; 2] },
             Call::Origin => Case::Origin { map, frame: 0 },
             Call::Origins => Case::Origins { map, frames: vec![], room: 0 },
+            Call::ReadTable => Case::ReadTable { text: vec![], room: [0; 5] },
+            Call::SourceNames => Case::SourceNames { text: vec![], room: [0; 2] },
+            Call::JsonString => Case::JsonString { text: vec![], at: 0, room: 0 },
         }
     }
 
@@ -293,6 +309,9 @@ impl Case {
             Case::Merge { map, room } => { parts.push(Map(map)); room }
             Case::Origin { map, frame } => { parts.extend([Map(map), Word(frame)]); &mut [] }
             Case::Origins { map, frames, room } => { parts.extend([Map(map), Words(frames)]); std::slice::from_mut(room) }
+            Case::ReadTable { text, room } => { parts.push(Bytes(text)); room }
+            Case::SourceNames { text, room } => { parts.push(Bytes(text)); room }
+            Case::JsonString { text, at, room } => { parts.extend([Bytes(text), Word(at)]); std::slice::from_mut(room) }
         };
         parts.extend(room.iter_mut().map(Room));
         parts
@@ -304,14 +323,20 @@ impl Case {
 pub struct Answer {
     pub number: u64,
     pub index: u64,
-    pub values: [i128; 4],
-    /// The words of the rows written, the segments, or of each origin its source, the frame there and the flag
+    pub values: [i128; MOST_VALUES],
+    /// The words of the rows written, the segments, of each origin its source, the frame there and the flag, of a table its
+    /// sources' words and then its segments', or of each name where it starts and how long it is
     pub words: Vec<u64>,
-    /// The starts, or the shifts of the rows written or of the origins
+    /// The starts, the shifts of the rows written or of the origins, or the signed words of a table's segments
     pub longs: Vec<i64>,
     /// How many rows each cut has
     pub counts: Vec<u64>,
+    /// A table's creation times, one after the other, or the bytes of a string
+    pub dates: Vec<u8>,
 }
+
+/// The most value words that a call answers with
+pub const MOST_VALUES: usize = 5;
 
 impl Answer {
     pub fn refused((number, index): (u64, u64)) -> Self { Self { number, index, ..Self::default() } }
@@ -327,10 +352,12 @@ impl Answer {
 pub struct Outcome {
     pub number: u64,
     pub index: u64,
-    pub values: [i128; 4],
+    pub values: [i128; MOST_VALUES],
     pub words: Vec<u64>,
     pub longs: [Vec<i64>; 3],
     pub counts: Vec<u64>,
+    pub dates: Vec<u8>,
+    pub work: Vec<u64>,
 }
 
 /// What a value word holds when it is lent
@@ -341,6 +368,9 @@ pub fn lent_words(len: usize) -> Vec<u64> { (0..len as u64).map(|k| 0xb000_0000_
 
 /// What a slice of signed words holds when it is lent
 pub fn lent_longs(len: usize) -> Vec<i64> { (0..len as i64).map(|k| -0x3000_0000_0000_0001 - k * 5).collect() }
+
+/// What a slice of bytes holds when it is lent
+pub fn lent_bytes(len: usize) -> Vec<u8> { (0..len).map(|k| 0x81 | (k * 6) as u8).collect() }
 
 /// The outcome of an answer by RULES 2.3: written is the answer alone, and only where accepted; values and
 /// outputs stay as lent otherwise; working slices are all zero
@@ -355,37 +385,49 @@ pub fn outcome(case: &Case, answer: &Answer) -> Outcome {
         Case::RowsOfTable { room, .. } | Case::Cut { room, .. } | Case::Join { room, .. } | Case::Merge { room, .. } => rows(&mut after, answer, room),
         Case::Cuts { room, .. } => {
             rows(&mut after, answer, room);
-            after.counts = lent_words(room[2]);
-            after.counts[..answer.counts.len()].copy_from_slice(&answer.counts);
+            after.counts = written(&answer.counts, lent_words(room[2]));
         }
         Case::Origins { room, .. } => rows(&mut after, answer, &[3 * room, *room]),
-        Case::SegmentsOfFrames { room, .. } => {
-            after.words = lent_words(*room);
-            after.words[..answer.words.len()].copy_from_slice(&answer.words);
-        }
+        Case::SegmentsOfFrames { room, .. } => after.words = written(&answer.words, lent_words(*room)),
         Case::VideoFrameTimesOfMoov { room, .. } => starts_and_work(&mut after, answer, room),
         Case::McrawTimes { room, .. } => starts_and_work(&mut after, answer, room),
         Case::CheckMcraw { room, .. } => {
             after.longs[0] = vec![0; room[0]];
             after.longs[1] = vec![0; room[1]];
         }
+        Case::ReadTable { room, .. } => {
+            let (sources, segments) = answer.words.split_at(SOURCE_WORDS * answer.values[1] as usize);
+            after.words = written(sources, lent_words(room[0]));
+            after.counts = written(segments, lent_words(room[1]));
+            after.longs[0] = written(&answer.longs, lent_longs(room[2]));
+            after.dates = written(&answer.dates, lent_bytes(room[3]));
+            after.work = vec![0; room[4]];
+        }
+        Case::SourceNames { room: [names, work], .. } => {
+            after.words = written(&answer.words, lent_words(*names));
+            after.work = vec![0; *work];
+        }
+        Case::JsonString { room, .. } => after.dates = written(&answer.dates, lent_bytes(*room)),
         _ => {}
     }
     after
 }
 
+/// What is written, over what was lent
+fn written<T: Copy>(answer: &[T], mut lent: Vec<T>) -> Vec<T> {
+    lent[..answer.len()].copy_from_slice(answer);
+    lent
+}
+
 /// The words and shifts of rows or origins, over what was lent
 fn rows(after: &mut Outcome, answer: &Answer, room: &[usize]) {
-    after.words = lent_words(room[0]);
-    after.longs[0] = lent_longs(room[1]);
-    after.words[..answer.words.len()].copy_from_slice(&answer.words);
-    after.longs[0][..answer.longs.len()].copy_from_slice(&answer.longs);
+    after.words = written(&answer.words, lent_words(room[0]));
+    after.longs[0] = written(&answer.longs, lent_longs(room[1]));
 }
 
 /// The first slice holds the starts over what was lent, the others are working slices
 fn starts_and_work(after: &mut Outcome, answer: &Answer, room: &[usize]) {
-    after.longs[0] = lent_longs(room[0]);
-    after.longs[0][..answer.longs.len()].copy_from_slice(&answer.longs);
+    after.longs[0] = written(&answer.longs, lent_longs(room[0]));
     for (slice, len) in after.longs[1..].iter_mut().zip(&room[1..]) {
         *slice = vec![0; *len];
     }

@@ -22,9 +22,9 @@ pub enum Difference {
 type Child = (i128, i128, i128);
 
 /// Numbers outside the domain of RULES 13.2, the room for an answer aside
-const OUTSIDE: [u64; 6] = [1, 2, 20, 30, 34, 42];
+const OUTSIDE: [u64; 7] = [1, 2, 20, 30, 34, 42, 60];
 
-/// Numbers of a table's own refusals, which come before the room
+/// Numbers of a table's own refusals, which come before the room; of a table that is read, after it
 const OF_TABLES: RangeInclusive<u64> = 1..=17;
 
 /// Compares one case; what is expected, or the difference
@@ -32,7 +32,8 @@ pub fn compare(case: &Case) -> Result<Answer, Difference> {
     let reading = reference::answer(case);
     let rust = rust::says(case);
     let agrees = match &rust {
-        Said::Answer(answer) => *answer == reading || reading.number == 32 && !OF_TABLES.contains(&answer.number),
+        Said::Answer(answer) => *answer == reading || reading.number == 32 && comes_after_the_room(case.call(), answer.number),
+        Said::Names(names) => reading.number == 32 || are_names(case, &reading, names),
         Said::None => none_is(case, &reading),
         Said::Panicked => reading.number == 33 || reading.number == 32,
         Said::Outside => OUTSIDE.contains(&reading.number),
@@ -50,7 +51,24 @@ pub fn compare(case: &Case) -> Result<Answer, Difference> {
     walked(case)?;
     cut_alone(case, &reading)?;
     traced_alone(case, &reading)?;
+    named_alone(case, &reading)?;
     Ok(reading)
+}
+
+/// Whether a call tests the room for its answer before what is refused with this number, or there is nothing to be refused
+fn comes_after_the_room(call: Call, number: u64) -> bool {
+    match call {
+        Call::ReadTable => OF_TABLES.contains(&number),
+        Call::SourceNames | Call::JsonString => false,
+        _ => !OF_TABLES.contains(&number),
+    }
+}
+
+/// Whether what stands at each of the places that are read is the name, escapes resolved
+fn are_names(case: &Case, reading: &Answer, names: &[String]) -> bool {
+    let Case::SourceNames { text, .. } = case else { return false };
+    let stands = |(place, name): (&[u64; 2], &String)| rust::resolved(text, place[0] as usize, place[1] as usize).is_some_and(|resolved| resolved == *name);
+    reading.number == 0 && reading.words.len() == 2 * names.len() && reading.words.as_chunks().0.iter().zip(names).all(stands)
 }
 
 /// Whether a reading is one of no frame times: 31, 36 at a header that the Rust has no size for, or 32, which comes before some 31s
@@ -69,7 +87,7 @@ fn walked(case: &Case) -> Result<(), Difference> {
     loop {
         let after = answered(&step);
         if after.number != 0 { break; }
-        let [kind, start, length, next] = after.values;
+        let [kind, start, length, next, _] = after.values;
         reached.push((kind, start, length));
         let Case::Children { at, .. } = &mut step else { break };
         if next <= *at as i128 { break; }
@@ -98,11 +116,22 @@ fn traced_alone(case: &Case, reading: &Answer) -> Result<(), Difference> {
     let mut single = Case::Origin { map: map.clone(), frame: 0 };
     for asked in frames {
         if let Case::Origin { frame, .. } = &mut single { *frame = *asked; }
-        let [source, source_frame, flag, shift] = answered(&single).values;
+        let [source, source_frame, flag, shift, _] = answered(&single).values;
         alone.words.extend([source, source_frame, flag].map(|word| word as u64));
         alone.longs.push(shift as i64);
     }
     if alone == *reading { Ok(()) } else { Err(Difference::Alone { reading: reading.clone(), alone }) }
+}
+
+/// The string at each name's place, asked for alone and with no more room than the name has bytes there, must be the one that is read there
+fn named_alone(case: &Case, reading: &Answer) -> Result<(), Difference> {
+    let Case::SourceNames { text, .. } = case else { return Ok(()) };
+    for place in reading.words.as_chunks::<2>().0 {
+        let single = Case::JsonString { text: text.clone(), at: place[0] - 1, room: place[1] as usize };
+        let (expected, library) = (outcome(&single, &reference::answer(&single)), answered(&single));
+        if expected.number != 0 || library != expected { return Err(Difference::Library { expected: Box::new(expected), library: Box::new(library) }); }
+    }
+    Ok(())
 }
 
 /// What the plain Rust says of cuts
@@ -220,6 +249,7 @@ fn shown(line: String) -> String {
 /// Prints a case and what each side says of it; whether they agree
 pub fn show(case: &Case) -> bool {
     println!("{}", shown(text::case_line(case)));
+    if let Case::ReadTable { text, .. } | Case::SourceNames { text, .. } | Case::JsonString { text, .. } = case { println!("  of {}", shown(text.escape_ascii().to_string())); }
     let compared = compare(case);
     match &compared {
         Err(Difference::Reading { rust, reading }) => println!("  differs: the Rust says      {}\n           the rules say      {}", shown(format!("{rust:?}")), shown(format!("{reading:?}"))),
@@ -251,7 +281,7 @@ pub fn run(plan: &Plan) -> Run {
 /// How many turns a round gives a call: fewer where a turn costs more or makes several cases
 fn turns(call: Call) -> u64 {
     match call {
-        Call::IsUtcSecond | Call::TicksToUs | Call::BoxSize | Call::VideoFrameTimesOfMoov => 20_000,
+        Call::IsUtcSecond | Call::TicksToUs | Call::BoxSize | Call::VideoFrameTimesOfMoov | Call::JsonString => 20_000,
         Call::Children => 4_000,
         Call::Child | Call::FindBox | Call::TableText | Call::McrawTimes | Call::Check | Call::ValidateConstant | Call::ValidateTimes | Call::CheckMcraw => 10_000,
         Call::Cut | Call::Join | Call::Merge | Call::Origin => 5_000,

@@ -1,5 +1,7 @@
 //! Numbers that docs/RULES.md, docs/AUDIT.md and crates/audit/specs/Examples.antt work out, lists of frames, offsets by the
-//! standard, broken headers and lists of cuts, each with its answer in the form of `text`.
+//! standard, broken headers, lists of cuts and texts of tables, each with its answer in the form of `text`.
+
+mod texts;
 
 use std::rc::Rc;
 use crate::{ case::{ Case, Lent, Map, SOURCE_WORDS, Table }, comparison, generate::{ moovs::{ self, Moov }, offsets::Offsets, tables, videos }, reference::boxes::code, text };
@@ -17,7 +19,7 @@ pub fn holds() -> bool {
 }
 
 /// All of them
-pub fn worked() -> Vec<Worked> { [numbers(), table(), lists(), maps(), cuts(), origins(), times(), time_lapses(), offsets(), torn(), stopped(), clip(), clip_maps(), exports()].concat() }
+pub fn worked() -> Vec<Worked> { [numbers(), table(), lists(), maps(), cuts(), origins(), times(), time_lapses(), offsets(), torn(), stopped(), clip(), clip_maps(), exports(), texts::worked()].concat() }
 
 /// Ticks, ends that are near, and days
 fn numbers() -> Vec<Worked> {

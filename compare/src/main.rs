@@ -20,7 +20,7 @@ use case::Call;
 use comparison::Plan;
 
 const USAGE: &str = "usage: compare/run [--src DIR] [--archive FILE | --no-library] [--long MINUTES] [--only CALL] [--seed N]
-       compare/run [..] case LINE | replay DIR | media DIR | bench [--runs N | --instructions]";
+       compare/run [..] case LINE | replay DIR | media DIR | bench [--only CALL] [--runs N | --instructions]";
 
 /// What is asked for on the command line
 enum Asked {
@@ -28,10 +28,10 @@ enum Asked {
     Case(case::Case),
     Replay(PathBuf),
     Media(PathBuf),
-    Bench(usize),
-    Instructions,
+    Bench(usize, Option<Call>),
+    Instructions(Option<Call>),
     /// What `Instructions` runs, and counts
-    Counted,
+    Counted(Option<Call>),
 }
 
 fn main() {
@@ -44,9 +44,9 @@ fn main() {
         Ok(Asked::Case(case)) => comparison::show(&case),
         Ok(Asked::Replay(folder)) => replay::write(&folder).map_err(|e| eprintln!("compare: {}: {e}", folder.display())).is_ok(),
         Ok(Asked::Media(folder)) => media::compare(&folder).map_err(|e| eprintln!("compare: {}: {e}", folder.display())).unwrap_or(false),
-        Ok(Asked::Bench(runs)) => bench::run(runs),
-        Ok(Asked::Instructions) => bench::instructions(),
-        Ok(Asked::Counted) => bench::counted_turns(),
+        Ok(Asked::Bench(runs, only)) => bench::run(runs, only),
+        Ok(Asked::Instructions(only)) => bench::instructions(only),
+        Ok(Asked::Counted(only)) => bench::counted_turns(only),
         Err(why) => { eprintln!("compare: {why}\n{USAGE}"); exit(2) }
     };
     exit(if done { 0 } else { 1 });
@@ -58,13 +58,32 @@ fn asked(words: &[String]) -> Result<Asked, String> {
         ("case", [line]) => text::read_case(line).map(Asked::Case).ok_or("that line is no case".into()),
         ("replay", [folder]) => Ok(Asked::Replay(folder.into())),
         ("media", [folder]) => Ok(Asked::Media(folder.into())),
-        ("bench", []) => Ok(Asked::Bench(5)),
-        ("bench", [flag]) if flag == "--instructions" => Ok(Asked::Instructions),
-        ("bench", [flag]) if flag == "--counted" => Ok(Asked::Counted),
-        ("bench", [flag, runs]) if flag == "--runs" => number(runs).filter(|n| *n > 0).map(|n| Asked::Bench(n as usize)).ok_or(format!("{runs} is no number of runs")),
+        ("bench", flags) => timing(flags),
         _ => Err(format!("{} isn't understood", words.join(" "))),
     }
 }
+
+/// How calls are timed: all of them, five runs of each, unless a call, runs or instructions are said
+fn timing(flags: &[String]) -> Result<Asked, String> {
+    let (mut only, mut runs, mut how) = (None, None, None);
+    let mut flags = flags.iter();
+    while let Some(flag) = flags.next() {
+        match (flag.as_str(), flags.as_slice()) {
+            ("--only", [value, ..]) => { only = Some(call(value)?); flags.next(); }
+            ("--runs", [value, ..]) => { runs = Some(number(value).filter(|n| *n > 0).ok_or(format!("{value} is no number of runs"))?); flags.next(); }
+            ("--instructions", _) => how = Some(Asked::Instructions as fn(_) -> _),
+            ("--counted", _) => how = Some(Asked::Counted),
+            _ => return Err(format!("bench {flag} isn't understood")),
+        }
+    }
+    match (how, runs) {
+        (None, runs) => Ok(Asked::Bench(runs.unwrap_or(5) as usize, only)),
+        (Some(how), None) => Ok(how(only)),
+        _ => Err("instructions are counted once, and not by runs".into()),
+    }
+}
+
+fn call(name: &str) -> Result<Call, String> { Call::named(name).ok_or_else(|| format!("{name} is no call; the calls are {}", names())) }
 
 fn number(word: &str) -> Option<u64> { word.parse().ok() }
 
@@ -77,7 +96,7 @@ fn plan(words: &[String]) -> Result<Plan, String> {
         match flag.as_str() {
             "--seed" => plan.seed = number(value).ok_or(format!("{value} is no seed"))?,
             "--long" => plan.time = Duration::from_secs(60 * number(value).filter(|n| *n < 1 << 32).ok_or(format!("{value} is no number of minutes"))?),
-            "--only" => plan.only = Some(Call::named(value).ok_or_else(|| format!("{value} is no call; the calls are {}", names()))?),
+            "--only" => plan.only = Some(call(value)?),
             _ => return Err(format!("{flag} isn't understood")),
         }
         if flag != "--seed" { plan.least = 0; }

@@ -64,7 +64,7 @@ fn cells(seen: &Seen, probed: &Probed) -> String {
     if answer.number != 0 {
         return format!("| | | | {said}, refused {} | {} packets | {} frames", answer.number, probed.packets.len(), probed.frames.len());
     }
-    let [count, scale, nominal, end] = answer.values;
+    let [count, scale, nominal, end, _] = answer.values;
     let [packets, frames] = [&probed.packets, &probed.frames].map(|times| beside(&answer.longs, times));
     format!("{count} | {scale} | {nominal} | {end} | {said} | {packets} | {frames}")
 }

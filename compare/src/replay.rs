@@ -4,7 +4,7 @@ use std::{ collections::BTreeMap, fs, io, path::Path, process::exit };
 use crate::{ case::{ Answer, Call, Case, Part, SOURCE_WORDS }, comparison, document, generate::{ self, tables }, random::Random, rust::{ self, Said, Way }, text };
 
 /// The files, in the order in which they are answered, and the calls of each
-const FILES: [(&str, &[Call]); 7] = [
+const FILES: [(&str, &[Call]); 8] = [
     ("numbers", &[Call::IsUtcSecond, Call::TicksToUs]),
     ("boxes", &[Call::BoxSize, Call::Child, Call::FindBox, Call::TableText, Call::Children]),
     ("maps", &[Call::Cut, Call::Join, Call::Merge, Call::Origin, Call::Cuts]),
@@ -12,15 +12,19 @@ const FILES: [(&str, &[Call]); 7] = [
     ("table", &[Call::Check, Call::SegmentOfFrame, Call::SegmentOfTimeUs, Call::Continues, Call::RowsOfTable, Call::SegmentOfFrameRecords, Call::SegmentsOfFrames]),
     ("judge", &[Call::ValidateNoVideo, Call::ValidateConstant, Call::ValidateTimes, Call::CheckMcraw]),
     ("origins", &[Call::Origins]),
+    ("texts", &[Call::ReadTable]),
 ];
 
 const SEED: u64 = 9;
-/// The longest line, by characters; those of a moov, and of a table with a source too many, may be longer
+/// The longest line, by characters; those of a moov, of a table's text, and of a table with a source too many, may be longer
 const LINE: usize = 600;
 /// The most words, bytes and sources' words of a stored case
 const WORDS: usize = 64;
 const BYTES: usize = 512;
 const SOURCES: usize = 257 * SOURCE_WORDS;
+/// The most bytes of a table's text that is stored, and the most words of work
+const TEXT: usize = 720;
+const WORK: usize = 3840;
 /// How many random turns are looked through
 const TURNS: usize = 40_000;
 
@@ -32,12 +36,14 @@ fn wanted(call: Call, way: Option<Way>) -> (usize, usize) {
         Call::VideoFrameTimesOfMoov => (40, 10),
         Call::IsUtcSecond | Call::TicksToUs | Call::BoxSize | Call::Children | Call::Child | Call::FindBox | Call::TableText | Call::McrawTimes => (120, 30),
         Call::Cut | Call::Join | Call::Merge | Call::Origin | Call::Cuts | Call::Origins => (100, 20),
+        Call::ReadTable => (15, 6),
         _ => (40, 3),
     }
 }
 
 /// Whether a case is small enough to be stored
 fn fits(case: &Case) -> bool {
+    if let Case::ReadTable { text, room } = case { return text.len() <= TEXT && room.iter().all(|room| *room <= WORK); }
     case.clone().parts().iter().all(|part| match part {
         Part::Room(room) => **room <= WORDS,
         Part::Bytes(bytes) => bytes.len() <= BYTES,
@@ -76,7 +82,7 @@ pub fn write(folder: &Path) -> io::Result<()> {
 
 /// Whether the Rust answers a case so
 fn by_rust(case: &Case, answer: &Answer) -> bool {
-    match rust::says(case) { Said::Answer(said) => said == *answer, Said::None => answer.number != 32, _ => false }
+    match rust::says(case) { Said::Answer(said) => said == *answer && answer.number != 32, Said::None => answer.number != 32, _ => false }
 }
 
 /// The cases of a call and their answers, as lines, and whether the Rust answers so: all that are worked out, then as many of
@@ -91,7 +97,7 @@ fn chosen(call: Call) -> Vec<(String, String, bool)> {
         let way = rust::way(&case);
         let taken = taken.entry((answer.number, answer.values[0] == 0, answer.index == 0, way)).or_default();
         let wanted = if answer.number == 0 { wanted(call, way).0 } else { wanted(call, way).1 };
-        let longer = match case { Case::VideoFrameTimesOfMoov { .. } => 300, _ if answer.number == 2 && *taken == 0 => 7400, _ => 0 };
+        let longer = match case { Case::VideoFrameTimesOfMoov { .. } => 300, Case::ReadTable { .. } => 900, _ if answer.number == 2 && *taken == 0 => 7400, _ => 0 };
         if worked || *taken < wanted && line.len() <= LINE + longer {
             *taken += 1;
             lines.push((line, text::answer_line(call, &answer), way != Some(Way::Moved) && by_rust(&case, &answer)));

@@ -1,12 +1,14 @@
 //! What the unchanged Rust says of a case.
 
 mod standard;
+mod texts;
 
 use std::{ fmt::Write, panic::{ AssertUnwindSafe, catch_unwind }, sync::atomic::{ AtomicBool, Ordering } };
 use oracle::segment_table::{ Found, SegmentTable, VideoFrameTimes, VideoFrames, reach };
 use crate::case::{ Answer, Case, Lent, SOURCE_WORDS, Table };
 use crate::reference::{ GREATEST_SCALE, MOST_BYTES, Refusal, table };
 pub use standard::Way;
+pub use texts::resolved;
 
 /// What the Rust says
 #[derive(Clone, Debug, PartialEq)]
@@ -14,11 +16,13 @@ pub enum Said {
     Answer(Answer),
     /// No frame times of a moov, which is 31 or 36: it doesn't say why
     None,
+    /// The names of a table's sources: where they stand it doesn't say
+    Names(Vec<String>),
     /// A sum left its type: a release build wraps there, a debug build panics
     Panicked,
     /// The input is outside the domain of RULES 13.2, room aside
     Outside,
-    /// It has no such call or mode, or the input can't be put into words for it
+    /// It has no such call or mode, the input can't be put into words for it, or it misreads a number in it
     Silent,
 }
 
@@ -88,6 +92,9 @@ fn said(case: &Case) -> Said {
         Case::McrawTimes { timestamps, .. } => reach::mcraw_times(timestamps).map_or(refused((31, 0)), times),
         Case::CheckMcraw { table, timestamps, .. } => of_table(table, |t| check_mcraw(table, t, timestamps)),
         Case::Cut { .. } | Case::Join { .. } | Case::Merge { .. } | Case::Origin { .. } | Case::Cuts { .. } | Case::Origins { .. } => Said::Silent,
+        Case::ReadTable { text, room } => texts::says(text, room),
+        Case::SourceNames { text, room } => texts::names(text, room[1]),
+        Case::JsonString { text, at, room } => texts::string(text, *at, *room),
     }
 }
 

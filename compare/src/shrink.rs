@@ -1,7 +1,7 @@
 //! Makes a case that differs smaller, as long as it still differs.
 
 use std::{ ops::Range, time::{ Duration, Instant } };
-use crate::{ case::{ Case, Lent, Map, Part, SOURCE_WORDS, Table }, reference::boxes::{ number, walk } };
+use crate::{ case::{ Call, Case, Lent, Map, Part, SOURCE_WORDS, Table }, reference::boxes::{ number, walk } };
 
 /// How long a smaller case is looked for
 const TIME: Duration = Duration::from_secs(20);
@@ -22,7 +22,7 @@ pub fn smallest(mut case: Case, differs: impl Fn(&Case) -> bool) -> Case {
 /// The cases that are one step smaller
 fn cases(case: &Case) -> impl Iterator<Item = Case> + '_ {
     let parts = case.clone().parts().len();
-    from_offset(case).into_iter().chain((0..parts).flat_map(move |k| of_part(case, k)))
+    from_offset(case).into_iter().chain(from_mark(case)).chain((0..parts).flat_map(move |k| of_part(case, k)))
 }
 
 /// The boxes before an offset taken out, and the offset moved with them
@@ -30,6 +30,13 @@ fn from_offset(case: &Case) -> Option<Case> {
     let Case::Children { payload, at } = case else { return None };
     let rest = payload.get(usize::try_from(*at).ok()?..)?;
     (*at > 0).then(|| Case::Children { payload: rest.to_vec(), at: 0 })
+}
+
+/// The text before a string's quotation mark taken out, or its first byte, and the offset moved with it
+fn from_mark(case: &Case) -> impl Iterator<Item = Case> + '_ {
+    let Case::JsonString { text, at, room } = case else { return None.into_iter().flatten() };
+    let shorter = move |by: u64| text.get(usize::try_from(by).ok()?..).map(|rest| Case::JsonString { text: rest.to_vec(), at: at - by, room: *room });
+    Some([*at, 1].into_iter().filter(move |by| 0 < *by && *by <= *at).filter_map(shorter)).into_iter().flatten()
 }
 
 /// The case with its part `k` set
@@ -47,6 +54,7 @@ fn of_part(case: &Case, k: usize) -> Smaller<'_, Case> {
         Part::Long(long) => Box::new(longs(*long).into_iter().map(move |v| with(case, k, |p| if let Part::Long(p) = p { *p = v }))),
         Part::Flag(flag) => Box::new(flag.then(|| with(case, k, |p| if let Part::Flag(p) = p { *p = false })).into_iter()),
         Part::Kind(_) => Box::new(std::iter::empty()),
+        Part::Bytes(bytes) if matches!(case.call(), Call::ReadTable | Call::SourceNames | Call::JsonString) => Box::new(texts(bytes.clone()).map(move |v| with(case, k, |p| if let Part::Bytes(p) = p { *p = v }))),
         Part::Bytes(bytes) => Box::new(byte_strings(bytes.clone()).map(move |v| with(case, k, |p| if let Part::Bytes(p) = p { *p = v }))),
         Part::Words(list) => Box::new(lists(list.clone(), words).map(move |v| with(case, k, |p| if let Part::Words(p) = p { *p = v }))),
         Part::Longs(list) => Box::new(lists(list.clone(), longs).map(move |v| with(case, k, |p| if let Part::Longs(p) = p { *p = v }))),
@@ -85,6 +93,33 @@ fn byte_strings(bytes: Vec<u8>) -> Smaller<'static, Vec<u8>> {
     let whole = bytes.clone();
     let boxes = removals.into_iter().map(move |(part, around)| without_part(&whole, part, &around));
     Box::new(boxes.chain(lists(bytes, |byte| words(byte as u64).into_iter().map(|w| w as u8).collect())))
+}
+
+/// Texts: first whole items and members taken out, the comma with them; then any bytes taken out, or made plain ones
+fn texts(text: Vec<u8>) -> Smaller<'static, Vec<u8>> {
+    let parts = items(&text);
+    let whole = text.clone();
+    let plainer = |byte: u8| [b' ', b'0', b'a'].into_iter().take_while(|plain| *plain != byte).collect();
+    Box::new(parts.into_iter().map(move |part| without(&whole, part)).chain(lists(text, plainer)))
+}
+
+/// Where the items of lists and the members of objects lie, the longest first: each with the comma after it, else the one before it
+fn items(text: &[u8]) -> Vec<Range<usize>> {
+    let (mut open, mut parts, mut quoted, mut k) = (Vec::new(), Vec::new(), false, 0);
+    while k < text.len() {
+        match text[k] {
+            b'\\' if quoted => k += 1,
+            b'"' => quoted = !quoted,
+            b'[' | b'{' if !quoted => open.push(k + 1),
+            b',' if !quoted => if let Some(from) = open.last_mut() { parts.push(*from..k + 1); *from = k + 1; },
+            b']' | b'}' if !quoted => if let Some(from) = open.pop() { parts.push(if text[from - 1] == b',' { from - 1..k } else { from..k }); },
+            _ => {}
+        }
+        k += 1;
+    }
+    parts.retain(|part| !part.is_empty());
+    parts.sort_by_key(|part| part.start.wrapping_sub(part.end));
+    parts
 }
 
 /// The parts of boxes in a range that can be taken out, each with where the headers of the boxes around it are

@@ -29,8 +29,11 @@ fn push_list<T: ToString>(words: &mut Vec<String>, list: &[T]) {
 
 fn push_bytes(words: &mut Vec<String>, bytes: &[u8]) {
     words.push(bytes.len().to_string());
-    if !bytes.is_empty() { words.push(bytes.iter().map(|b| format!("{b:02x}")).collect()); }
+    words.extend(hex(bytes));
 }
+
+/// Bytes as one word of hex digits; none where there are no bytes
+fn hex(bytes: &[u8]) -> Option<String> { (!bytes.is_empty()).then(|| bytes.iter().map(|b| format!("{b:02x}")).collect()) }
 
 fn push_table(words: &mut Vec<String>, table: &Table) {
     push_list(words, &table.sources);
@@ -49,6 +52,7 @@ pub fn answer_line(call: Call, answer: &Answer) -> String {
         words.extend(answer.words.iter().map(u64::to_string));
         words.extend(answer.longs.iter().map(i64::to_string));
         words.extend(answer.counts.iter().map(u64::to_string));
+        words.extend(hex(&answer.dates));
     }
     words.join(" ")
 }

@@ -46,6 +46,22 @@ pub struct TrimSegment {
     pub clock_shift: i64,
 }
 
+/// What was read of a table's text.
+#[repr(C)]
+#[derive(Clone, Copy, Debug, Default, PartialEq, Eq)]
+pub struct TableRead {
+    /// How many frames the table has.
+    pub frames: u64,
+    /// How many sources it has; thirteen words each are written.
+    pub sources: u64,
+    /// How many segments it has; five words and seven stamps each are written.
+    pub segments: u64,
+    /// How many bytes its creation times have, which are all written.
+    pub dates: u64,
+    /// 1 where it names a telemetry log, else 0.
+    pub log: u64,
+}
+
 extern "C" {
     /// Whether bytes are a creation time by the UTC rule: 20 bytes, YYYY-MM-DDTHH:MM:SSZ.
     /// Lent: the bytes. Writes nothing, refuses nothing.
@@ -181,6 +197,39 @@ extern "C" {
     /// A null pointer only with length 0; what is written overlaps nothing else, or memory may be corrupted.
     pub fn st_rows_of_table(sources: *const u64, sources_len: usize, segments: *const u64, segments_len: usize, stamps: *const i64, stamps_len: usize, log: bool, text: *const u8, text_len: usize, out_words: *mut u64, out_words_len: usize, out_shifts: *mut i64, out_shifts_len: usize, rows: *mut u64, index: *mut u64) -> u64;
 
+    /// Reads a table's text: the words, stamps and creation times that all other calls are lent of a
+    /// table, its frame total, and whether it names a telemetry log. All of the text is tested before
+    /// anything is written: first that it is JSON, then that no object has a name twice, then its
+    /// version, then each member by its type, and then the table as st_check does, with its indices. A
+    /// member that no table needs may hold anything. Words of an absent thing are 0.
+    /// Lent: the text (of a file, what st_table_text finds); room for the sources, the segments, their
+    /// stamps and the creation times' bytes; a working slice of a quarter as many words as the text has
+    /// bytes, rounded up, and at least 3,840. 3,328 words, 2,560 words, 3,584 stamps and as many bytes as
+    /// the text has are enough for every table. To other calls lend what was written, not the room:
+    /// thirteen words a source, five words and seven stamps a segment, and the creation times as their
+    /// text. Writes sources, segments, stamps, dates, work (all 0), read, index. Refuses: 60,
+    /// 32 (the working slice), 61 to 64, 2, 32, 3 to 17.
+    /// A null pointer only with length 0; what is written overlaps nothing else, or memory may be corrupted.
+    pub fn st_read_table(text: *const u8, text_len: usize, sources: *mut u64, sources_len: usize, segments: *mut u64, segments_len: usize, stamps: *mut i64, stamps_len: usize, dates: *mut u8, dates_len: usize, work: *mut u64, work_len: usize, read: *mut TableRead, index: *mut u64) -> u64;
+
+    /// Where the names of a table's sources stand in its text: two words a source, where the name starts
+    /// and how long it is, in bytes, without its quotation marks and with its escapes as they stand.
+    /// st_json_string, lent the start less one, resolves them. The text is tested as st_read_table tests
+    /// it, but not the table.
+    /// Lent: the text; room for two words a source; a working slice as long as that of st_read_table.
+    /// Writes names, work (all 0), count (how many sources), index. Refuses: 60, 32 (the working slice),
+    /// 61 to 64, 2, 32.
+    /// A null pointer only with length 0; what is written overlaps nothing else, or memory may be corrupted.
+    pub fn st_source_names(text: *const u8, text_len: usize, names: *mut u64, names_len: usize, work: *mut u64, work_len: usize, count: *mut u64, index: *mut u64) -> u64;
+
+    /// The bytes of a string that stands in a text, in UTF-8, its escapes resolved: that whose opening
+    /// quotation mark stands at offset `at`. Nothing before it, and nothing after its closing quotation
+    /// mark, is looked at. It is 61 where no whole string stands there.
+    /// Lent: the text; room for the bytes, which are no more than stand between the quotation marks.
+    /// Writes out, length (how many bytes), index. Refuses: 60, 61, 32.
+    /// A null pointer only with length 0; what is written overlaps nothing else, or memory may be corrupted.
+    pub fn st_json_string(text: *const u8, text_len: usize, at: u64, out: *mut u8, out_len: usize, length: *mut u64, index: *mut u64) -> u64;
+
     /// The size of the box at the start of data, and of its header, where `remaining` bytes are left of
     /// what it is in. Lent: the bytes at hand. Writes size, header, index. Refuses: 30, 31.
     /// A null pointer only with length 0.
@@ -310,6 +359,19 @@ pub enum Reason {
     JoinWraps = 53,
     /// A frame lies past the map.
     PastMap = 54,
+    /// The table's text has over 1,048,576 bytes.
+    TextTooLong = 60,
+    /// The table's text isn't JSON, or over 32 lists and objects stand one in another; it breaks RFC
+    /// 8259's grammar, a string holds half a surrogate pair, or bytes are no UTF-8.
+    NotJson = 61,
+    /// An object in the table's text has a name twice; at any depth, in members that are skipped
+    /// too, escapes resolved.
+    RepeatedName = 62,
+    /// The table's version isn't 1; or the text's value is no object.
+    OtherVersion = 63,
+    /// A member of the table's text is missing or has another type; what follows the Rust's
+    /// `SegmentTable::parse`.
+    BadMember = 64,
 }
 
 impl Reason {
@@ -355,6 +417,11 @@ impl Reason {
             Reason::RowsDontFit => "a map has, or would have, over 1,024 rows, or too little room is lent for rows",
             Reason::JoinWraps => "the frames of both maps together pass 2^64 - 1",
             Reason::PastMap => "a frame lies past the map",
+            Reason::TextTooLong => "the table's text has over 1,048,576 bytes",
+            Reason::NotJson => "the table's text isn't JSON, or over 32 lists and objects stand one in another",
+            Reason::RepeatedName => "an object in the table's text has a name twice",
+            Reason::OtherVersion => "the table's version isn't 1",
+            Reason::BadMember => "a member of the table's text is missing or has another type",
         }
     }
 }
@@ -399,6 +466,11 @@ pub const REASONS: &[Reason] = &[
     Reason::RowsDontFit,
     Reason::JoinWraps,
     Reason::PastMap,
+    Reason::TextTooLong,
+    Reason::NotJson,
+    Reason::RepeatedName,
+    Reason::OtherVersion,
+    Reason::BadMember,
 ];
 
 /// Each refusal number with its words.
@@ -441,4 +513,9 @@ pub const REFUSALS: &[(u64, &str)] = &[
     (52, Reason::RowsDontFit.words()),
     (53, Reason::JoinWraps.words()),
     (54, Reason::PastMap.words()),
+    (60, Reason::TextTooLong.words()),
+    (61, Reason::NotJson.words()),
+    (62, Reason::RepeatedName.words()),
+    (63, Reason::OtherVersion.words()),
+    (64, Reason::BadMember.words()),
 ];

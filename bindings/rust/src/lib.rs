@@ -17,6 +17,8 @@
 //! # Ok::<(), segment_table::Refusal>(())
 //! ```
 //!
+//! In a file a table is a text: [`table_text`] finds it, and [`Table::from_json`] reads the table and its sources' names.
+//!
 //! A call that refuses gives a [`Refusal`], with its reason, its number, its index and its words. All calls may be made in
 //! several threads at once: none keeps anything.
 #![warn(missing_docs)]
@@ -26,6 +28,7 @@ mod map;
 mod recording;
 #[macro_use]
 mod table;
+mod text;
 mod video;
 mod walk;
 
@@ -33,6 +36,7 @@ pub use ffi::{Reason, TrimSegment};
 pub use map::{FrameMap, Origin, Row, Rows};
 pub use recording::{mcraw_times, video_frame_times_of_moov, FrameTimes};
 pub use table::{segment_of_frame_records, Clock, Segment, Source, Table};
+pub use text::{Boundaries, Details, TableText, TelemetryLog};
 pub use video::Video;
 pub use walk::{box_size, child, children, find_box, table_text, BoxSize, Children};
 

@@ -86,7 +86,7 @@ pub struct Table {
     pub(crate) stamps: Vec<i64>,
     pub(crate) log: bool,
     pub(crate) text: Vec<u8>,
-    frames: u64,
+    pub(crate) frames: u64,
 }
 
 /// The nine arguments of a lent table.
@@ -99,12 +99,14 @@ macro_rules! lent {
     };
 }
 
-/// How many words a source has.
-const SOURCE_WORDS: usize = 13;
+/// How many words a source has, how many a segment has, and how many times.
+pub(crate) const SOURCE_WORDS: usize = 13;
+pub(crate) const SEGMENT_WORDS: usize = 5;
+pub(crate) const SEGMENT_STAMPS: usize = 7;
 
 /// The sources and the segments that a table may have, and the bytes of a creation time.
-const MOST_SOURCES: usize = 256;
-const MOST_SEGMENTS: usize = 512;
+pub(crate) const MOST_SOURCES: usize = 256;
+pub(crate) const MOST_SEGMENTS: usize = 512;
 const TIME_BYTES: usize = 20;
 
 /// The first of them: one more than there may be, which is refused as all of them are.
@@ -199,7 +201,7 @@ impl Table {
             }
             if source[11] == 0 { source[12] = 0 } // the origin
         }
-        for (words, stamps) in self.segments.chunks_exact(5).zip(self.stamps.chunks_exact_mut(7)) {
+        for (words, stamps) in self.segments.chunks_exact(SEGMENT_WORDS).zip(self.stamps.chunks_exact_mut(SEGMENT_STAMPS)) {
             if words[4] == 0 { stamps[6] = 0 } // the shift
         }
         self.text = text;
@@ -270,7 +272,7 @@ impl Table {
     /// Its map: one row a segment.
     #[must_use]
     pub fn map(&self) -> FrameMap {
-        FrameMap::filled(self.segments.len() / 5, |ou, os, rows, index| unsafe {
+        FrameMap::filled(self.segments.len() / SEGMENT_WORDS, |ou, os, rows, index| unsafe {
             lent!(st_rows_of_table, self, ou.as_mut_ptr(), ou.len(), os.as_mut_ptr(), os.len(), rows, index)
         })
         .expect("an accepted table has a map")

@@ -131,6 +131,25 @@ fn tables() {
     refused(5, 0, 1000, || segment_of_frame_records(&late, &[TrimSegment::default()], false, 0));
 }
 
+/// A text takes room by its length: at most six times as much, and 30 KB more; what is kept is the table and the names.
+#[test]
+fn texts() {
+    let name = "C0539.MP4";
+    for sources in [1, 100, 256] {
+        let source = Source { frames: 100, fps: (25, 1), creation_time: Some("2024-11-17T13:12:46Z".into()), ..Source::default() };
+        let segment = Segment { frame_count: 1, ..Segment::default() };
+        let table = Table::new(&vec![source; sources], &[segment], false).unwrap();
+        let text = table.to_json(&vec![name; sources]);
+        let (read, most, held) = reserved(|| Table::from_json(text.as_bytes()).unwrap());
+        assert_eq!(read.table, table);
+        assert_eq!(held, (13 * 8 + 20 + name.len() + std::mem::size_of::<String>()) * sources + 12 * 8);
+        assert!(most <= 6 * text.len() + 3840 * 8, "{most} bytes for {}", text.len());
+    }
+    let blanks = vec![b' '; 1_048_577];
+    refused(60, 0, 0, || Table::from_json(&blanks));
+    refused(61, 0, 4 * blanks.len(), || Table::from_json(&blanks[1..]));
+}
+
 #[test]
 fn recordings() {
     let source = Source { frames: 100, fps: (25, 1), ..Source::default() };

@@ -1,4 +1,4 @@
-//! Each refusal number that a wrapped call can give, with its index.
+//! Each refusal number that a wrapped call can give, with its index; those of a table's text are in text.rs.
 mod movie;
 
 use movie::{boxed, full, in_both_modes, moov, place, CRATE, STANDARD};

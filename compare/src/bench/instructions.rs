@@ -2,7 +2,7 @@
 
 use std::{ arch::asm, fs, hint::black_box, io, path::Path, process::{ Command, Stdio } };
 use super::Work;
-use crate::ours;
+use crate::{ case::Call, ours };
 
 /// What callgrind is asked for (callgrind.h): to write what it counted, to count from 0, to begin and to stop counting
 const WRITE: u64 = 0x4354_0000;
@@ -43,19 +43,20 @@ pub fn turns<'a>(call: &str, input: &str, rust: &mut Work<'a>, library: &mut Wor
 }
 
 /// Runs this program again under callgrind, and prints a table of what it counted; whether all went well
-pub fn print() -> bool {
+pub fn print(only: Option<Call>) -> bool {
     let folder = std::env::temp_dir().join(format!("compare-instructions-{}", std::process::id()));
-    let done = fs::create_dir_all(&folder).and_then(|()| table(&folder));
+    let done = fs::create_dir_all(&folder).and_then(|()| table(&folder, only));
     let _ = fs::remove_dir_all(&folder);
     done.map_err(|e| eprintln!("compare: valgrind's callgrind: {e}")).unwrap_or(false)
 }
 
-fn table(folder: &Path) -> io::Result<bool> {
+fn table(folder: &Path, only: Option<Call>) -> io::Result<bool> {
     let counts = folder.join("counts");
     let run = Command::new("valgrind")
         .args(["--tool=callgrind", "--quiet", "--instr-atstart=no", "--combine-dumps=no"])
         .arg(format!("--callgrind-out-file={}", counts.display()))
         .arg(std::env::current_exe()?).args(["bench", "--counted"])
+        .args(only.iter().flat_map(|call| ["--only", call.name()]))
         .stderr(Stdio::inherit()).output()?;
     println!("| call | input | the Rust, instructions | library, instructions | library / Rust |\n|---|---|---:|---:|---:|");
     let said = String::from_utf8_lossy(&run.stdout).into_owned();

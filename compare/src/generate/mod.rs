@@ -13,6 +13,7 @@ pub mod offsets;
 mod origins;
 pub mod recordings;
 pub mod tables;
+pub mod texts;
 pub mod videos;
 
 use crate::{ case::{ Call, Case }, random::Random };
@@ -37,6 +38,9 @@ pub fn fixed(call: Call, emit: Emit) {
         Call::Cut | Call::Join | Call::Merge | Call::Origin => maps::fixed(call, emit),
         Call::Cuts => cuts::fixed(emit),
         Call::Origins => { maps::fixed(call, emit); origins::fixed(emit) }
+        Call::ReadTable => texts::fixed(emit),
+        Call::SourceNames => texts::strings::fixed_names(emit),
+        Call::JsonString => texts::strings::fixed_strings(emit),
         Call::ValidateTimes | Call::CheckMcraw => {}
     }
     limit::cases(call, emit);
@@ -62,6 +66,9 @@ pub fn random(call: Call, r: &mut Random, emit: Emit) {
         Call::Cut | Call::Join | Call::Merge | Call::Origin => maps::cases(call, r, emit),
         Call::Cuts => cuts::cases(r, emit),
         Call::Origins => origins::cases(r, emit),
+        Call::ReadTable => texts::cases(r, emit),
+        Call::SourceNames => texts::strings::random_names(r, emit),
+        Call::JsonString => texts::strings::random_string(r, emit),
     }
 }
 

@@ -2,7 +2,7 @@
 
 use std::ptr::{ null, null_mut };
 use segment_table::ffi::*;
-use crate::case::{ Call, Case, LENT_VALUE, Outcome, Table, lent_longs, lent_words };
+use crate::case::{ Call, Case, LENT_VALUE, Outcome, Table, lent_bytes, lent_longs, lent_words };
 
 /// The pointer to a slice, null where it is empty
 fn ptr<T>(slice: &[T]) -> *const T { if slice.is_empty() { null() } else { slice.as_ptr() } }
@@ -67,13 +67,20 @@ pub struct Lent {
     counts: Vec<u64>,
     records: Vec<TrimSegment>,
     origins: Vec<Origin>,
+    dates: Vec<u8>,
+    work: Vec<u64>,
+    read: TableRead,
 }
 
 impl Lent {
     /// What is lent for a case; none for a case that can't be put to the library
     pub fn of(case: &Case) -> Option<Self> {
         let (value, none) = (LENT_VALUE, [vec![], vec![], vec![]]);
-        let mut lent = Self { kind: value as u32, u: [value; 3], i: [value as i64; 2], index: value, words: vec![], longs: none, counts: vec![], records: vec![], origins: vec![] };
+        let read = TableRead { frames: value, sources: value, segments: value, dates: value, log: value };
+        let mut lent = Self {
+            kind: value as u32, u: [value; 3], i: [value as i64; 2], index: value, words: vec![], longs: none, counts: vec![],
+            records: vec![], origins: vec![], dates: vec![], work: vec![], read,
+        };
         let rooms: &[usize] = match case {
             Case::RowsOfTable { room, .. } | Case::Cut { room, .. } | Case::Join { room, .. } | Case::Merge { room, .. } => {
                 lent.words = lent_words(room[0]);
@@ -88,6 +95,19 @@ impl Lent {
             Case::Origins { room, .. } => { lent.origins = origins(*room); &[] }
             Case::McrawTimes { room, .. } | Case::CheckMcraw { room, .. } => room,
             Case::VideoFrameTimesOfMoov { room, .. } => room,
+            Case::ReadTable { room: [sources, words, stamps, dates, work], .. } => {
+                lent.words = lent_words(*sources);
+                lent.counts = lent_words(*words);
+                lent.dates = lent_bytes(*dates);
+                lent.work = lent_words(*work);
+                std::slice::from_ref(stamps)
+            }
+            Case::SourceNames { room: [names, work], .. } => {
+                lent.words = lent_words(*names);
+                lent.work = lent_words(*work);
+                &[]
+            }
+            Case::JsonString { room, .. } => { lent.dates = lent_bytes(*room); &[] }
             _ => &[],
         };
         for (slice, len) in lent.longs.iter_mut().zip(rooms) { *slice = lent_longs(*len); }
@@ -105,6 +125,7 @@ impl Lent {
                 | Case::Continues { .. } | Case::RowsOfTable { .. } | Case::SegmentsOfFrames { .. } => self.of_table(case),
             Case::ValidateNoVideo { .. } | Case::ValidateConstant { .. } | Case::ValidateTimes { .. } | Case::CheckMcraw { .. } => self.of_judge(case),
             Case::Cut { .. } | Case::Join { .. } | Case::Merge { .. } | Case::Origin { .. } | Case::Cuts { .. } | Case::Origins { .. } => self.of_maps(case),
+            Case::ReadTable { .. } | Case::SourceNames { .. } | Case::JsonString { .. } => self.of_texts(case),
             _ => self.of_the_rest(case),
         }
     }
@@ -165,6 +186,25 @@ impl Lent {
         }
     }
 
+    fn of_texts<'a>(&'a mut self, case: &'a Case) -> Ready<'a> {
+        let (value, read, index) = (&mut self.u[0], &mut self.read, &mut self.index);
+        let (words, segments, stamps) = (&mut self.words, &mut self.counts, &mut self.longs[0]);
+        let (bytes, work) = (&mut self.dates, &mut self.work);
+        match case {
+            Case::ReadTable { text, .. } => Box::new(move || unsafe {
+                st_read_table(
+                    ptr(text), text.len(), mut_ptr(words), words.len(), mut_ptr(segments), segments.len(), mut_ptr(stamps), stamps.len(),
+                    mut_ptr(bytes), bytes.len(), mut_ptr(work), work.len(), read, index,
+                )
+            }),
+            Case::SourceNames { text, .. } => Box::new(move || unsafe {
+                st_source_names(ptr(text), text.len(), mut_ptr(words), words.len(), mut_ptr(work), work.len(), value, index)
+            }),
+            Case::JsonString { text, at, .. } => Box::new(move || unsafe { st_json_string(ptr(text), text.len(), *at, mut_ptr(bytes), bytes.len(), value, index) }),
+            _ => unreachable!(),
+        }
+    }
+
     fn of_the_rest<'a>(&'a mut self, case: &'a Case) -> Ready<'a> {
         let ([a, b, next], [c, d], [starts, one, two]) = (&mut self.u, &mut self.i, &mut self.longs);
         let (found, index) = (&mut self.kind, &mut self.index);
@@ -195,13 +235,14 @@ impl Lent {
         let call = case.call();
         let (u, i) = (self.u.map(|u| u as i128), self.i.map(|i| i as i128));
         let values = match call {
-            Call::TicksToUs => [i[0], 0, 0, 0],
-            Call::Children => [self.kind as i128, u[0], u[1], u[2]],
-            Call::VideoFrameTimesOfMoov | Call::McrawTimes => [u[0], u[1], i[0], i[1]],
-            Call::Origin => [u[0], u[1], u[2], i[0]],
-            _ => [u[0], u[1], u[2], 0],
+            Call::TicksToUs => [i[0], 0, 0, 0, 0],
+            Call::Children => [self.kind as i128, u[0], u[1], u[2], 0],
+            Call::VideoFrameTimesOfMoov | Call::McrawTimes => [u[0], u[1], i[0], i[1], 0],
+            Call::Origin => [u[0], u[1], u[2], i[0], 0],
+            Call::ReadTable => [self.read.frames as i128, self.read.sources as i128, self.read.segments as i128, self.read.dates as i128, self.read.log as i128],
+            _ => [u[0], u[1], u[2], 0, 0],
         };
-        let mut after = Outcome { number, index: if call.refuses() { self.index } else { 0 }, words: self.words, longs: self.longs, counts: self.counts, ..Outcome::default() };
+        let mut after = Outcome { number, index: if call.refuses() { self.index } else { 0 }, words: self.words, longs: self.longs, counts: self.counts, dates: self.dates, work: self.work, ..Outcome::default() };
         after.values[..call.values()].copy_from_slice(&values[..call.values()]);
         if call == Call::Origins {
             after.words = self.origins.iter().flat_map(|o| [o.source, o.frame, o.flag]).collect();

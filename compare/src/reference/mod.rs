@@ -3,10 +3,12 @@
 
 pub mod boxes;
 pub mod frame_times;
+pub mod json;
 pub mod maps;
 pub mod mcraw;
 pub mod numbers;
 pub mod table;
+pub mod texts;
 pub mod validate;
 
 use crate::case::{ Answer, Case };
@@ -61,6 +63,9 @@ fn answered(case: &Case) -> Result<Answer, Refusal> {
         Case::Merge { map, room } => maps::merge(map, room)?,
         Case::Origin { map, frame } => maps::origin(map, *frame)?,
         Case::Origins { map, frames, room } => maps::origins(map, frames, *room)?,
+        Case::ReadTable { text, room } => texts::read(text, room)?,
+        Case::SourceNames { text, room } => texts::names(text, room)?,
+        Case::JsonString { text, at, room } => texts::string(text, *at, *room)?,
     })
 }
 

@@ -3,8 +3,8 @@
 use super::{ Refusal, numbers::is_utc_second };
 use crate::case::{ self, Answer, Row };
 
-const MOST_SOURCES: usize = 256;
-const MOST_SEGMENTS: usize = 512;
+pub const MOST_SOURCES: usize = 256;
+pub const MOST_SEGMENTS: usize = 512;
 
 pub struct Source {
     pub frames: u64,

@@ -14,6 +14,7 @@ use Rattle.audit.proofs.Walked.{walked}
 use Rattle.audit.proofs.Agreed.{agreeing}
 use Rattle.audit.proofs.Rounded.{rounding, ordering}
 use Rattle.audit.proofs.Absent.{absent, read-by-none}
+use Rattle.audit.proofs.Texted.{texts}
 use Rattle.audit.proofs.Worked.{all_hold}
 
 -- of tables as they are lent: of one the calls answer what the judge's definitions answer of the table that it is
@@ -48,5 +49,6 @@ audited by = record {
   ordering = ordering;
   ignored = absent;
   unread = read-by-none;
+  texts = texts by;
   worked = all_hold;
 }

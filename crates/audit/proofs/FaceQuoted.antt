@@ -49,6 +49,12 @@ use Rattle.segment_table.proofs.tables.st_continues.Symbol as st-continues·symb
 use Rattle.segment_table.proofs.tables.st_continues.Met as st-continues·met
 use Rattle.segment_table.proofs.tables.st_rows_of_table.Symbol as st-rows-of-table·symbol
 use Rattle.segment_table.proofs.tables.st_rows_of_table.Met as st-rows-of-table·met
+use Rattle.segment_table.proofs.texts.st_read_table.Symbol as st-read-table·symbol
+use Rattle.segment_table.proofs.texts.st_read_table.Met as st-read-table·met
+use Rattle.segment_table.proofs.texts.st_source_names.Symbol as st-source-names·symbol
+use Rattle.segment_table.proofs.texts.st_source_names.Met as st-source-names·met
+use Rattle.segment_table.proofs.texts.st_json_string.Symbol as st-json-string·symbol
+use Rattle.segment_table.proofs.texts.st_json_string.Met as st-json-string·met
 use Rattle.segment_table.proofs.walk.st_box_size.Symbol as st-box-size·symbol
 use Rattle.segment_table.proofs.walk.st_box_size.Met as st-box-size·met
 use Rattle.segment_table.proofs.walk.st_children.Symbol as st-children·symbol
@@ -123,6 +129,15 @@ module _ {M : Type 1} (𝓤 : Ura M) (𝓛 : Logic 𝓤) (𝓜 : Model 𝓤 𝓛
 
   pub st-rows-of-table-quoted : Wired 𝓡.env st-rows-of-table·symbol.code → Meets 𝓛 calls.st-rows-of-table.types.signature (𝓡.run (𝓡.env st-rows-of-table·symbol.name)) (promised calls.st-rows-of-table 𝓛)
   st-rows-of-table-quoted = st-rows-of-table·met.met 𝓤 𝓛 𝓜 𝓡
+
+  pub st-read-table-quoted : Wired 𝓡.env st-read-table·symbol.code → Meets 𝓛 calls.st-read-table.types.signature (𝓡.run (𝓡.env st-read-table·symbol.name)) (promised calls.st-read-table 𝓛)
+  st-read-table-quoted = st-read-table·met.met 𝓤 𝓛 𝓜 𝓡
+
+  pub st-source-names-quoted : Wired 𝓡.env st-source-names·symbol.code → Meets 𝓛 calls.st-source-names.types.signature (𝓡.run (𝓡.env st-source-names·symbol.name)) (promised calls.st-source-names 𝓛)
+  st-source-names-quoted = st-source-names·met.met 𝓤 𝓛 𝓜 𝓡
+
+  pub st-json-string-quoted : Wired 𝓡.env st-json-string·symbol.code → Meets 𝓛 calls.st-json-string.types.signature (𝓡.run (𝓡.env st-json-string·symbol.name)) (promised calls.st-json-string 𝓛)
+  st-json-string-quoted = st-json-string·met.met 𝓤 𝓛 𝓜 𝓡
 
   pub st-box-size-quoted : Wired 𝓡.env st-box-size·symbol.code → Meets 𝓛 calls.st-box-size.types.signature (𝓡.run (𝓡.env st-box-size·symbol.name)) (promised calls.st-box-size 𝓛)
   st-box-size-quoted = st-box-size·met.met 𝓤 𝓛 𝓜 𝓡

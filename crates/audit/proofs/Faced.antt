@@ -32,6 +32,9 @@ faced = record {
   st-table-text = λ κs a. record { the = record { result = _; last = _ }; said = refl; only = λ e p i. record { result = (p i).0; last = (tt, ((p i).1.0, ((p i).1.1, ((p i).2, tt)))) } };
   st-video-frame-times-of-moov = λ κs a. record { the = record { result = _; last = _ }; said = record { told = refl; laid_out = refl; first_cleared = refl; second_cleared = refl }; only = λ e p i. record { result = (p.told i).0; last = (tt, (tt, (p.laid_out i, (p.first_cleared i, (p.second_cleared i, ((p.told i).1.0, ((p.told i).1.1, ((p.told i).1.2, ((p.told i).1.3, ((p.told i).2, tt)))))))))) } };
   st-mcraw-times = λ κs a. record { the = record { result = _; last = _ }; said = record { told = refl; laid_out = refl; cleared = refl }; only = λ e p i. record { result = (p.told i).0; last = (tt, (p.laid_out i, (p.cleared i, ((p.told i).1.0, ((p.told i).1.1, ((p.told i).1.2, ((p.told i).1.3, ((p.told i).2, tt)))))))) } };
+  st-read-table = λ κs a. record { the = record { result = _; last = _ }; said = record { told = refl; sources_left = refl; words_left = refl; stamps_left = refl; dates_left = refl; cleared = refl }; only = λ e p i. record { result = (p.told i).0; last = (tt, (p.sources_left i, (p.words_left i, (p.stamps_left i, (p.dates_left i, (p.cleared i, ((p.told i).1, ((p.told i).2, tt)))))))) } };
+  st-source-names = λ κs a. record { the = record { result = _; last = _ }; said = record { told = refl; laid_out = refl; cleared = refl }; only = λ e p i. record { result = (p.told i).0; last = (tt, (p.laid_out i, (p.cleared i, ((p.told i).1, ((p.told i).2, tt))))) } };
+  st-json-string = λ κs a. record { the = record { result = _; last = _ }; said = record { told = refl; laid_out = refl }; only = λ e p i. record { result = (p.told i).0; last = (tt, (tt, (p.laid_out i, ((p.told i).1, ((p.told i).2, tt))))) } };
   st-is-utc-second = λ κs a. record { the = record { result = _; last = _ }; said = refl; only = λ e p i. record { result = p i; last = e.last } };
   st-ticks-to-us = λ κs a. record { the = record { result = _; last = _ }; said = refl; only = λ e p i. record { result = (p i).0; last = (tt, (tt, ((p i).1, ((p i).2, tt)))) } };
 }

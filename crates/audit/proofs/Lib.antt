@@ -1,5 +1,6 @@
 pub mod Quoted
 pub mod FaceQuoted
+pub mod Texted
 pub mod Theorems
 pub mod Once
 pub mod Faced

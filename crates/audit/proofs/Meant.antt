@@ -48,4 +48,7 @@ meant = record {
   origin = λ u s f r. is;
   origins = λ u s fs out out' r. is;
   segment-of-frame-records = listed;
+  read-table = λ text sources words stamps dates work sources' words' stamps' dates' work' r. is;
+  source-names = λ text out work out' work' r. is;
+  string-into = λ text at out out' r. is;
 }

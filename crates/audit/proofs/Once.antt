@@ -40,6 +40,9 @@ once = record {
   merge = λ κs a. record { the = record { result = _; last = _ }; said = record { answer = refl; words = refl; shifts = refl }; only = λ e p i. record { result = p.answer i; last = (tt, (tt, (p.words i, (p.shifts i, tt)))) } };
   origin = λ κs a. record { the = record { result = _; last = _ }; said = refl; only = λ e p i. record { result = p i; last = e.last } };
   origins = λ κs a. record { the = record { result = _; last = _ }; said = record { answer = refl; origins = refl }; only = λ e p i. record { result = p.answer i; last = (tt, (tt, (tt, (p.origins i, tt)))) } };
+  read-table = λ κs a. record { the = record { result = _; last = _ }; said = record { answered = refl; sources_left = refl; words_left = refl; stamps_left = refl; dates_left = refl; cleared = refl }; only = λ e p i. record { result = p.answered i; last = (tt, (p.sources_left i, (p.words_left i, (p.stamps_left i, (p.dates_left i, (p.cleared i, tt)))))) } };
+  source-names = λ κs a. record { the = record { result = _; last = _ }; said = record { answered = refl; laid_out = refl; cleared = refl }; only = λ e p i. record { result = p.answered i; last = (tt, (p.laid_out i, (p.cleared i, tt))) } };
+  string-into = λ κs a. record { the = record { result = _; last = _ }; said = record { answered = refl; laid_out = refl }; only = λ e p i. record { result = p.answered i; last = (tt, (tt, (p.laid_out i, tt))) } };
   segment-of-frame-records = λ κs a. record { the = record { result = _; last = _ }; said = refl; only = λ e p i. record { result = p i; last = e.last } };
   child = λ κs a. record { the = record { result = record { ref_ptr = _; now = _ }; last = _ }; said = record { bytes = refl; place = refl }; only = λ e p i. record { result = record { ref_ptr = p.place i; now = p.bytes i }; last = e.last } };
   find-box = λ κs a. record { the = record { result = record { ref_ptr = _; now = _ }; last = _ }; said = record { bytes = refl; place = refl }; only = λ e p i. record { result = record { ref_ptr = p.place i; now = p.bytes i }; last = e.last } };

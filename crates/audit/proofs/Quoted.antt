@@ -61,6 +61,12 @@ use Rattle.cuts.proofs.cuts.Symbol as cuts·symbol
 use Rattle.cuts.proofs.cuts.Met as cuts·met
 use Rattle.records.proofs.segment_of_frame_records.Symbol as segment-of-frame-records·symbol
 use Rattle.records.proofs.segment_of_frame_records.Met as segment-of-frame-records·met
+use Rattle.table_meaning.proofs.read_table.Symbol as read-table·symbol
+use Rattle.table_meaning.proofs.read_table.Met as read-table·met
+use Rattle.table_meaning.proofs.source_names.Symbol as source-names·symbol
+use Rattle.table_meaning.proofs.source_names.Met as source-names·met
+use Rattle.json_strings.proofs.reading.string_into.Symbol as string-into·symbol
+use Rattle.json_strings.proofs.reading.string_into.Met as string-into·met
 
 module _ {M : Type 1} (𝓤 : Ura M) (𝓛 : Logic 𝓤) (𝓜 : Model 𝓤 𝓛.H) (𝓡 : Running 𝓤 𝓛.H 𝓜) where
   pub ticks-to-us-quoted : Wired 𝓡.env ticks-to-us·symbol.code → Meets 𝓛 calls.ticks-to-us.types.signature (𝓡.run (𝓡.env ticks-to-us·symbol.name)) (promised calls.ticks-to-us 𝓛)
@@ -143,3 +149,12 @@ module _ {M : Type 1} (𝓤 : Ura M) (𝓛 : Logic 𝓤) (𝓜 : Model 𝓤 𝓛
 
   pub segment-of-frame-records-quoted : Wired 𝓡.env segment-of-frame-records·symbol.code → Meets 𝓛 calls.segment-of-frame-records.types.signature (𝓡.run (𝓡.env segment-of-frame-records·symbol.name)) (promised calls.segment-of-frame-records 𝓛)
   segment-of-frame-records-quoted = segment-of-frame-records·met.met 𝓤 𝓛 𝓜 𝓡
+
+  pub read-table-quoted : Wired 𝓡.env read-table·symbol.code → Meets 𝓛 calls.read-table.types.signature (𝓡.run (𝓡.env read-table·symbol.name)) (promised calls.read-table 𝓛)
+  read-table-quoted = read-table·met.met 𝓤 𝓛 𝓜 𝓡
+
+  pub source-names-quoted : Wired 𝓡.env source-names·symbol.code → Meets 𝓛 calls.source-names.types.signature (𝓡.run (𝓡.env source-names·symbol.name)) (promised calls.source-names 𝓛)
+  source-names-quoted = source-names·met.met 𝓤 𝓛 𝓜 𝓡
+
+  pub string-into-quoted : Wired 𝓡.env string-into·symbol.code → Meets 𝓛 calls.string-into.types.signature (𝓡.run (𝓡.env string-into·symbol.name)) (promised calls.string-into 𝓛)
+  string-into-quoted = string-into·met.met 𝓤 𝓛 𝓜 𝓡

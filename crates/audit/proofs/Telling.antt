@@ -15,7 +15,8 @@ use Rattle.boxes.specs.declared.BoxAt.{BoxAt}
 use Rattle.boxes.specs.declared.Place.{Place}
 use Rattle.judge.specs.Video.{shown_by}
 use Rattle.maps.specs.Answers.{Placed}
-use Rattle.told.specs.Told.{told, itself, yes_or_no, unsaid, size_words, box_words, place_words, origin_words, times_words}
+use Rattle.table_text.specs.declared.reader.Read.{Read}
+use Rattle.told.specs.Told.{told, itself, yes_or_no, unsaid, size_words, box_words, place_words, origin_words, times_words, read_words}
 use Rattle.segment_table.specs.Written.{MapTold}
 use Rattle.audit.proofs.Worked.{started}
 use Rattle.audit.specs.Words.{Tells}
@@ -80,6 +81,25 @@ telling = record {
   st-mcraw-times = λ timestamps starts work starts' work' frames scale nominal end index r frames' scale' nominal' end' index'. (
     λ p. record { answer = _; given = record { answer = refl; laid_out = p.laid_out; cleared = p.cleared }; told = p.told },
     λ q. record { told = q.told ∙ ap (λ (c : Result FrameTimes Refusal). told times_words c (frames, scale, nominal, end)) q.given.answer; laid_out = started q.given; cleared = q.given.cleared },
+  );
+  st-read-table = λ text sources words stamps dates work sources' words' stamps' dates' work' read index r read' index'. (
+    λ p. record { answer = _; given = record { answered = refl; sources_left = p.sources_left; words_left = p.words_left; stamps_left = p.stamps_left; dates_left = p.dates_left; cleared = p.cleared }; told = p.told },
+    λ q. record {
+      told = q.told ∙ ap (λ (c : Result Read Refusal). told read_words c read) q.given.answered;
+      sources_left = q.given.sources_left;
+      words_left = q.given.words_left;
+      stamps_left = q.given.stamps_left;
+      dates_left = q.given.dates_left;
+      cleared = q.given.cleared;
+    },
+  );
+  st-source-names = λ text names work names' work' count index r count' index'. (
+    λ p. record { answer = _; given = record { answered = refl; laid_out = p.laid_out; cleared = p.cleared }; told = p.told },
+    λ q. record { told = q.told ∙ ap (λ (c : Result ℕ Refusal). told itself c count) q.given.answered; laid_out = q.given.laid_out; cleared = q.given.cleared },
+  );
+  st-json-string = λ text at out out' length index r length' index'. (
+    λ p. record { answer = _; given = record { answered = refl; laid_out = p.laid_out }; told = p.told },
+    λ q. record { told = q.told ∙ ap (λ (c : Result ℕ Refusal). told itself c length) q.given.answered; laid_out = q.given.laid_out },
   );
   st-is-utc-second = λ b r. (λ p. p, λ p. p);
   st-ticks-to-us = λ t scale us index r us' index'. one (λ (c : Result ℤ Refusal). told itself c us);

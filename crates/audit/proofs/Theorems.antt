@@ -24,6 +24,10 @@ use Rattle.judge.specs.Grounds.{validate_tests, mcraw_tests}
 use Rattle.differ.specs.Differ.{Differing}
 use Rattle.stops.specs.Promises.{ChildPlace, FindBoxPlace, Children, FrameTimesOf}
 use Rattle.stops.specs.Stops.{Stopping, Dividing}
+use Rattle.table_text.specs.declared.reader.Room.{Room}
+use Rattle.table_meaning.specs.Answer.{reading, answer_of}
+use Rattle.table_meaning.specs.Claims.{WrittenTablesAreAccepted, NamesStandInTheirText}
+use Rattle.table_meaning.specs.Grounds.{text_tests, text_total, frames_read}
 use Rattle.frame_times.specs.Times.{times_of_moov}
 use Rattle.modes.specs.Modes.{ctts_of, NoTopBit}
 
@@ -43,5 +47,9 @@ pub record Theorems : Type 0 where
   pub one-video : Differing (λ (t : Table). t) (λ t video starts r. r ≡ validate_of t (shown_by video starts)) Settled
   pub stopping : Stopping ChildPlace FindBoxPlace Children FrameTimesOf
   pub dividing : Dividing ChildPlace FindBoxPlace Children FrameTimesOf
+  pub by-text : (text : List ℕ) (room : Room)
+      → Rightly (frames_read (answer_of (reading text room))) (text_tests text room) (text_total text)
+  pub written : WrittenTablesAreAccepted
+  pub named : NamesStandInTheirText
   pub modes : (moov : List ℕ) (room : ℕ) → NoTopBit (ctts_of moov)
       → times_of_moov true moov room ≡ times_of_moov false moov room

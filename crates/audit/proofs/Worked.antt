@@ -29,9 +29,8 @@ use Rattle.table_rows.specs.Rows.{row_of, rows_of, rows_refusal}
 use Rattle.lookups.specs.Indices.{indices_of, indices_refusal}
 use Rattle.judge.specs.Video.{shown_by}
 use Rattle.judge.specs.Judge.{starts_at, start_refusal, video_refusal, validate_of, single, recording_refusal, check_mcraw}
-use Rattle.maps.specs.Answers.{first_bad, map_refusal, room_refusal, cut_refusal, join_refusal, merge_refusal, origin_refusal}
-use Rattle.maps.specs.Origins.{frame_refusal, origins_refusal}
-use Rattle.cuts.specs.Answers.{cuts_of, concat, range_refusal, ranges_refusal, cuts_refusal}
+use Rattle.maps.specs.Answers.{first_bad}
+use Rattle.cuts.specs.Answers.{cuts_of, concat}
 use Rattle.ticks.specs.declared.FrameTimes.{FrameTimes}
 use Rattle.mcraw.specs.Mcraw.{gaps, starts_of, span, nominal, end, fall_of, refusal_of, times_of, mcraw_times, starts_written, McrawAnswers}
 use Rattle.differ.specs.Differ.{SameFrames}

@@ -12,6 +12,7 @@ use Rattle.boxes.specs.declared.BoxSize.{BoxSize as BoxSize·of}
 use Rattle.boxes.specs.declared.Place.{Place}
 use Rattle.cuts.specs.Answers.{Cuts as Cuts·of}
 use Rattle.frame_times.specs.Times.{MoovAnswers}
+use Rattle.json_strings.specs.Reading.{StringInto as StringInto·of}
 use Rattle.judge.specs.Judge.{Settled, validate_of}
 use Rattle.judge.specs.Video.{shown_by}
 use Rattle.judge.specs.declared.Video.{Video}
@@ -27,7 +28,10 @@ use Rattle.rules.specs.Lookups.{continues_at, segment_of_frame, segment_of_time}
 use Rattle.rules.specs.Rules.{check_of}
 use Rattle.std.specs.Result.{result_ok}
 use Rattle.table.specs.Layout.{table_of}
+use Rattle.table_meaning.specs.Answer.{Reads}
+use Rattle.table_meaning.specs.Names.{NamesRead}
 use Rattle.table_rows.specs.Rows.{Rowed}
+use Rattle.table_text.specs.declared.reader.Read.{Read}
 use Rattle.ticks.specs.Ticks.{ticks_to_us}
 use Rattle.ticks.specs.declared.FrameTimes.{FrameTimes}
 use Rattle.utc.specs.Utc.{utc_second}
@@ -58,6 +62,9 @@ use Rattle.maps.specs.contracts.origin as origin·
 use Rattle.maps.specs.contracts.origins as origins·
 use Rattle.cuts.specs.contracts.cuts as cuts·
 use Rattle.records.specs.contracts.segment_of_frame_records as segment-of-frame-records·
+use Rattle.table_meaning.specs.contracts.read_table as read-table·
+use Rattle.table_meaning.specs.contracts.source_names as source-names·
+use Rattle.json_strings.specs.contracts.reading.string_into as string-into·
 
 -- ticks::ticks_to_us: ticks_to_us(ticks, scale) answers ans
 abbrev pub TicksToUs : ℤ → ℕ → Result ℤ Refusal → Type 0
@@ -358,4 +365,38 @@ abbrev pub segment-of-frame-records : Promise
 segment-of-frame-records = record {
   types = segment-of-frame-records·.ended;
   Learnt = λ κs a z e. SegmentOfFrameRecords a.0.now a.1.0.now a.1.1.0.now a.1.1.1.0 a.1.1.1.1.0 z;
+}
+
+-- table_meaning::read_table: read_table(text, sources, words, stamps, dates, work) answers ans, and leaves sources',
+-- words', stamps', dates', work'
+abbrev pub ReadTable : List ℕ → List ℕ → List ℕ → List ℤ → List ℕ → List ℕ → Result Read Refusal → List ℕ → List ℕ
+    → List ℤ → List ℕ → List ℕ → Type 0
+ReadTable text sources words stamps dates work ans sources' words' stamps' dates' work' =
+    Reads text sources words stamps dates work ans sources' words' stamps' dates' work'
+
+abbrev pub read-table : Promise
+read-table = record {
+  types = read-table·.ended;
+  Learnt = λ κs a z e. ReadTable a.0.now a.1.0.now a.1.1.0.now a.1.1.1.0.now a.1.1.1.1.0.now a.1.1.1.1.1.0.now z
+      e.1.0.now e.1.1.0.now e.1.1.1.0.now e.1.1.1.1.0.now e.1.1.1.1.1.0.now;
+}
+
+-- table_meaning::source_names: source_names(text, out, work) answers ans, and leaves out', work'
+abbrev pub SourceNames : List ℕ → List ℕ → List ℕ → Result ℕ Refusal → List ℕ → List ℕ → Type 0
+SourceNames text out work ans out' work' = NamesRead text out work ans out' work'
+
+abbrev pub source-names : Promise
+source-names = record {
+  types = source-names·.ended;
+  Learnt = λ κs a z e. SourceNames a.0.now a.1.0.now a.1.1.0.now z e.1.0.now e.1.1.0.now;
+}
+
+-- json_strings::reading::string_into: string_into(text, at, out) answers ans, and leaves out'
+abbrev pub StringInto : List ℕ → ℕ → List ℕ → Result ℕ Refusal → List ℕ → Type 0
+StringInto text at out ans out' = StringInto·of text at out ans out'
+
+abbrev pub string-into : Promise
+string-into = record {
+  types = string-into·.ended;
+  Learnt = λ κs a z e. StringInto a.0.now a.1.0 a.1.1.0.now z e.1.1.0.now;
 }

@@ -55,7 +55,14 @@ use Rattle.boxes.specs.Boxes as boxes
 use Rattle.boxes.specs.Places.{PartAt, child_place, find_box_place, table_text_place}
 use Rattle.frame_times.specs.Times as frames
 use Rattle.mcraw.specs.Mcraw.{McrawAnswers}
-use Rattle.told.specs.Told.{told, itself, yes_or_no, unsaid, size_words, box_words, place_words, origin_words, times_words}
+use Rattle.json_strings.specs.Reading.{StringInto}
+use Rattle.table_text.specs.declared.reader.Read.{Read}
+use Rattle.table_meaning.specs.Answer.{Reads, room_of}
+use Rattle.table_meaning.specs.Names.{NamesRead}
+use Rattle.table_meaning.specs.Claims.{NamesStandInTheirText}
+use Rattle.table_meaning.specs.Grounds.{text_tests, text_total, frames_read}
+use Rattle.told.specs.declared.texts.TableRead.{TableRead}
+use Rattle.told.specs.Told.{told, itself, yes_or_no, unsaid, size_words, box_words, place_words, origin_words, times_words, read_words}
 use Rattle.audit.specs.Promise.{OneAnswer}
 use Rattle.audit.specs.Calls as calls
 use Rattle.audit.specs.Face as face
@@ -90,6 +97,9 @@ pub record Answers : Type 0 where
   pub origin : OneAnswer calls.origin
   pub origins : OneAnswer calls.origins
   pub segment-of-frame-records : OneAnswer calls.segment-of-frame-records
+  pub read-table : OneAnswer calls.read-table
+  pub source-names : OneAnswer calls.source-names
+  pub string-into : OneAnswer calls.string-into
   -- A part of the caller's own bytes: its bytes and its address, which is all that a shared reference is.
   pub child : OneAnswer calls.child
   pub find-box : OneAnswer calls.find-box
@@ -122,6 +132,9 @@ pub record Face : Type 0 where
   pub st-table-text : OneAnswer face.st-table-text
   pub st-video-frame-times-of-moov : OneAnswer face.st-video-frame-times-of-moov
   pub st-mcraw-times : OneAnswer face.st-mcraw-times
+  pub st-read-table : OneAnswer face.st-read-table
+  pub st-source-names : OneAnswer face.st-source-names
+  pub st-json-string : OneAnswer face.st-json-string
   pub st-is-utc-second : OneAnswer face.st-is-utc-second
   pub st-ticks-to-us : OneAnswer face.st-ticks-to-us
 
@@ -214,6 +227,18 @@ pub record Telling : Type 0 where
       starts' work' frames' scale' nominal' end' index'
       ↔ Tells (λ c. calls.McrawTimes timestamps starts work c starts' work')
       (λ c. (r, (frames', scale', nominal', end'), index') ≡ told times_words c (frames, scale, nominal, end))
+  pub st-read-table : (text sources words : List ℕ) (stamps : List ℤ) (dates work sources' words' : List ℕ)
+      (stamps' : List ℤ) (dates' work' : List ℕ) (read : TableRead) (index r : ℕ) (read' : TableRead) (index' : ℕ)
+      → face.StReadTable text sources words stamps dates work read index r
+      sources' words' stamps' dates' work' read' index'
+      ↔ Tells (λ c. calls.ReadTable text sources words stamps dates work c sources' words' stamps' dates' work')
+      (λ c. (r, read', index') ≡ told read_words c read)
+  pub st-source-names : (text names work names' work' : List ℕ) (count index r count' index' : ℕ)
+      → face.StSourceNames text names work count index r names' work' count' index'
+      ↔ Tells (λ c. calls.SourceNames text names work c names' work') (λ c. (r, count', index') ≡ told itself c count)
+  pub st-json-string : (text : List ℕ) (at : ℕ) (out out' : List ℕ) (length index r length' index' : ℕ)
+      → face.StJsonString text at out length index r out' length' index'
+      ↔ Tells (λ c. calls.StringInto text at out c out') (λ c. (r, length', index') ≡ told itself c length)
   pub st-is-utc-second : (b : List ℕ) (r : Bool) → face.StIsUtcSecond b r ↔ calls.IsUtcSecond b r
   pub st-ticks-to-us : (t : ℤ) (scale : ℕ) (us : ℤ) (index r : ℕ) (us' : ℤ) (index' : ℕ)
       → face.StTicksToUs t scale us index r us' index'
@@ -334,6 +359,15 @@ pub record Meanings : Type 0 where
   pub segment-of-frame-records :
       (sources text : List ℕ) (rs : List TrimSegment) (log : Bool) (f : ℕ) (r : Result ℕ Refusal)
       → calls.SegmentOfFrameRecords sources text rs log f r ↔ SegmentOfFrame (in_words sources text rs log) f r
+  -- What is read of a table's text is what its value holds by RFC 8259 (table_meaning/specs/Answer.antt).
+  pub read-table : (text sources words : List ℕ) (stamps : List ℤ) (dates work sources' words' : List ℕ)
+      (stamps' : List ℤ) (dates' work' : List ℕ) (r : Result Read Refusal)
+      → calls.ReadTable text sources words stamps dates work r sources' words' stamps' dates' work'
+      ↔ Reads text sources words stamps dates work r sources' words' stamps' dates' work'
+  pub source-names : (text out work out' work' : List ℕ) (r : Result ℕ Refusal)
+      → calls.SourceNames text out work r out' work' ↔ NamesRead text out work r out' work'
+  pub string-into : (text : List ℕ) (at : ℕ) (out out' : List ℕ) (r : Result ℕ Refusal)
+      → calls.StringInto text at out r out' ↔ StringInto text at out r out'
 
 -- THE LOOKUPS OF A LIST: whatever its order, the k-th index is what `segment_of_frame` answers of the k-th frame. The
 -- table is checked as `check` does, also where the list is empty, and room that is shorter than the list is refused
@@ -432,6 +466,33 @@ pub record Unread : Type 0 where
       → (f : ℕ) (r : Result ℕ Refusal) → calls.SegmentOfFrameRecords sources text rs log f r
       → calls.SegmentOfFrameRecords sources' text' rs' log' f r
 
+-- the table of the records and creation times that reading a text wrote
+abbrev pub read_words_of : Read → List ℕ → List ℕ → List ℤ → List ℕ → Lent
+read_words_of read sources words stamps dates = record {
+  sources = take (13 * read.sources) sources;
+  words = take (5 * read.segments) words;
+  stamps = take (7 * read.segments) stamps;
+  log = read.log;
+  text = take read.dates dates;
+}
+
+-- A TABLE'S OWN TEXT. It is refused for a reason exactly when that reason's condition holds and none that is tested
+-- before it does, and else its frame total is the segments' (RULES 15.6; `Rightly` again; the conditions are in
+-- table_meaning/specs/Grounds.antt). What is written is a table that `check` accepts with the total that was answered.
+-- On a refusal every slice for the answer is as lent. And each name stands in the text where `span_at` says, of which
+-- `source_names` writes the two words (`Meanings.source-names`, by `name_words`).
+pub record Texts : Type 0 where
+  pub rightly : (text so wo : List ℕ) (st : List ℤ) (da wk so' wo' : List ℕ) (st' : List ℤ) (da' wk' : List ℕ)
+      (r : Result Read Refusal) → calls.ReadTable text so wo st da wk r so' wo' st' da' wk'
+      → Rightly (frames_read r) (text_tests text (room_of so wo st da wk)) (text_total text)
+  pub accepted : (text so wo : List ℕ) (st : List ℤ) (da wk so' wo' : List ℕ) (st' : List ℤ) (da' wk' : List ℕ)
+      (read : Read) → calls.ReadTable text so wo st da wk (Ok read) so' wo' st' da' wk'
+      → Check (read_words_of read so' wo' st' da') (Ok read.frames)
+  pub kept : (text so wo : List ℕ) (st : List ℤ) (da wk so' wo' : List ℕ) (st' : List ℤ) (da' wk' : List ℕ)
+      (why : Reason) (i : ℕ) → calls.ReadTable text so wo st da wk (refused why i) so' wo' st' da' wk'
+      → (so' ≡ so) × (wo' ≡ wo) × (st' ≡ st) × (da' ≡ da)
+  pub names : NamesStandInTheirText
+
 pub record Claims : Type 0 where
   pub answers : Answers
   pub face : Face
@@ -476,6 +537,7 @@ pub record Claims : Type 0 where
   pub ordering : Ordering
   pub ignored : Ignored
   pub unread : Unread
+  pub texts : Texts
   -- 7. THE EXAMPLES of the rules, the auditor's clip, and some more of each call. (RULES 3.6, 4.7, 5.1, 5.2, 6.5, 8.8,
   -- 8.10, 9.3, 10.10.)
   pub worked : AllByRecursion Holds examples

@@ -13,10 +13,12 @@ use Rattle.records.specs.declared.TrimSegment.{TrimSegment}
 use Rattle.rows.specs.declared.Origin.{Origin as Origin·of}
 use Rattle.rules.specs.Lookups.{continues_at, segment_of_frame, segment_of_time}
 use Rattle.rules.specs.Rules.{check_of}
+use Rattle.segment_table.specs.Texts.{NamesTold, ReadTold, StringTold}
 use Rattle.segment_table.specs.Written.{CutTold, CutsTold, IndexingTold, JoinTold, JudgedTold, McrawTold, MergeTold, MoovTold, OriginsTold, RowedTold, origin_of}
 use Rattle.table.specs.Layout.{table_of}
 use Rattle.ticks.specs.Ticks.{ticks_to_us}
 use Rattle.told.specs.Told.{box_words, itself, origin_words, place_words, size_words, told, unsaid, yes_or_no}
+use Rattle.told.specs.declared.texts.TableRead.{TableRead}
 use Rattle.utc.specs.Utc.{utc_second}
 use Rattle.segment_table.specs.contracts.clock.st_is_utc_second as st-is-utc-second·
 use Rattle.segment_table.specs.contracts.clock.st_ticks_to_us as st-ticks-to-us·
@@ -39,6 +41,9 @@ use Rattle.segment_table.specs.contracts.tables.st_segments_of_frames as st-segm
 use Rattle.segment_table.specs.contracts.tables.st_segment_of_time_us as st-segment-of-time-us·
 use Rattle.segment_table.specs.contracts.tables.st_continues as st-continues·
 use Rattle.segment_table.specs.contracts.tables.st_rows_of_table as st-rows-of-table·
+use Rattle.segment_table.specs.contracts.texts.st_read_table as st-read-table·
+use Rattle.segment_table.specs.contracts.texts.st_source_names as st-source-names·
+use Rattle.segment_table.specs.contracts.texts.st_json_string as st-json-string·
 use Rattle.segment_table.specs.contracts.walk.st_box_size as st-box-size·
 use Rattle.segment_table.specs.contracts.walk.st_children as st-children·
 use Rattle.segment_table.specs.contracts.walk.st_child as st-child·
@@ -336,6 +341,46 @@ st-rows-of-table = record {
   Learnt = λ κs a z e. StRowsOfTable a.0.now a.1.0.now a.1.1.0.now a.1.1.1.0 a.1.1.1.1.0.now a.1.1.1.1.1.0.now
       a.1.1.1.1.1.1.0.now a.1.1.1.1.1.1.1.0.now a.1.1.1.1.1.1.1.1.0.now z e.1.1.1.1.1.0.now e.1.1.1.1.1.1.0.now
       e.1.1.1.1.1.1.1.0.now e.1.1.1.1.1.1.1.1.0.now;
+}
+
+-- segment_table::texts::st_read_table: st_read_table(text, sources, segments, stamps, dates, work, read, index)
+-- answers ans, and leaves sources', segments', stamps', dates', work', read', index'
+abbrev pub StReadTable : List ℕ → List ℕ → List ℕ → List ℤ → List ℕ → List ℕ → TableRead → ℕ → ℕ → List ℕ → List ℕ
+    → List ℤ → List ℕ → List ℕ → TableRead → ℕ → Type 0
+StReadTable text sources segments stamps dates work read index ans sources' segments' stamps' dates' work' read' index'
+    = ReadTold text sources segments stamps dates work read ans sources' segments' stamps' dates' work' read' index'
+
+abbrev pub st-read-table : Promise
+st-read-table = record {
+  types = st-read-table·.ended;
+  Learnt = λ κs a z e. StReadTable a.0.now a.1.0.now a.1.1.0.now a.1.1.1.0.now a.1.1.1.1.0.now a.1.1.1.1.1.0.now
+      a.1.1.1.1.1.1.0.now a.1.1.1.1.1.1.1.0.now z e.1.0.now e.1.1.0.now e.1.1.1.0.now e.1.1.1.1.0.now e.1.1.1.1.1.0.now
+      e.1.1.1.1.1.1.0.now e.1.1.1.1.1.1.1.0.now;
+}
+
+-- segment_table::texts::st_source_names: st_source_names(text, names, work, count, index) answers ans, and leaves
+-- names', work', count', index'
+abbrev pub StSourceNames : List ℕ → List ℕ → List ℕ → ℕ → ℕ → ℕ → List ℕ → List ℕ → ℕ → ℕ → Type 0
+StSourceNames text names work count index ans names' work' count' index' =
+    NamesTold text names work count ans names' work' count' index'
+
+abbrev pub st-source-names : Promise
+st-source-names = record {
+  types = st-source-names·.ended;
+  Learnt = λ κs a z e. StSourceNames a.0.now a.1.0.now a.1.1.0.now a.1.1.1.0.now a.1.1.1.1.0.now z e.1.0.now e.1.1.0.now
+      e.1.1.1.0.now e.1.1.1.1.0.now;
+}
+
+-- segment_table::texts::st_json_string: st_json_string(text, at, out, length, index) answers ans, and leaves out',
+-- length', index'
+abbrev pub StJsonString : List ℕ → ℕ → List ℕ → ℕ → ℕ → ℕ → List ℕ → ℕ → ℕ → Type 0
+StJsonString text at out length index ans out' length' index' = StringTold text at out length ans out' length' index'
+
+abbrev pub st-json-string : Promise
+st-json-string = record {
+  types = st-json-string·.ended;
+  Learnt = λ κs a z e. StJsonString a.0.now a.1.0 a.1.1.0.now a.1.1.1.0.now a.1.1.1.1.0.now z e.1.1.0.now e.1.1.1.0.now
+      e.1.1.1.1.0.now;
 }
 
 -- segment_table::walk::st_box_size: st_box_size(«data», remaining, size, header, index) answers ans, and leaves

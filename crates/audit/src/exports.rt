@@ -8,6 +8,7 @@ ghost use Rattle.audit.specs.Face as calls;
 
 use records::TrimSegment;
 use rows::Origin;
+use told::texts::TableRead;
 
 /// What is quoted of `segment_table::clock::st_is_utc_second` is promised, and nothing is asked.
 pub fn st_is_utc_second(bytes: &[u8]) -> bool
@@ -496,6 +497,61 @@ pub fn st_rows_of_table(
     segment_table::tables::st_rows_of_table(
         sources, segments, stamps, log, text, out_words, out_shifts, rows, index,
     )
+}
+
+/// What is quoted of `segment_table::texts::st_read_table` is promised, and nothing is asked.
+pub fn st_read_table(
+    text: &[u8],
+    sources: &mut [u64],
+    segments: &mut [u64],
+    stamps: &mut [i64],
+    dates: &mut [u8],
+    work: &mut [u64],
+    read: &mut TableRead,
+    index: &mut u64,
+) -> u64
+    ensures quoted { calls.StReadTable text.now sources.old segments.old stamps.old dates.old
+        work.old read.old index.old result sources.new segments.new stamps.new dates.new work.new
+        read.new index.new }
+    ensures placed { (κs : Regions calls.st-read-table) → Says calls.st-read-table κs
+        (text.entry, (sources.entry, (segments.entry, (stamps.entry, (dates.entry, (work.entry, (read.entry, (index.entry, tt))))))))
+        (record { result = result; last = (tt, (sources.new, (segments.new, (stamps.new, (dates.new, (work.new, (read.new, (index.new, tt)))))))) }) }
+{
+    segment_table::texts::st_read_table(text, sources, segments, stamps, dates, work, read, index)
+}
+
+/// What is quoted of `segment_table::texts::st_source_names` is promised, and nothing is asked.
+pub fn st_source_names(
+    text: &[u8],
+    names: &mut [u64],
+    work: &mut [u64],
+    count: &mut u64,
+    index: &mut u64,
+) -> u64
+    ensures quoted { calls.StSourceNames text.now names.old work.old count.old index.old result
+        names.new work.new count.new index.new }
+    ensures placed { (κs : Regions calls.st-source-names) → Says calls.st-source-names κs
+        (text.entry, (names.entry, (work.entry, (count.entry, (index.entry, tt)))))
+        (record { result = result; last = (tt, (names.new, (work.new, (count.new, (index.new, tt))))) }) }
+{
+    segment_table::texts::st_source_names(text, names, work, count, index)
+}
+
+/// What is quoted of `segment_table::texts::st_json_string` is promised, and nothing is asked.
+pub fn st_json_string(
+    text: &[u8],
+    at: u64,
+    out: &mut [u8],
+    length: &mut u64,
+    index: &mut u64,
+) -> u64
+    ensures quoted { calls.StJsonString text.now at out.old length.old index.old result out.new
+        length.new index.new }
+    ensures placed { (κs : Regions calls.st-json-string) → Says calls.st-json-string κs
+        (text.entry, (at, (out.entry, (length.entry, (index.entry, tt)))))
+        (record { result = result; last = (tt, (tt, (out.new, (length.new, (index.new, tt))))) }) }
+{
+    segment_table::texts::st_json_string(text, at, out, length, index)
 }
 
 /// What is quoted of `segment_table::walk::st_box_size` is promised, and nothing is asked.

@@ -26,5 +26,8 @@ pub fn all_claims_hold()
     differ::tables_of_one_video();
     stops::stops_at_a_bad_header();
     stops::only_divides();
+    table_meaning::refusals_of_texts_are_right();
+    table_meaning::written_tables_are_accepted();
+    table_meaning::names_stand_in_their_text();
     modes::both_readings_agree();
 }

@@ -11,6 +11,7 @@ use judge::Video;
 use records::TrimSegment;
 use refusal::Refusal;
 use rows::Origin;
+use table_text::Read;
 use ticks::FrameTimes;
 
 /// What is quoted of `ticks::ticks_to_us` is promised, and nothing is asked.
@@ -419,4 +420,42 @@ pub fn segment_of_frame_records(
         (record { result = result; last = (tt, (tt, (tt, (tt, (tt, tt))))) }) }
 {
     records::segment_of_frame_records(sources, text, records, log, frame)
+}
+
+/// What is quoted of `table_meaning::read_table` is promised, and nothing is asked.
+pub fn read_table(
+    text: &[u8],
+    sources: &mut [u64],
+    words: &mut [u64],
+    stamps: &mut [i64],
+    dates: &mut [u8],
+    work: &mut [u64],
+) -> Result<Read, Refusal>
+    ensures quoted { calls.ReadTable text.now sources.old words.old stamps.old dates.old work.old
+        result sources.new words.new stamps.new dates.new work.new }
+    ensures placed { (κs : Regions calls.read-table) → Says calls.read-table κs
+        (text.entry, (sources.entry, (words.entry, (stamps.entry, (dates.entry, (work.entry, tt))))))
+        (record { result = result; last = (tt, (sources.new, (words.new, (stamps.new, (dates.new, (work.new, tt)))))) }) }
+{
+    table_meaning::read_table(text, sources, words, stamps, dates, work)
+}
+
+/// What is quoted of `table_meaning::source_names` is promised, and nothing is asked.
+pub fn source_names(text: &[u8], out: &mut [u64], work: &mut [u64]) -> Result<usize, Refusal>
+    ensures quoted { calls.SourceNames text.now out.old work.old result out.new work.new }
+    ensures placed { (κs : Regions calls.source-names) → Says calls.source-names κs
+        (text.entry, (out.entry, (work.entry, tt)))
+        (record { result = result; last = (tt, (out.new, (work.new, tt))) }) }
+{
+    table_meaning::source_names(text, out, work)
+}
+
+/// What is quoted of `json_strings::reading::string_into` is promised, and nothing is asked.
+pub fn string_into(text: &[u8], at: usize, out: &mut [u8]) -> Result<usize, Refusal>
+    ensures quoted { calls.StringInto text.now at out.old result out.new }
+    ensures placed { (κs : Regions calls.string-into) → Says calls.string-into κs
+        (text.entry, (at, (out.entry, tt)))
+        (record { result = result; last = (tt, (tt, (out.new, tt))) }) }
+{
+    json_strings::reading::string_into(text, at, out)
 }

@@ -198,3 +198,9 @@ module _ (s : List ℕ) where
   table_text_within =
       either Placed (ltb most_bytes (length s)) (λ a. tt)
       (λ a. in-part-within s (ok_or (found_place (first_of moov (textual (boxes_of s)))) (refusal_at reason.NoTable 0)) table_in (found-within moov true s (refusal_at reason.NoTable 0)) table-of-within)
+
+-- in the part of the first udta, a search that is refused
+pub no_table : (moov : List ℕ) (place : Place) (why : Refusal) → ok_or (child_in udta moov) (refusal_at reason.NoTable 0) ≡ Ok place
+    → only_of (all_of mtrm (boxes_of (take place.len (drop place.start moov)))) ≡ Err why → Err why ≡ table_in moov
+unfolding table_in
+no_table moov place why h k = sym (rw (h, k) refl)

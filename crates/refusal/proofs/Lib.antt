@@ -1,2 +1,3 @@
 pub mod Chains
 pub mod First
+pub mod Own

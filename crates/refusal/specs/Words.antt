@@ -44,6 +44,11 @@ words reason.BadRows = codes "a map's rows aren't well formed, slice lengths dis
 words reason.RowsDontFit = codes "a map has, or would have, over 1,024 rows, or too little room is lent for rows"
 words reason.JoinWraps = codes "the frames of both maps together pass 2^64 - 1"
 words reason.PastMap = codes "a frame lies past the map"
+words reason.TextTooLong = codes "the table's text has over 1,048,576 bytes"
+words reason.NotJson = codes "the table's text isn't JSON, or over 32 lists and objects stand one in another"
+words reason.RepeatedName = codes "an object in the table's text has a name twice"
+words reason.OtherVersion = codes "the table's version isn't 1"
+words reason.BadMember = codes "a member of the table's text is missing or has another type"
 
 -- a refusal's number, its index and its reason's words
 abbrev pub refusal_text : Refusal → List ℕ

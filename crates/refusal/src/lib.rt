@@ -67,6 +67,15 @@ pub enum Reason {
     RowsDontFit = 52,
     JoinWraps = 53,
     PastMap = 54,
+    TextTooLong = 60,
+    /// it breaks RFC 8259's grammar, a string holds half a surrogate pair, or bytes are no UTF-8
+    NotJson = 61,
+    /// at any depth, in members that are skipped too, escapes resolved
+    RepeatedName = 62,
+    /// or the text's value is no object
+    OtherVersion = 63,
+    /// what follows the Rust's `SegmentTable::parse`
+    BadMember = 64,
 }
 
 /// A refusal: its reason, and the index of what it is about. RULES 2.2 says of which the index is.
@@ -160,6 +169,13 @@ impl Reason {
             }
             Reason::JoinWraps => "the frames of both maps together pass 2^64 - 1",
             Reason::PastMap => "a frame lies past the map",
+            Reason::TextTooLong => "the table's text has over 1,048,576 bytes",
+            Reason::NotJson => {
+                "the table's text isn't JSON, or over 32 lists and objects stand one in another"
+            }
+            Reason::RepeatedName => "an object in the table's text has a name twice",
+            Reason::OtherVersion => "the table's version isn't 1",
+            Reason::BadMember => "a member of the table's text is missing or has another type",
         }
     }
 

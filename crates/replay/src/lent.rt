@@ -41,6 +41,14 @@ impl Element for i64 {
     }
 }
 
+impl Element for u8 {
+    fn lent(k: usize) -> u8
+        ensures { 0 < result }
+    {
+        1 + (k % 251) as u8
+    }
+}
+
 impl Element for Origin {
     fn lent(k: usize) -> Origin {
         Origin {

@@ -81,6 +81,19 @@ impl Line {
         Ok(())
     }
 
+    /// The first n bytes of a lent slice, two hex digits each in one word, or no word where n is 0. What
+    /// comes after them is to be as it was lent.
+    pub fn bytes(&mut self, room: &Room<u8>, n: usize) -> Result<(), Fault> {
+        if n != 0 {
+            self.text.push(' ')?;
+        }
+        for &x in room.held().iter().take(n) {
+            write!(self.text, "{x:02x}")?;
+        }
+        self.held_to(room.is_kept(n));
+        Ok(())
+    }
+
     /// How many rows were written, and the rows; a refusal writes none.
     pub fn rows(&mut self, answer: Result<usize, Refusal>, rows: &Rows) -> Result<(), Fault> {
         self.answer(answer)?;
@@ -105,8 +118,8 @@ impl Line {
     }
 
     /// A working slice is to hold nothing but 0.
-    pub fn cleared(&mut self, room: &Room<i64>) {
-        self.held_to(room.held().iter().all(|x| *x == 0));
+    pub fn cleared<T: Element + Default>(&mut self, room: &Room<T>) {
+        self.held_to(room.held().iter().all(|x| *x == T::default()));
     }
 
     /// What is to hold of an answer; where it doesn't, the line says so.

@@ -12,6 +12,7 @@ mod listed;
 mod numbers;
 mod places;
 mod tables;
+mod texts;
 mod times;
 
 use case::{Case, Fault};
@@ -48,6 +49,7 @@ fn call(case: &mut Case<'_>, line: &mut Line) -> Result<(), Fault> {
         "segment_of_time_us" => tables::segment_of_time_us(case, line),
         "continues" => tables::continues(case, line),
         "rows_of_table" => tables::rows_of_table(case, line),
+        "read_table" => texts::read_table(case, line),
         "validate_no_video" => judging::validate_no_video(case, line),
         "validate_constant" => judging::validate_constant(case, line),
         "validate_times" => judging::validate_times(case, line),

@@ -21,10 +21,12 @@
 //! its timestamps as the starts st_mcraw_times answers wrong starts.
 //!
 //! Stack, as bindings/c/stack measures it on x86-64, and on Arm in an emulator: each call takes less
-//! than 4 KiB. Copies and cleared slices are made by the C library's memmove and memset. A program
-//! whose loader binds such a name at its first call, which is what many linkers make, takes some
-//! 3 KiB more for that, at its first st_join, say; how much, the loader and the processor decide.
-//! Where a task has less, link with `-z now`, which binds names at the start, or statically.
+//! than 4 KiB, but st_read_table and st_source_names, whose lists and objects lie one in another and
+//! whose names are sorted, less than 20 KiB. Copies and cleared slices are made by the C library's
+//! memmove and memset. A program whose loader binds such a name at its first call, which is what
+//! many linkers make, takes some 3 KiB more for that, at its first st_join, say; how much, the loader
+//! and the processor decide. Where a task has less, link with `-z now`, which binds names at the
+//! start, or statically.
 //!
 //! A table: `sources`, thirteen words each: frames; fps numerator, denominator; creation time present
 //! (0, 1), its offset and length in `text`; clock (0 none, 1 no modulus, 2 modulus), its rate's
@@ -38,6 +40,9 @@
 //! Sources had ten words once. A table of such sources is refused with ST_MALFORMED, but where there
 //! are 13, 26, 39 or 52 of them: then the number of words is a multiple of thirteen, and nothing
 //! tells the 130 words of thirteen such sources from those of ten sources as they are now.
+//!
+//! A table's text: JSON in UTF-8, as a file has it. `dates` are the creation times that st_read_table
+//! finds in it, one after another: it is what other calls are lent as `text`.
 //!
 //! A list of records: the same of a segment as one struct, where its flag is a bool and its times
 //! follow the words. Records are aligned as C aligns them; what lies between their fields is not
@@ -53,6 +58,7 @@
 //!
 //! Refusals. The index is the source in 4 to 7, the segment in 9 to 17, 23 and 24, the later
 //! timestamp of the first falling pair in 34, the broken header's offset in the lent bytes in 36,
+//! 1 in 32 of st_read_table and st_source_names where it is their working slice that is too short,
 //! the range in 50 of st_cuts (a last one without its end is tested first), the row in 51 (0 for
 //! slice lengths or no rows, which are tested first), the frame's number in the list in 54 of
 //! st_origins, else 0. Each call names its refusals in the order of its tests: 4 to 7 source by
@@ -67,4 +73,5 @@ pub mod judging;
 pub mod listed;
 pub mod recordings;
 pub mod tables;
+pub mod texts;
 pub mod walk;

@@ -8,6 +8,8 @@ use Rattle.boxes.specs.declared.BoxSize.{BoxSize}
 use Rattle.boxes.specs.declared.BoxAt.{BoxAt}
 use Rattle.boxes.specs.declared.Place.{Place}
 use Rattle.rows.specs.declared.Origin.{Origin}
+use Rattle.table_text.specs.declared.reader.Read.{Read}
+use Rattle.told.specs.declared.texts.TableRead.{TableRead}
 
 -- of a value of any type, told as words of any type; on a refusal these hold what they held
 abbrev pub told : {T W : Type 0} → (T → W) → Result T Refusal → W → ℕ × W × ℕ
@@ -46,3 +48,13 @@ origin_words from = (from.source, from.frame, from.flag, from.shift)
 -- frame count, scale, nominal, end
 abbrev pub times_words : FrameTimes → ℕ × ℕ × ℤ × ℤ
 times_words times = (times.frames, times.scale, times.nominal, times.end)
+
+-- what was read of a table's text
+abbrev pub read_words : Read → TableRead
+read_words read = record {
+  frames = read.frames;
+  sources = read.sources;
+  segments = read.segments;
+  dates = read.dates;
+  log = yes_or_no read.log;
+}

@@ -4,6 +4,7 @@
 #![tactic(auto)]
 
 pub mod several;
+pub mod texts;
 
 ghost use Rattle.std.specs.Prelude.{◌≡◌, if◌then◌else◌};
 ghost use Rattle.refusal.specs.Reasons.{number};

@@ -16,5 +16,8 @@ returns c = audited (record {
   one-video = c.tables_of_one_video.ensures;
   stopping = c.stops_at_a_bad_header.ensures;
   dividing = c.only_divides.ensures;
+  by-text = c.refusals_of_texts_are_right.ensures;
+  written = c.written_tables_are_accepted.ensures;
+  named = c.names_stand_in_their_text.ensures;
   modes = c.both_readings_agree.ensures;
 })

@@ -1,0 +1,5 @@
+pub mod Leaves
+pub mod Named
+pub mod Members
+pub mod Loops
+pub mod Stack

@@ -1,0 +1,4 @@
+pub mod Keys
+pub mod Decimals
+pub mod Figures
+pub mod Sought

@@ -1,0 +1,5 @@
+pub mod Small
+pub mod Turns
+pub mod Lay
+pub mod Sizes
+pub mod Whole

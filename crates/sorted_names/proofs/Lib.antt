@@ -1,0 +1,3 @@
+pub mod Orders
+pub mod Beside
+pub mod Bytes

@@ -1,0 +1,2 @@
+pub mod Sorted
+pub mod Tags

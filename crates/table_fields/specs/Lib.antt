@@ -1,0 +1,2 @@
+pub mod Typed
+pub mod Found

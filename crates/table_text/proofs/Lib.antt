@@ -1,0 +1,9 @@
+pub mod Counts
+pub mod Rooms
+pub mod Records
+pub mod Alike
+pub mod Back
+pub mod Judged
+pub mod Walked
+pub mod Held
+pub mod Plans
